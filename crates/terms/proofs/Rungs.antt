@@ -1,0 +1,124 @@
+-- Laws of ladders. Assumes nothing.
+use mathlib.Core.Path.{_≡_, refl, sym, ap, _∙_}
+use mathlib.Core.Bool.{Bool, true, false, cond}
+use mathlib.Core.List.{List, [], _∷_, _++_}
+use Prim.Native.Nat.{ℕ}
+use Prim.{Unit, tt}
+use native.Mathlib.Omega.{arith}
+use lib.Dec.{eqb}
+use Rattle.terms.specs.Ladder.{Rung, on, first}
+use Rattle.terms.specs.Terms.{refusalNumber}
+use Rattle.terms.specs.declared.Refusal.{Refusal}
+use Rattle.terms.specs.declared.Refusal.the-variants.{OutsidePlan, WrongLength, WrongBook, WrongFrame, TimeZero, HashFails, OtherBytes, NoRoom, OutOfRange, NotAwaited, AlreadyHeard, NotBelow, AskTooHigh, HasEnded}
+
+pub clash : true ≡ false → ⊥
+clash e = let z : _≡_ {A = ℕ} 0 1 = cc in omega arith
+
+pub both : (a b : Bool) → cond a b false ≡ true → (a ≡ true) × (b ≡ true)
+both true b e = (refl, e)
+both false b e = absurd (clash (sym e))
+
+-- a rung that applies, and one that does not: how code goes down a ladder
+module _ {A : Type 0} where
+  pub stop : (k : ℕ) {c : Bool} (xs : List Rung) (refuse : ℕ → A) (pass : A) {z : A} → c ≡ true → z ≡ refuse k → z ≡ first (on k c ∷ xs) refuse pass
+  unfolding first
+  stop k {c} xs refuse pass {z} e p = rw e p
+
+  pub go-on : (k : ℕ) {c : Bool} (xs : List Rung) (refuse : ℕ → A) (pass : A) {z : A} → c ≡ false → z ≡ first xs refuse pass → z ≡ first (on k c ∷ xs) refuse pass
+  unfolding first
+  go-on k {c} xs refuse pass {z} e p = rw e p
+
+  pub passed : (refuse : ℕ → A) (pass : A) {z : A} → z ≡ pass → z ≡ first [] refuse pass
+  unfolding first
+  passed refuse pass {z} p = p
+
+-- ---- the law of a ladder
+-- none of these applies
+abbrev pub None : List Rung → Type 0
+None [] = Unit {0}
+None (x ∷ xs) = (x .applies ≡ false) × None xs
+
+-- a refusal of number k stands in the list, its condition holds, and none before it
+pub record Given (l : List Rung) (k : ℕ) : Type 0 where
+  pub before : List Rung
+  pub after : List Rung
+  pub is : l ≡ before ++ (on k true ∷ after)
+  pub none : None before
+
+pub data Verdict : Type 0 where
+  refused : ℕ → Verdict
+  passes : Verdict
+
+-- refused k exactly when its condition holds and none before it; passed exactly when none holds
+pub given : (l : List Rung) (k : ℕ) → first l refused passes ≡ refused k → Given l k
+unfolding first
+given [] k e = absurd (let z : _≡_ {A = ℕ} 0 1 = cc in omega arith)
+given (x ∷ xs) k e = go (x .applies) refl e (given xs k)
+  where
+    go : (c : Bool) → x .applies ≡ c → cond c (refused (x .number)) (first xs refused passes) ≡ refused k → (first xs refused passes ≡ refused k → Given xs k) → Given (x ∷ xs) k
+    go true f g ih =
+        let h : x .number ≡ k = cc in
+        record { before = []; after = xs; is = λ i. (record { number = h i; applies = f i }) ∷ xs; none = tt }
+    go false f g ih =
+        let q = ih g in
+        record { before = x ∷ q .before; after = q .after; is = λ i. x ∷ q .is i; none = (f, q .none) }
+
+pub given-back : (b a : List Rung) (k : ℕ) → None b → first (b ++ (on k true ∷ a)) refused passes ≡ refused k
+unfolding first
+given-back [] a k n = refl
+given-back (x ∷ b) a k n = rw (n .0) (given-back b a k (n .1))
+
+-- every other reading of a ladder goes by its verdict
+abbrev pub read : {A : Type 0} → Verdict → (ℕ → A) → A → A
+read (refused k) refuse pass = refuse k
+read passes refuse pass = pass
+
+pub first-read : {A : Type 0} (l : List Rung) (refuse : ℕ → A) (pass : A) → first l refuse pass ≡ read (first l refused passes) refuse pass
+unfolding first
+first-read [] refuse pass = refl
+first-read {A} (x ∷ xs) refuse pass = go (x .applies) (first-read xs refuse pass)
+  where
+    go : (c : Bool) → first xs refuse pass ≡ read (first xs refused passes) refuse pass → cond c (refuse (x .number)) (first xs refuse pass) ≡ read (cond c (refused (x .number)) (first xs refused passes)) refuse pass
+    go true ih = refl
+    go false ih = ih
+
+pub none-is : (l : List Rung) → None l → first l refused passes ≡ passes
+unfolding first
+none-is [] n = refl
+none-is (x ∷ l) n = rw (n .0) (none-is l (n .1))
+
+pub passes-is : (l : List Rung) → first l refused passes ≡ passes → None l
+unfolding first
+passes-is [] e = tt
+passes-is (x ∷ xs) e = go (x .applies) refl e (passes-is xs)
+  where
+    go : (c : Bool) → x .applies ≡ c → cond c (refused (x .number)) (first xs refused passes) ≡ passes → (first xs refused passes ≡ passes → None xs) → (x .applies ≡ false) × None xs
+    go true f g ih = absurd (let z : _≡_ {A = ℕ} 0 1 = cc in omega arith)
+    go false f g ih = (f, ih g)
+
+-- ---- the numbers are one-to-one
+refusalOf : ℕ → Refusal
+refusalOf k =
+    cond (eqb k 1) OutsidePlan (cond (eqb k 2) WrongLength (cond (eqb k 3) WrongBook (cond (eqb k 4) WrongFrame (cond (eqb k 5) TimeZero
+    (cond (eqb k 6) HashFails (cond (eqb k 7) OtherBytes (cond (eqb k 8) NoRoom (cond (eqb k 9) OutOfRange (cond (eqb k 10) NotAwaited
+    (cond (eqb k 11) AlreadyHeard (cond (eqb k 12) NotBelow (cond (eqb k 13) AskTooHigh HasEnded))))))))))))
+
+refusal-back : (r : Refusal) → refusalOf (refusalNumber r) ≡ r
+unfolding refusalOf
+refusal-back OutsidePlan = refl
+refusal-back WrongLength = refl
+refusal-back WrongBook = refl
+refusal-back WrongFrame = refl
+refusal-back TimeZero = refl
+refusal-back HashFails = refl
+refusal-back OtherBytes = refl
+refusal-back NoRoom = refl
+refusal-back OutOfRange = refl
+refusal-back NotAwaited = refl
+refusal-back AlreadyHeard = refl
+refusal-back NotBelow = refl
+refusal-back AskTooHigh = refl
+refusal-back HasEnded = refl
+
+pub refusal-one : (r s : Refusal) → refusalNumber r ≡ refusalNumber s → r ≡ s
+refusal-one r s e = sym (refusal-back r) ∙ ap refusalOf e ∙ refusal-back s

@@ -1,0 +1,23 @@
+use mathlib.Core.Path.{_∙_}
+use Prim.Native.Nat.{_-_}
+use native.Mathlib.Omega.{arith}
+use Rattle.terms.specs.Stamp.{stampNumber}
+use Rattle.terms.proofs.Stamps as laws
+use borrow.Author.Needs.{needs}
+use Rattle.terms.proofs.Timestamp.less.Statement.{statement}
+use Rattle.terms.proofs.Timestamp.less.Tie as tie
+
+returns : tie.Need-returns
+returns c = let t = c .before .before .before .before .before .args .self in let u = c .before .before .before .before .before .args .other in laws.words-yes (stampNumber t) (stampNumber u) (laws.stamp-0 t u (record { w1 = omega arith; w2 = omega arith; w3 = omega arith }) (omega arith) (c .if1 .taken))
+
+returns-2 : tie.Need-returns-2
+returns-2 c = let t = c .before .before .before .before .before .before .before .before .args .self in let u = c .before .before .before .before .before .before .before .before .args .other in laws.no-of (stampNumber t) (stampNumber u) (laws.stamp-0 u t (record { w1 = omega arith; w2 = omega arith; w3 = omega arith }) (omega arith) (c .if2 .taken))
+
+hash-less-requires : tie.Need-hash-less-requires
+hash-less-requires c κs = search needs
+
+returns-3 : tie.Need-returns-3
+returns-3 c = c .hash-less .ensures ∙ laws.stamp-1 (c .before .before .before .before .before .before .before .before .before .before .before .args .self) (c .before .before .before .before .before .before .before .before .before .before .before .args .other) (omega arith)
+
+pub less-spec : {M : Type 1} → statement M
+less-spec = tie.close (tie.spec returns returns-2 hash-less-requires returns-3)

@@ -1,0 +1,5 @@
+pub mod Lists
+pub mod Interp
+pub mod Laws
+pub mod Theorems
+pub mod Examples

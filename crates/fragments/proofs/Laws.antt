@@ -157,19 +157,27 @@ encoded-is m F item first stride zero desk = refl
 encoded-is m F item first stride (suc k) desk =
     ap₂ (λ (d r : List ℕ). put d (first + k * stride) r) (encoded-is m F item first stride k desk) (sym (fragment-is m F item k))
 
--- every run is a source within the item
-pub runs-within : (m F : ℕ) (item : List ℕ) → length item ≡ m * F → Sources item 0 F F (from 0 m)
-runs-within m F item l k h =
-    let hk : k < m = omega (arith, length-from 0 m) in
-    let e : getD (from 0 m) k 0 ≡ k = getD-from 0 m k hk ∙ omega arith in
-    rw e (omega (arith, run-fits m F k hk))
-
 pub points-length : (m : ℕ) → m ≤ 16 → m ≡ length (take m points)
 points-length m h = sym (ap length (points-are m h) ∙ length-from 0 m)
 
-pub points-within : (m F : ℕ) (item : List ℕ) → m ≤ 16 → length item ≡ m * F → Sources item 0 F F (take m points)
-points-within m F item h l = rw (points-are m h) (runs-within m F item l)
+-- the first m slots are sources within the buffer, and so are an item's runs
+pub points-within : (src : List ℕ) (first stride F m : ℕ) → m ≤ 16 → ((k : ℕ) → k < m → first + k * stride + F ≤ length src)
+    → Sources src first stride F (take m points)
+points-within src first stride F m h fit = rw (points-are m h) within
+  where
+    within : Sources src first stride F (from 0 m)
+    within k l =
+        let hk : k < m = omega (arith, length-from 0 m) in
+        let e : getD (from 0 m) k 0 ≡ k = getD-from 0 m k hk ∙ omega arith in
+        rw e (fit k hk)
+
+pub runs-within : (m F : ℕ) (item : List ℕ) → m ≤ 16 → length item ≡ m * F → Sources item 0 F F (take m points)
+runs-within m F item h l = points-within item 0 F F m h (λ k hk. omega (arith, run-fits m F k hk))
 
 pub points-encode : (m F : ℕ) (item : List ℕ) (first stride n : ℕ) (desk : List ℕ) → m ≤ 16
     → laid item 0 F F (take m points) first stride n desk ≡ encoded m F item first stride n desk
 points-encode m F item first stride n desk h = rw (points-are m h) (encoded-is m F item first stride n desk)
+
+pub points-collect : (desk : List ℕ) (first stride F m : ℕ) (item : List ℕ) → m ≤ 16
+    → laid desk first stride F (take m points) 0 F m item ≡ laid desk first stride F (from 0 m) 0 F m item
+points-collect desk first stride F m item h = rw (points-are m h)

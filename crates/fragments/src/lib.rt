@@ -4,7 +4,7 @@ ghost use mathlib.Core.Path.{_≡_};
 ghost use Prim.Native.Nat.{ℕ, _+_, _*_, _≤_, _<_};
 ghost use lib.ListN.{length, getD};
 ghost use Rattle.octets.specs.Bytes.{put};
-ghost use Rattle.fragments.specs.Fragments.{among, weightOf, value, tabulate, regenerated, Sources, laid, encoded};
+ghost use Rattle.fragments.specs.Fragments.{among, weightOf, value, tabulate, regenerated, Sources, laid, encoded, from};
 
 // The points of fragments 0 to 15.
 const POINTS: [u8; 16] = [0, 1, 2, 3, 4, 5, 6, 7, 8, 9, 10, 11, 12, 13, 14, 15];
@@ -141,4 +141,13 @@ pub fn decode(
     ensures { λ r. ⌜ now (item .exit) ≡ laid (now (desk .entry)) first stride f (now (qs .entry)) 0 f m (now (item .entry)) ⌝ }
 {
     lay(desk, first, stride, f, qs, m, item, 0, f);
+}
+
+// The item from the first m slots of desk, those of points 0 to m - 1.
+pub fn collect(desk: &[u8], first: usize, stride: usize, f: usize, m: usize, item: &mut [u8])
+    requires { ⌜ (m ≤ 16) × (length (now item) ≡ m * f) × ((k : ℕ) → k < m → first + k * stride + f ≤ length (now desk)) ⌝ }
+    ensures { λ r. ⌜ now (item .exit) ≡ laid (now (desk .entry)) first stride f (from 0 m) 0 f m (now (item .entry)) ⌝ }
+{
+    let points = POINTS;
+    lay(desk, first, stride, f, &points[..m], m, item, 0, f);
 }

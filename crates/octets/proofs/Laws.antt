@@ -239,3 +239,20 @@ part-put-after l at s a n h k =
     let q : drop a (take at l ++ (s ++ drop (at + length s) l)) ≡ drop a l =
     rw (← append-assoc) (ap (λ (j : ℕ). drop j (take at l ++ s ++ drop (at + length s) l)) f ∙ drop-append-add (take at l ++ s) (drop (at + length s) l) m ∙ drop-drop m (at + length s) l ∙ rw g) in
     rw q
+
+-- t put right after s
+pub put-then : (l : List ℕ) (at q : ℕ) (s t : List ℕ) → at + length s ≡ q → at ≤ length l → put (put l at s) q t ≡ put l at (s ++ t)
+unfolding put
+put-then l at q s t z h =
+    let a : List ℕ = take at l ++ s in
+    let r : List ℕ = drop (at + length s) l in
+    let n : length a ≡ at + length s = simp (length-append, length-take) (omega arith) in
+    let k : take (at + length s) (a ++ r) ≡ a = take-at a r (at + length s) n in
+    let d : drop (at + length s + length t) (a ++ r) ≡ drop (at + length s + length t) l =
+    ap (λ (j : ℕ). drop (j + length t) (a ++ r)) (sym n) ∙ drop-append-add a r (length t) ∙ drop-drop (length t) (at + length s) l in
+    rw (← z, ← append-assoc (take at l) s r, k, d) (simp (length-append, append-assoc, ← add-assoc))
+
+-- what stands between x and z
+pub part-middle : (l x y z : List ℕ) (at n : ℕ) → l ≡ x ++ (y ++ z) → length x ≡ at → length y ≡ n → part l at n ≡ y
+unfolding part
+part-middle l x y z at n e a b = rw (e, drop-at x (y ++ z) at a) (take-at y z n b)

@@ -3,12 +3,12 @@
 use Prim.{Unit, tt}
 use mathlib.Core.Path.{_≡_, refl, sym, ap, _∙_}
 use mathlib.Core.Bool.{Bool, true, false, cond}
-use mathlib.Core.List.{List, [], _∷_, _++_, append-assoc}
+use mathlib.Core.List.{List, [], _∷_, _++_, append-assoc, append-nil}
 use Prim.Native.Nat.{ℕ, zero, suc, _+_, _-_, _*_, _≤_, _<_, _^_, _/_, _%_}
-use native.Mathlib.Nat.{zero-add, add-assoc, add-mul, mul-assoc, zero-mul, pow-suc, pow-succ', mul-le-mul-right, suc-mul, div-add-mod'}
+use native.Mathlib.Nat.{zero-add, add-zero, add-suc, add-assoc, add-mul, mul-assoc, zero-mul, pow-suc, pow-succ', mul-le-mul-right, suc-mul, div-add-mod', le-of-eq}
 use native.Mathlib.Omega.{arith}
 use borrow.Author.Tests.{eq-eqb, eqb-true}
-use lib.ListN.{length, take, drop, getD, length-append, length-drop}
+use lib.ListN.{length, take, drop, getD, length-append, length-drop, drop-of-length-le}
 use lib.Seq.{drop-append-add, take-at, drop-drop, getD-drop, getD-take, take-add}
 use native.Mathlib.Numerals.{add-one}
 use Rattle.octets.proofs.Laws.{part-snoc, num-snoc, length-part, part-cons}
@@ -223,3 +223,34 @@ be-part b at (suc n) h o =
     let ih : be n (num (part b at n)) ≡ part b at n = be-part b at n (omega arith) o in
     let s : part b at (suc n) ≡ part b at n ++ (getD b (at + n) 0 ∷ []) = part-snoc b at n (omega arith) in
     rw (s, num-snoc, ← add-one n, be-snoc n (num (part b at n)) (getD b (at + n) 0) (o (at + n)), ih)
+
+-- the bytes of a number in two parts
+pub be-append : (n k x y : ℕ) → y < 256 ^ k → be (n + k) (x * 256 ^ k + y) ≡ be n x ++ be k y
+be-append n zero x y h =
+    let e : x * 256 ^ 0 + y ≡ x = omega arith in
+    rw (e, add-zero, be-zero y) (sym (append-nil (be n x)))
+be-append n (suc k) x y h =
+    let g : y < 256 ^ k * 256 = rw pow-suc at h in
+    let i : y / 256 < 256 ^ k = omega arith in
+    let m : y % 256 < 256 = omega arith in
+    let e : x * 256 ^ suc k + y ≡ (x * 256 ^ k + y / 256) * 256 + y % 256 = rw pow-suc (omega (arith, mul-assoc x (256 ^ k) 256)) in
+    rw (add-suc, e, ← add-one (n + k), be-snoc (n + k) (x * 256 ^ k + y / 256) (y % 256) m, be-append n k x (y / 256) i, append-assoc, ← be-suc k y)
+
+-- ---- a whole list written anew, and lists one after the other
+pub put-whole : (old new : List ℕ) → length old ≡ length new → put old 0 new ≡ new
+unfolding put
+put-whole old new e =
+    let d : drop (0 + length new) old ≡ [] = drop-of-length-le old (le-of-eq (e ∙ sym (zero-add (length new)))) in
+    rw d (append-nil new)
+
+pub alike-append : (a b c d : List ℕ) → length a ≡ length c → alike (a ++ b) (c ++ d) ≡ cond (alike a c) (alike b d) false
+unfolding alike
+alike-append [] b [] d e = refl
+alike-append [] b (y ∷ c) d e = absurd (omega arith)
+alike-append (x ∷ a) b [] d e = absurd (omega arith)
+alike-append (x ∷ a) b (y ∷ c) d e = go (eqb x y) (alike-append a b c d (omega arith))
+  where
+    go : (t : Bool) → alike (a ++ b) (c ++ d) ≡ cond (alike a c) (alike b d) false
+        → cond t (alike (a ++ b) (c ++ d)) false ≡ cond (cond t (alike a c) false) (alike b d) false
+    go true h = h
+    go false h = refl

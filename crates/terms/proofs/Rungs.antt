@@ -7,7 +7,11 @@ use Prim.{Unit, tt}
 use native.Mathlib.Omega.{arith}
 use lib.Dec.{eqb}
 use Rattle.terms.specs.Ladder.{Rung, on, first}
-use Rattle.terms.specs.Terms.{refusalNumber}
+use Rattle.terms.specs.Terms.{refusalNumber, classNumber, verdictNumber}
+use Rattle.terms.specs.declared.Class.{Class}
+use Rattle.terms.specs.declared.Class.the-variants as class
+use Rattle.terms.specs.declared.Verdict as verdicts
+use Rattle.terms.specs.declared.Verdict.the-variants as verdict
 use Rattle.terms.specs.declared.Refusal.{Refusal}
 use Rattle.terms.specs.declared.Refusal.the-variants.{OutsidePlan, WrongLength, WrongBook, WrongFrame, TimeZero, HashFails, OtherBytes, NoRoom, OutOfRange, NotAwaited, AlreadyHeard, NotBelow, AskTooHigh, HasEnded}
 
@@ -122,3 +126,28 @@ refusal-back HasEnded = refl
 
 pub refusal-one : (r s : Refusal) → refusalNumber r ≡ refusalNumber s → r ≡ s
 refusal-one r s e = sym (refusal-back r) ∙ ap refusalOf e ∙ refusal-back s
+
+classBack : ℕ → Class
+classBack k = cond (eqb k 1) class.Complete (cond (eqb k 2) class.Unclassifiable class.Incomplete)
+
+class-back : (x : Class) → classBack (classNumber x) ≡ x
+unfolding classBack
+class-back class.Complete = refl
+class-back class.Unclassifiable = refl
+class-back class.Incomplete = refl
+
+pub class-one : (x y : Class) → classNumber x ≡ classNumber y → x ≡ y
+class-one x y e = sym (class-back x) ∙ ap classBack e ∙ class-back y
+
+verdictBack : ℕ → verdicts.Verdict
+verdictBack k = cond (eqb k 1) verdict.Complete (cond (eqb k 2) verdict.Repair (cond (eqb k 3) verdict.Aborted verdict.Incomplete))
+
+verdict-back : (x : verdicts.Verdict) → verdictBack (verdictNumber x) ≡ x
+unfolding verdictBack
+verdict-back verdict.Complete = refl
+verdict-back verdict.Repair = refl
+verdict-back verdict.Aborted = refl
+verdict-back verdict.Incomplete = refl
+
+pub verdict-one : (x y : verdicts.Verdict) → verdictNumber x ≡ verdictNumber y → x ≡ y
+verdict-one x y e = sym (verdict-back x) ∙ ap verdictBack e ∙ verdict-back y

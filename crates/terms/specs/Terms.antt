@@ -1,6 +1,13 @@
--- "The plan", and the numbers of document 01. Assumes nothing.
+-- The plan, its two thresholds and what they decide. Document 01, "The plan", "Reading", "Refusal numbers"; the report's Table 2.
+--   columnOf tableOk planOk   the rules of a plan: the column of its member, and the ranges
+--   recordLength              R
+--   complete incomplete       the two thresholds of a plan
+--   classOf                   the class of a candidate set of a size, by two thresholds
+--   unsure verdictOf decided  what a read decides by: the class and the member
+--   classNumber verdictNumber refusalNumber   the cases of an enum as numbers; a refusal's is the document's
+-- Assumes nothing.
 use Prim.Native.Nat.{ℕ, _+_, _-_, _*_}
-use mathlib.Core.Bool.{Bool, cond}
+use mathlib.Core.Bool.{Bool, true, false}
 use mathlib.Core.List.{List, [], _∷_}
 use lib.Dec.{ltb, leb}
 use Rattle.terms.specs.Ladder.{all}
@@ -8,7 +15,9 @@ use Rattle.terms.specs.declared.Plan.{Plan}
 use Rattle.terms.specs.declared.Member.{Member}
 use Rattle.terms.specs.declared.Member.the-variants.{Repairable, NonRepair}
 use Rattle.terms.specs.declared.Class.{Class}
-use Rattle.terms.specs.declared.Class.the-variants.{Complete, Unclassifiable, Incomplete}
+use Rattle.terms.specs.declared.Class.the-variants as class
+use Rattle.terms.specs.declared.Verdict.{Verdict}
+use Rattle.terms.specs.declared.Verdict.the-variants as verdict
 use Rattle.terms.specs.declared.Refusal.{Refusal}
 use Rattle.terms.specs.declared.Refusal.the-variants.{OutsidePlan, WrongLength, WrongBook, WrongFrame, TimeZero, HashFails, OtherBytes, NoRoom, OutOfRange, NotAwaited, AlreadyHeard, NotBelow, AskTooHigh, HasEnded}
 
@@ -29,20 +38,46 @@ planOk p =
 unfoldable pub recordLength : Plan → ℕ
 recordLength p = 40 + 32 * p .n + p .f
 
+-- COMPLETE = Q+b and INCOMPLETE = Q-t
 abbrev pub complete : Plan → ℕ
 complete p = p .q + p .b
 
 abbrev pub incomplete : Plan → ℕ
 incomplete p = p .q - p .t
 
--- a set's class, by two thresholds: 1 complete, 2 unclassifiable, 3 incomplete
-abbrev pub classOf : ℕ → ℕ → ℕ → ℕ
-classOf c i size = cond (leb c size) 1 (cond (ltb size i) 3 2)
+-- ---- a candidate set, by two thresholds
+abbrev pub pickClass : Bool → Class → Class → Class
+pickClass true x y = x
+pickClass false x y = y
 
+-- of COMPLETE or more: complete; below INCOMPLETE: incomplete; any other: unclassifiable
+unfoldable pub classOf : (high low size : ℕ) → Class
+classOf high low size = pickClass (leb high size) class.Complete (pickClass (ltb size low) class.Incomplete class.Unclassifiable)
+
+-- "Reading": an unclassifiable set is repaired by a repairable member, and ends a non-repair read
+abbrev pub unsure : Member → Verdict
+unsure Repairable = verdict.Repair
+unsure NonRepair = verdict.Aborted
+
+abbrev pub verdictOf : Member → Class → Verdict
+verdictOf member class.Complete = verdict.Complete
+verdictOf member class.Unclassifiable = unsure member
+verdictOf member class.Incomplete = verdict.Incomplete
+
+unfoldable pub decided : Member → (high low size : ℕ) → Verdict
+decided member high low size = verdictOf member (classOf high low size)
+
+-- ---- the cases of an enum as numbers
 abbrev pub classNumber : Class → ℕ
-classNumber Complete = 1
-classNumber Unclassifiable = 2
-classNumber Incomplete = 3
+classNumber class.Complete = 1
+classNumber class.Unclassifiable = 2
+classNumber class.Incomplete = 3
+
+abbrev pub verdictNumber : Verdict → ℕ
+verdictNumber verdict.Complete = 1
+verdictNumber verdict.Repair = 2
+verdictNumber verdict.Aborted = 3
+verdictNumber verdict.Incomplete = 4
 
 -- "Refusal numbers"
 abbrev pub refusalNumber : Refusal → ℕ

@@ -1,7 +1,7 @@
 use Prim.Native.Nat.{_-_}
 use native.Mathlib.Omega.{arith}
 use Rattle.terms.proofs.Stamps as laws
-use Rattle.terms.specs.Stamp.{stampNumber}
+use Rattle.terms.specs.Stamp.{stampAt}
 use borrow.Author.Needs.{needs}
 use Rattle.terms.proofs.stamp_at.Statement.{statement}
 use Rattle.terms.proofs.stamp_at.Tie as tie
@@ -34,8 +34,17 @@ get-requires-5 : tie.Need-get-requires-5
 get-requires-5 c κs = search needs
 
 returns : tie.Need-returns
-unfolding stampNumber
-returns c = laws.stamp-read _ _ _ _ _ _ _ (omega arith) (c .before .before .before .before .get .ensures .0) (c .before .before .before .get2 .ensures .0) (c .before .before .get3 .ensures .0) (c .before .get4 .ensures .0) (c .get5 .ensures .0)
+unfolding stampAt
+returns c =
+    let g4 = c .before in
+    let g3 = g4 .before in
+    let g2 = g3 .before in
+    let w0 = g2 .before .get .ensures .0 in
+    let w1 = g2 .get2 .ensures .0 in
+    let w2 = g3 .get3 .ensures .0 in
+    let w3 = g4 .get4 .ensures .0 in
+    let w4 = c .get5 .ensures .0 in
+    λ i. record { time = record { 0 = w0 i }; verifier = record { 0 = w1 i; 1 = w2 i; 2 = w3 i; 3 = w4 i } }
 
 pub stamp-at-spec : {M : Type 1} → statement M
 stamp-at-spec =

@@ -1,0 +1,15 @@
+use native.Mathlib.Omega.{arith}
+use Rattle.terms.proofs.Facts as laws
+use Rattle.terms.proofs.Plans.{plan-is}
+use borrow.Author.Needs.{needs}
+use Rattle.terms.proofs.complete_of.Statement.{statement}
+use Rattle.terms.proofs.complete_of.Tie as tie
+
+add-result : tie.Need-add-result
+add-result c = let f = laws.facts _ (c .before .pre) in let q = plan-is _ (c .before .pre) in omega arith
+
+returns : tie.Need-returns
+returns c = search needs
+
+pub complete-of-spec : {M : Type 1} → statement M
+complete-of-spec = tie.close (tie.spec add-result returns)

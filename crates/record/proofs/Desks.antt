@@ -1,0 +1,238 @@
+-- Laws of a desk that is filled in place: its loop, and what stands in each slot. Assumes nothing.
+use mathlib.Core.Path.{_≡_, refl, sym, ap, _∙_}
+use mathlib.Core.List.{List, [], _++_, append-assoc, append-nil}
+use mathlib.Core.Bool.{Bool, true, false}
+use Prim.Native.Nat.{ℕ, zero, suc, _+_, _-_, _*_, _^_, _≤_, _<_}
+use native.Mathlib.Nat.{zero-mul, suc-mul, mul-le-mul-right}
+use native.Mathlib.Numerals.{add-one}
+use native.Mathlib.Omega.{arith}
+use borrow.Author.Tests.{ltb-true, ltb-false}
+use lib.Dec.{ltb}
+use lib.ListN.{length, take, drop, length-append, length-drop, take-append-drop}
+use lib.Seq.{drop-drop, drop-append-add, drop-append-le, take-append-le, drop-at, drop-length, take-at, take-all}
+use Rattle.octets.specs.Bytes.{part, put, be}
+use Rattle.octets.proofs.Laws.{length-part, length-put, put-nil, put-then, part-put-same, part-put-before, part-put-after, part-middle, length-be}
+use Rattle.octets.proofs.Meaning.{part-add, alike-refl}
+use Rattle.sha256.specs.Sha256.{sha256}
+use Rattle.sha256.proofs.Laws.{sha256-length, whole}
+use Rattle.terms.specs.Terms.{planOk, recordLength}
+use Rattle.terms.specs.declared.Plan.{Plan}
+use Rattle.terms.specs.Stamp.{stampNumber}
+use Rattle.terms.specs.declared.Timestamp.{Timestamp}
+use Rattle.terms.proofs.Plans.{plan-is}
+use Rattle.terms.proofs.Stamps.{Words, stamp-hash}
+use Rattle.record.specs.Record.{stampOf, verifierOf, crossOf, fragmentOf, entryOf, fragmentHash, hashesOk}
+use Rattle.record.specs.Desk.{slotOf, fragmentIn, row, crossMade, deskOf, stampMade}
+use Rattle.record.proofs.Records.{record-length, taken, fragment-at, cross-at, start-of}
+
+-- slot k of n slots of r bytes lies within them
+pub slot-fits : (k n r : ℕ) → k < n → k * r + r ≤ n * r
+slot-fits k n r h = rw (← suc-mul k r) (mul-le-mul-right r h)
+
+-- ---- blocks of r bytes, one after the other
+length-row : (block : ℕ → List ℕ) (r k : ℕ) → ((j : ℕ) → j < k → length (block j) ≡ r) → length (row block k) ≡ k * r
+unfolding row
+length-row block r zero h = sym (zero-mul r)
+length-row block r (suc k) h =
+    let ih = length-row block r k (λ j i. h j (omega arith)) in
+    let l = h k (omega arith) in
+    simp (length-append, suc-mul) (omega arith)
+
+part-left : (x y : List ℕ) (at n : ℕ) → at + n ≤ length x → part (x ++ y) at n ≡ part x at n
+unfolding part
+part-left x y at n h = rw (drop-append-le at x y (omega arith), take-append-le n (drop at x) y (simp length-drop (omega arith)))
+
+part-right : (x y : List ℕ) (at n : ℕ) → length x ≡ at → length y ≡ n → part (x ++ y) at n ≡ y
+unfolding part
+part-right x y at n a b = rw (drop-at x y at a) (take-all n y (omega arith))
+
+-- block k stands at k * r
+pub part-row : (block : ℕ → List ℕ) (r k n : ℕ) → ((j : ℕ) → j < n → length (block j) ≡ r) → k < n → part (row block n) (k * r) r ≡ block k
+unfolding row
+part-row block r k zero h i = absurd (omega arith)
+part-row block r k (suc n) h i = go (ltb k n) refl (λ z. part-row block r k n (λ j y. h j (omega arith)) z)
+  where
+    l : length (row block n) ≡ n * r
+    l = length-row block r n (λ j y. h j (omega arith))
+
+    go : (t : Bool) → ltb k n ≡ t → (k < n → part (row block n) (k * r) r ≡ block k) → part (row block n ++ block n) (k * r) r ≡ block k
+    go true e ih = let z = ltb-true k n e in part-left (row block n) (block n) (k * r) r (omega (arith, slot-fits k n r z, l)) ∙ ih z
+    go false e ih =
+        let z : k ≡ n = omega (arith, ltb-false k n e) in
+        rw z (part-right (row block n) (block n) (n * r) r l (h n (omega arith)))
+
+-- the last f bytes of slot k, after the first h
+abbrev pub restOf : List ℕ → ℕ → ℕ → ℕ → ℕ → List ℕ
+restOf d r h f k = part d (k * r + h) f
+
+-- ---- slots filled one after the other: d is what is done, and then the rest as it was
+module _ (d₀ head : List ℕ) (r h f n : ℕ) (ld : length d₀ ≡ n * r) (lh : length head ≡ h) (hr : h + f ≡ r) where
+  length-heads : (k : ℕ) → k ≤ n → length (deskOf head [] (restOf d₀ r h f) k) ≡ k * r
+  unfolding deskOf
+  length-heads k i = length-row _ r k (λ j y. let l = length-part d₀ (j * r + h) f (omega (arith, slot-fits j n r (omega arith))) in simp length-append (omega arith))
+
+  pub start : d₀ ≡ deskOf head [] (restOf d₀ r h f) 0 ++ drop (0 * r) d₀
+  unfolding deskOf row
+  start = rw zero-mul
+
+  pub turn : (k : ℕ) (d : List ℕ) → k < n → d ≡ deskOf head [] (restOf d₀ r h f) k ++ drop (k * r) d₀
+      → put d (k * r) head ≡ deskOf head [] (restOf d₀ r h f) (k + 1) ++ drop ((k + 1) * r) d₀
+  unfolding put deskOf row part
+  turn k d i e =
+      let X : List ℕ = deskOf head [] (restOf d₀ r h f) k in
+      let Y : List ℕ = drop (k * r) d₀ in
+      let lx : length X ≡ k * r = length-heads k (omega arith) in
+      let a : drop (k * r + length head) (X ++ Y) ≡ drop (k * r + h) d₀ =
+      ap (λ (j : ℕ). drop (j + length head) (X ++ Y)) (sym lx) ∙ drop-append-add X Y (length head) ∙ ap (λ (j : ℕ). drop j Y) lh ∙ drop-drop h (k * r) d₀ in
+      let z : k * r + h + f ≡ suc k * r = omega (arith, suc-mul k r) in
+      let b : drop (k * r + h) d₀ ≡ take f (drop (k * r + h) d₀) ++ drop (suc k * r) d₀ =
+      sym (take-append-drop f (drop (k * r + h) d₀))
+      ∙ ap (λ (l : List ℕ). take f (drop (k * r + h) d₀) ++ l) (drop-drop f (k * r + h) d₀ ∙ ap (λ (j : ℕ). drop j d₀) z) in
+      rw (e, take-at X Y (k * r) lx, a, b, add-one) (simp append-assoc)
+
+  pub done : (k : ℕ) (d : List ℕ) → k ≡ n → d ≡ deskOf head [] (restOf d₀ r h f) k ++ drop (k * r) d₀ → d ≡ deskOf head [] (restOf d₀ r h f) n
+  done k d z e = e ∙ rw (z, ← ld, drop-length d₀) (append-nil (deskOf head [] (restOf d₀ r h f) n))
+
+-- the head of slot a stays while it is put into slot k
+pub head-stays : (d head : List ℕ) (a k n r h : ℕ) → length d ≡ n * r → length head ≡ h → h ≤ r → k < n → part d (a * r) h ≡ head
+    → part (put d (k * r) head) (a * r) h ≡ head
+head-stays d head a k n r h ld lh hr kn e = go (ltb a k) (ltb k a) refl refl
+  where
+    fk : k * r + r ≤ length d
+    fk = omega (arith, slot-fits k n r kn)
+
+    go : (s t : Bool) → ltb a k ≡ s → ltb k a ≡ t → part (put d (k * r) head) (a * r) h ≡ head
+    go true t u v = part-put-before d (k * r) head (a * r) h (omega (arith, slot-fits a k r (ltb-true a k u))) (omega (arith, fk)) ∙ e
+    go false true u v = part-put-after d (k * r) head (a * r) h (omega (arith, slot-fits k a r (ltb-true k a v))) (omega (arith, fk)) ∙ e
+    go false false u v =
+        let z : a ≡ k = omega (arith, ltb-false a k u, ltb-false k a v) in
+        rw z (part-put-same d (k * r) head h lh (omega (arith, fk)))
+
+-- ---- entries of a cross checksum, one after the other
+pub length-cross : (fragment : ℕ → List ℕ) (k : ℕ) → length (crossMade fragment k) ≡ 32 * k
+unfolding crossMade fragmentHash
+length-cross fragment k = length-row _ 32 k (λ j y. sha256-length ([] ++ fragment j)) ∙ omega arith
+
+pub cross-start : (fragment : ℕ → List ℕ) (out : List ℕ) (at : ℕ) → out ≡ put out at (crossMade fragment 0)
+unfolding crossMade row
+cross-start fragment out at = sym (put-nil out at)
+
+pub cross-turn : (fragment : ℕ → List ℕ) (out out₀ : List ℕ) (at k : ℕ) → at ≤ length out₀ → out ≡ put out₀ at (crossMade fragment k)
+    → put out (at + 32 * k) (fragmentHash [] (fragment k)) ≡ put out₀ at (crossMade fragment (k + 1))
+unfolding crossMade row
+cross-turn fragment out out₀ at k h e =
+    rw (e, put-then out₀ at (at + 32 * k) (crossMade fragment k) (fragmentHash [] (fragment k)) (ap (λ (j : ℕ). at + j) (length-cross fragment k)) h, add-one)
+
+-- an entry that was hashed from a part that was lent
+pub entry-is : (s out new : List ℕ) (from f at : ℕ) → new ≡ put out at (sha256 (take (from + f - from) (drop from s)))
+    → new ≡ put out at (fragmentHash [] (part s from f))
+unfolding fragmentHash
+entry-is s out new from f at e = e ∙ ap (λ (l : List ℕ). put out at (sha256 l)) (taken s from (from + f - from) f (omega arith))
+
+-- a head is a timestamp and a cross checksum
+split : (s c : List ℕ) (fragment : ℕ → List ℕ) (n : ℕ) → deskOf (s ++ c) [] fragment n ≡ deskOf s c fragment n
+unfolding deskOf
+split s c fragment n = λ i. row (λ k. append-assoc s c (fragment k) i) n
+
+-- a timestamp whose words were read from the hash of a cross checksum that was lent
+pub stamp-is : (t : Timestamp) (s d : List ℕ) (at n : ℕ) → Words (t .verifier) → t .verifier .0 < 256 ^ 8
+    → be 8 (t .verifier .0) ≡ part d 0 8 → be 8 (t .verifier .1) ≡ part d 8 8
+    → be 8 (t .verifier .2) ≡ part d 16 8 → be 8 (t .verifier .3) ≡ part d 24 8 → d ≡ sha256 (take (at + 32 * n - at) (drop at s))
+    → be 40 (stampNumber t) ≡ stampMade (t .time .0) (part s at (32 * n))
+stamp-is t s d at n w w0 e0 e1 e2 e3 e =
+    stamp-hash t d w w0 e0 e1 e2 e3
+    ∙ ap (λ (l : List ℕ). be 8 (t .time .0) ++ l) (whole (part s at (32 * n)) d (e ∙ ap sha256 (taken s at (at + 32 * n - at) (32 * n) (omega arith))))
+
+-- ---- by plan: r is R, and the first h bytes of a slot are timestamp and cross checksum
+module _ (p : Plan) (d : List ℕ) (r : ℕ) (er : r ≡ recordLength p) where
+  pub sources : (n : ℕ) → length d ≡ n * recordLength p → (k : ℕ) → k < n → 40 + 32 * p .n + k * r + p .f ≤ length d
+  sources n ld k h = omega (arith, slot-fits k n (recordLength p) h, ap (λ (x : ℕ). k * x) er, record-length p)
+
+  pub cross-is : (n : ℕ) → crossMade (λ k. part d (40 + 32 * p .n + k * r) (p .f)) n ≡ crossMade (fragmentIn p d) n
+  cross-is n = λ i. crossMade (λ k. same k i) n
+    where
+      same : (k : ℕ) → part d (40 + 32 * p .n + k * r) (p .f) ≡ fragmentIn p d k
+      same k =
+          let z : 40 + 32 * p .n + k * r ≡ k * recordLength p + 40 + 32 * p .n = omega (arith, ap (λ (x : ℕ). k * x) er) in
+          ap (λ (q : ℕ). part d q (p .f)) z ∙ sym (fragment-at p d (k * recordLength p))
+
+  rest-is : (k : ℕ) → restOf d r (40 + 32 * p .n) (p .f) k ≡ fragmentIn p d k
+  rest-is k =
+      let z : k * r + (40 + 32 * p .n) ≡ k * recordLength p + 40 + 32 * p .n = omega (arith, ap (λ (x : ℕ). k * x) er) in
+      ap (λ (q : ℕ). part d q (p .f)) z ∙ sym (fragment-at p d (k * recordLength p))
+
+  pub spread-is : (a n : ℕ) → deskOf (part d (a * r) (40 + 32 * p .n)) [] (restOf d r (40 + 32 * p .n) (p .f)) n
+      ≡ deskOf (stampOf (slotOf p d a)) (crossOf p (slotOf p d a)) (fragmentIn p d) n
+  spread-is a n =
+      let q : a * r ≡ a * recordLength p = ap (λ (x : ℕ). a * x) er in
+      let e : part d (a * r) (40 + 32 * p .n) ≡ stampOf (slotOf p d a) ++ crossOf p (slotOf p d a) =
+      ap (λ (x : ℕ). part d x (40 + 32 * p .n)) q ∙ part-add d (a * recordLength p) 40 (32 * p .n)
+      ∙ (λ i. sym (start-of p d (a * recordLength p) 40 (omega (arith, record-length p))) i ++ sym (cross-at p d (a * recordLength p)) i) in
+      (λ i. deskOf (e i) [] (λ k. rest-is k i) n) ∙ split (stampOf (slotOf p d a)) (crossOf p (slotOf p d a)) (fragmentIn p d) n
+
+pub room : (p : Plan) (l : ℕ) → planOk p ≡ true → l ≡ p .n * recordLength p → 40 + 32 * p .n ≤ l
+room p l k ld = let q = plan-is p k in omega (arith, slot-fits 0 (p .n) (recordLength p) (q .n-low), record-length p)
+
+-- timestamp and cross checksum written into slot 0, and then spread
+pub fill-is : (p : Plan) (d d₁ d₂ s c : List ℕ) (n : ℕ) → 40 + 32 * p .n ≤ length d → length s ≡ 40 → length c ≡ 32 * p .n
+    → d₁ ≡ put d 0 s → d₂ ≡ put d₁ 40 c
+    → deskOf (stampOf (slotOf p d₂ 0)) (crossOf p (slotOf p d₂ 0)) (fragmentIn p d₂) n ≡ deskOf s c (fragmentIn p d) n
+fill-is p d d₁ d₂ s c n h ls lc e₁ e₂ = λ i. deskOf (stamped i) (crossed i) (λ k. kept k i) n
+  where
+    l₁ : length d₁ ≡ length d
+    l₁ = ap length e₁ ∙ length-put d 0 s (omega arith)
+
+    stamped : stampOf (slotOf p d₂ 0) ≡ s
+    stamped =
+        start-of p d₂ (0 * recordLength p) 40 (omega (arith, record-length p)) ∙ ap (λ (x : ℕ). part d₂ x 40) (zero-mul (recordLength p))
+        ∙ rw (e₂, part-put-before d₁ 40 c 0 40 (omega arith) (omega (arith, l₁)), e₁) (part-put-same d 0 s 40 ls (omega arith))
+
+    crossed : crossOf p (slotOf p d₂ 0) ≡ c
+    crossed =
+        cross-at p d₂ (0 * recordLength p) ∙ ap (λ (x : ℕ). part d₂ (x + 40) (32 * p .n)) (zero-mul (recordLength p))
+        ∙ rw e₂ (part-put-same d₁ 40 c (32 * p .n) lc (omega (arith, l₁)))
+
+    kept : (k : ℕ) → fragmentIn p d₂ k ≡ fragmentIn p d k
+    kept k =
+        let q : ℕ = k * recordLength p + 40 + 32 * p .n in
+        fragment-at p d₂ (k * recordLength p)
+        ∙ rw (e₂, part-put-after d₁ 40 c q (p .f) (omega arith) (omega (arith, l₁)), e₁, part-put-after d 0 s q (p .f) (omega arith) (omega arith))
+        (sym (fragment-at p d (k * recordLength p)))
+
+-- ---- what stands in the slots, and that it passes the checks
+-- slot k is timestamp, cross checksum and fragment k
+pub slot-is : (p : Plan) (s c : List ℕ) (fragment : ℕ → List ℕ) (k : ℕ) → length s ≡ 40 → length c ≡ 32 * p .n
+    → ((j : ℕ) → j < p .n → length (fragment j) ≡ p .f) → k < p .n → slotOf p (deskOf s c fragment (p .n)) k ≡ s ++ (c ++ fragment k)
+unfolding deskOf
+slot-is p s c fragment k ls lc lf h =
+    part-row (λ j. s ++ (c ++ fragment j)) (recordLength p) k (p .n) (λ j y. let l = lf j y in simp length-append (omega (arith, record-length p))) h
+
+-- a desk's fragments have F bytes
+pub length-in : (p : Plan) (d : List ℕ) → length d ≡ p .n * recordLength p → (k : ℕ) → k < p .n → length (fragmentIn p d k) ≡ p .f
+length-in p d ld k h =
+    ap length (fragment-at p d (k * recordLength p))
+    ∙ length-part d (k * recordLength p + 40 + 32 * p .n) (p .f) (omega (arith, slot-fits k (p .n) (recordLength p) h, record-length p))
+
+-- entry k of a cross checksum is the hash of fragment k
+pub entry-of : (fragment : ℕ → List ℕ) (k n : ℕ) → k < n → entryOf k (crossMade fragment n) ≡ fragmentHash [] (fragment k)
+unfolding crossMade fragmentHash
+entry-of fragment k n h =
+    let z : 32 * k ≡ k * 32 = omega arith in
+    rw z (part-row (λ j. sha256 ([] ++ fragment j)) 32 k n (λ j y. sha256-length ([] ++ fragment j)) h)
+
+-- a record of a timestamp and a cross checksum that were made for these fragments passes both hash checks at its node
+pub made-ok : (p : Plan) (time : ℕ) (fragment : ℕ → List ℕ) (k : ℕ) → k < p .n → length (fragment k) ≡ p .f
+    → hashesOk p k (stampMade time (crossMade fragment (p .n)) ++ (crossMade fragment (p .n) ++ fragment k)) ≡ true
+unfolding hashesOk
+made-ok p time fragment k h lf =
+    let c : List ℕ = crossMade fragment (p .n) in
+    let rec : List ℕ = stampMade time c ++ (c ++ fragment k) in
+    let lc : length c ≡ 32 * p .n = length-cross fragment (p .n) in
+    let lv = sha256-length c in
+    let v : verifierOf rec ≡ sha256 c =
+    part-middle rec (be 8 time) (sha256 c) (c ++ fragment k) 8 32 (append-assoc (be 8 time) (sha256 c) (c ++ fragment k)) (length-be 8 time) lv in
+    let x : crossOf p rec ≡ c = part-middle rec (stampMade time c) c (fragment k) 40 (32 * p .n) refl (simp (length-append, length-be) (omega arith)) lc in
+    let f : fragmentOf p rec ≡ fragment k =
+    ap (λ (l : List ℕ). part l (40 + 32 * p .n) (p .f)) (sym (append-assoc (stampMade time c) c (fragment k)))
+    ∙ part-right (stampMade time c ++ c) (fragment k) (40 + 32 * p .n) (p .f) (simp (length-append, length-be) (omega arith)) lf in
+    rw (x, v, f, entry-of fragment k (p .n) h, alike-refl (sha256 c)) (alike-refl (fragmentHash [] (fragment k)))

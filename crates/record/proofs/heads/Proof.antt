@@ -1,0 +1,98 @@
+use borrow.Author.Needs.{needs}
+use mathlib.Core.Path.{_≡_, refl, ap, _∙_}
+use mathlib.Core.List.{List, [], _++_}
+use Prim.Native.Nat.{ℕ, _+_, _-_, _*_, _≤_}
+use native.Mathlib.Omega.{arith}
+use lib.ListN.{length, drop}
+use Rattle.octets.specs.Bytes.{part, put}
+use Rattle.octets.proofs.Laws.{length-part}
+use Rattle.record.specs.Desk.{deskOf}
+use Rattle.record.proofs.Desks as laws
+use Rattle.record.proofs.heads.Statement.{statement}
+use Rattle.record.proofs.heads.Tie as tie
+
+abbrev Inv-loop : tie.InvT-loop
+Inv-loop desk₀ a h f r n k₀ desk k =
+    (k ≤ n) × (length desk ≡ length desk₀) × (part desk (a * r) h ≡ part desk₀ (a * r) h)
+    × (desk ≡ deskOf (part desk₀ (a * r) h) [] (laws.restOf desk₀ r h f) k ++ drop (k * r) desk₀)
+
+abbrev μ-loop : tie.MeasureT-loop
+μ-loop desk₀ a h f r n k₀ desk k = n - k
+
+loop-holds : tie.Need-loop-holds Inv-loop μ-loop
+loop-holds c =
+    let s = c .before in
+    let a = s .args in (
+      omega arith,
+      refl,
+      refl,
+      laws.start (a .desk .now) (part (a .desk .now) (a .a * a .r) (a .h)) (a .r) (a .h) (a .f) (a .n) (s .pre .1)
+          (length-part _ _ _ (omega (arith, laws.slot-fits _ _ (a .r) (s .pre .2)))) (s .pre .0),
+    )
+
+mul-within : tie.Need-mul-within Inv-loop μ-loop
+mul-within c = let a = c .before .before .before .before .args in omega (arith, laws.slot-fits _ _ (a .r) (c .before .before .before .before .pre .2))
+
+mul-within-2 : tie.Need-mul-within-2 Inv-loop μ-loop
+mul-within-2 c = let a = c .before .before .before .before .args in omega (arith, laws.slot-fits _ _ (a .r) (c .before .loop-test .taken))
+
+within-requires : tie.Need-within-requires Inv-loop μ-loop
+within-requires c κs =
+    let l = c .before .before in
+    let s = l .before .before in
+    let x = laws.slot-fits _ _ (s .args .r) (s .pre .2) in
+    let y = laws.slot-fits _ _ (s .args .r) (c .before .loop-test .taken) in
+    let n = l .loop .inv .1 in
+    (omega arith, omega arith)
+
+add-k : tie.Need-add-k Inv-loop μ-loop
+add-k c = omega arith
+
+loop-less : tie.Need-loop-less Inv-loop μ-loop
+loop-less c = omega arith
+
+loop-again : tie.Need-loop-again Inv-loop μ-loop
+loop-again c =
+    let t = c .before .before .before .before in
+    let l = t .before .loop in
+    let s = t .before .before .before in
+    let a = s .args in
+    let i = l .inv in
+    let head : List ℕ = part (a .desk .now) (a .a * a .r) (a .h) in
+    let x = laws.slot-fits _ _ (a .r) (s .pre .2) in
+    let lh = length-part (a .desk .now) (a .a * a .r) (a .h) (omega arith) in
+    let e = c .before .before .within .ensures ∙ ap (λ (z : List ℕ). put (l .desk) (l .k * a .r) z) (i .2) in
+    let stays = laws.head-stays (l .desk) head (a .a) (l .k) (a .n) (a .r) (a .h) (omega arith) lh (omega arith) (t .loop-test .taken) (i .2) in (
+      omega arith,
+      search needs,
+      ap (λ (z : List ℕ). part z (a .a * a .r) (a .h)) e ∙ stays,
+      e ∙ laws.turn (a .desk .now) head (a .r) (a .h) (a .f) (a .n) (s .pre .1) lh (s .pre .0) (l .k) (l .desk) (t .loop-test .taken) (i .3),
+    )
+
+same-length : tie.Need-same-length Inv-loop μ-loop
+same-length c = c .before .loop .inv .1
+
+returns : tie.Need-returns Inv-loop μ-loop
+returns c =
+    let l = c .before .loop in
+    let s = c .before .before .before in
+    let a = s .args in
+    let x = laws.slot-fits _ _ (a .r) (s .pre .2) in
+    laws.done (a .desk .now) (part (a .desk .now) (a .a * a .r) (a .h)) (a .r) (a .h) (a .f) (a .n) (s .pre .1) (length-part _ _ _ (omega arith)) (s .pre .0)
+    (l .k) (l .desk) (omega arith) (l .inv .3)
+
+pub heads-spec : {M : Type 1} → statement M
+heads-spec =
+    tie.close
+    (tie.spec
+    Inv-loop
+    μ-loop
+    loop-holds
+    mul-within
+    mul-within-2
+    within-requires
+    add-k
+    loop-less
+    loop-again
+    same-length
+    returns)

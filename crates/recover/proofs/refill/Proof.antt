@@ -1,0 +1,55 @@
+use mathlib.Core.Path.{_≡_, refl, ap, _∙_}
+use Prim.Native.Nat.{_-_, _≤_}
+use native.Mathlib.Omega.{arith}
+use borrow.Author.Needs.{needs}
+use lib.ListN.{length}
+use Rattle.recover.specs.Recover.{refilled}
+use Rattle.recover.proofs.Laws as laws
+use Rattle.recover.proofs.refill.Statement.{statement}
+use Rattle.recover.proofs.refill.Tie as tie
+
+abbrev Inv-loop : tie.InvT-loop
+Inv-loop desk₀ h r f qs a n scratch₀ k₀ desk scratch k = (k ≤ n) × (length scratch ≡ f) × (length desk ≡ length desk₀) × (desk ≡ refilled desk₀ h r f qs a k)
+
+abbrev μ-loop : tie.MeasureT-loop
+μ-loop desk₀ h r f qs a n scratch₀ k₀ desk scratch k = n - k
+
+loop-holds : tie.Need-loop-holds Inv-loop μ-loop
+unfolding refilled
+loop-holds c = (omega arith, c .before .before .before .pre .1, refl, refl)
+
+fill-slot-requires : tie.Need-fill-slot-requires Inv-loop μ-loop
+fill-slot-requires c κs = let z = laws.slot-room (c .before .before .before .loop .k) _ _ _ (c .before .before .loop-test .taken) (c .before .before .before .before .before .before .before .pre .4) in let y = laws.slot-room (c .before .before .before .before .before .before .before .args .a) _ _ _ (c .before .before .before .before .before .before .before .pre .5) (c .before .before .before .before .before .before .before .pre .4) in (λ j u. let q = c .before .before .before .before .before .before .before .pre .0 j u in omega arith, omega arith, c .before .before .before .before .before .before .before .pre .2, omega arith, omega arith, omega arith)
+
+add-k : tie.Need-add-k Inv-loop μ-loop
+add-k c = search needs
+
+loop-less : tie.Need-loop-less Inv-loop μ-loop
+loop-less c = search needs
+
+loop-again : tie.Need-loop-again Inv-loop μ-loop
+loop-again c = (omega arith, omega arith, omega arith, laws.refill-more _ _ _ _ _ _ _ _ (c .before .before .before .before .before .before .before .before .loop .k) (c .before .before .before .before .before .before .before .before .loop .inv .3) (c .before .before .before .before .fill-slot .ensures))
+
+same-length : tie.Need-same-length Inv-loop μ-loop
+same-length c = omega arith
+
+same-length-2 : tie.Need-same-length-2 Inv-loop μ-loop
+same-length-2 c = omega arith
+
+returns : tie.Need-returns Inv-loop μ-loop
+returns c = let e : c .before .loop .k ≡ c .before .before .before .before .before .args .n = omega arith in c .before .loop .inv .3 ∙ ap (refilled _ _ _ _ _ _) e
+
+pub refill-spec : {M : Type 1} → statement M
+refill-spec =
+    tie.close
+    (tie.spec
+    Inv-loop
+    μ-loop
+    loop-holds
+    fill-slot-requires
+    add-k
+    loop-less
+    loop-again
+    same-length
+    same-length-2
+    returns)

@@ -1,0 +1,187 @@
+-- What is true of every close: the candidate is the greatest timestamp heard and its node is marked record; the set is rising, below n,
+-- and holds the candidate's node; the verdict tells the set's size. Assumes nothing.
+use mathlib.Core.Path.{_≡_, refl, sym, ap, _∙_, subst}
+use mathlib.Core.Bool.{Bool, true, false, cond}
+use mathlib.Core.List.{List, [], _∷_, _++_}
+use Prim.Native.Nat.{ℕ, zero, suc, _+_, _≤_, _<_}
+use native.Mathlib.Decide.{ℕ-discrete}
+use native.Mathlib.Omega.{arith}
+use borrow.Author.Tests.{leb-true, leb-false, ltb-true, ltb-false}
+use lib.ListN.{length, length-append}
+use lib.Dec.{ltb, leb}
+use Rattle.fragments.specs.Fragments.{All, Distinct}
+use Rattle.terms.specs.declared.Member.{Member}
+use Rattle.terms.specs.declared.Member.the-variants.{Repairable, NonRepair}
+use Rattle.terms.specs.declared.Verdict.the-variants as verdict
+use Rattle.terms.specs.declared.Class.{Class}
+use Rattle.terms.specs.declared.Class.the-variants as class
+use Rattle.terms.proofs.Facts.{is-complete, is-incomplete, is-unclassifiable}
+use Rattle.terms.specs.Terms.{classOf, verdictOf, unsure, decided}
+use Rattle.rounds.specs.declared.Heard.{Heard}
+use Rattle.rounds.specs.declared.Heard.the-variants.{Unheard, First, Record}
+use Rattle.rounds.specs.declared.Mark.{Mark}
+use Rattle.rounds.specs.declared.Lead.{Lead}
+use Rattle.rounds.specs.declared.Lead.the-variants.{Nobody, Node}
+use Rattle.rounds.specs.Rounds.{slotStamp, markOf, aheadOf, stepOf, leadOf, leadIn, joinsOf, setOf}
+use Rattle.rounds.proofs.Laws.{lead-in}
+
+nonsense : {A : Type 0} → _≡_ {A = ℕ} 0 1 → A
+nonsense z = absurd (omega arith)
+
+-- ---- the candidate
+-- what is known of the best among the first n nodes
+pub record Best (ms : List Mark) (d : List ℕ) (r n a : ℕ) : Type 0 where
+  pub marked : markOf ms a ≡ Record
+  pub greatest : (i : ℕ) → i < n → markOf ms i ≡ Record → slotStamp d r i ≤ slotStamp d r a
+  pub lowest : (i : ℕ) → i < a → markOf ms i ≡ Record → slotStamp d r i < slotStamp d r a
+
+-- the first triple is the candidate only where no node is marked record; else it is the best
+abbrev pub Leads : List Mark → List ℕ → ℕ → ℕ → Lead → Type 0
+Leads ms d r n Nobody = (i : ℕ) → i < n → markOf ms i ≡ Record → ⊥
+Leads ms d r n (Node a) = Best ms d r n a
+
+module _ (ms : List Mark) (d : List ℕ) (r n : ℕ) where
+  at-most : {P : ℕ → Type 0} → ((i : ℕ) → i < n → P i) → P n → (i : ℕ) → i < suc n → P i
+  at-most {P} f p i h = go (ℕ-discrete i n)
+    where
+      go : Dec (i ≡ n) → P i
+      go (yes e) = subst P (sym e) p
+      go (no e) = f i (omega arith)
+
+  -- a node that is no record changes nothing
+  same : (l : Lead) → (markOf ms n ≡ Record → ⊥) → Leads ms d r n l → Leads ms d r (suc n) l
+  same Nobody off k = at-most {P = λ (i : ℕ). markOf ms i ≡ Record → ⊥} k off
+  same (Node a) off k =
+      record {
+        marked = k .marked;
+        greatest = at-most {P = λ (i : ℕ). markOf ms i ≡ Record → slotStamp d r i ≤ slotStamp d r a} (k .greatest) (λ e. absurd (off e));
+        lowest = k .lowest;
+      }
+
+  taken : (l : Lead) → markOf ms n ≡ Record → leadIn l n → Leads ms d r n l → Leads ms d r (suc n) (aheadOf d r l n)
+  taken Nobody m b k =
+      unfold aheadOf in
+      record {
+        marked = m;
+        greatest = at-most {P = λ (i : ℕ). markOf ms i ≡ Record → slotStamp d r i ≤ slotStamp d r n} (λ i h e. absurd (k i h e)) (λ e. omega arith);
+        lowest = λ i h e. absurd (k i h e);
+      }
+  taken (Node a) m b k = unfold aheadOf in go (ltb (slotStamp d r a) (slotStamp d r n)) refl
+    where
+      go : (t : Bool) → ltb (slotStamp d r a) (slotStamp d r n) ≡ t → Leads ms d r (suc n) (cond t (Node n) (Node a))
+      go true e =
+          let h = ltb-true (slotStamp d r a) (slotStamp d r n) e in
+          record {
+            marked = m;
+            greatest = at-most {P = λ (i : ℕ). markOf ms i ≡ Record → slotStamp d r i ≤ slotStamp d r n} (λ i l q. omega (arith, k .greatest i l q)) (λ q. omega arith);
+            lowest = λ i l q. omega (arith, k .greatest i l q);
+          }
+      go false e =
+          let h = ltb-false (slotStamp d r a) (slotStamp d r n) e in
+          record {
+            marked = k .marked;
+            greatest = at-most {P = λ (i : ℕ). markOf ms i ≡ Record → slotStamp d r i ≤ slotStamp d r a} (k .greatest) (λ q. h);
+            lowest = k .lowest;
+          }
+
+  step-leads : (l : Lead) (m : Heard) → markOf ms n ≡ m → leadIn l n → Leads ms d r n l → Leads ms d r (suc n) (stepOf d r l n m)
+  step-leads l Record e b k = unfold stepOf in taken l e b k
+  step-leads l First e b k = unfold stepOf in same l (λ q. nonsense (let z : _≡_ {A = ℕ} 0 1 = cc in z)) k
+  step-leads l Unheard e b k = unfold stepOf in same l (λ q. nonsense (let z : _≡_ {A = ℕ} 0 1 = cc in z)) k
+
+pub leads : (ms : List Mark) (d : List ℕ) (r n : ℕ) → Leads ms d r n (leadOf ms d r n)
+unfolding leadOf
+leads ms d r zero = λ i h e. absurd (omega arith)
+leads ms d r (suc n) = step-leads ms d r n (leadOf ms d r n) (markOf ms n) refl (lead-in ms d r n) (leads ms d r n)
+
+-- THE CANDIDATE IS THE GREATEST TIMESTAMP HEARD, at its lowest-numbered node
+pub candidate : (ms : List Mark) (d : List ℕ) (r n a : ℕ) → leadOf ms d r n ≡ Node a → Best ms d r n a
+candidate ms d r n a e = subst (Leads ms d r n) e (leads ms d r n)
+
+-- the first triple is the candidate only where no node is marked record
+pub no-candidate : (ms : List Mark) (d : List ℕ) (r n : ℕ) → leadOf ms d r n ≡ Nobody → (i : ℕ) → i < n → markOf ms i ≡ Record → ⊥
+no-candidate ms d r n e = subst (Leads ms d r n) e (leads ms d r n)
+
+-- ---- the set
+-- a number put after those below it stands in the list once
+distinct-snoc : (l : List ℕ) (i : ℕ) → All (λ (y : ℕ). y < i) l → Distinct l → Distinct (l ++ (i ∷ []))
+distinct-snoc [] i b d = (tt, tt)
+distinct-snoc (x ∷ l) i b d = (apart (b .0) l (b .1) (d .0), distinct-snoc l i (b .1) (d .1))
+  where
+    apart : x < i → (l : List ℕ) → All (λ (y : ℕ). y < i) l → All (λ (y : ℕ). x ≡ y → ⊥) l → All (λ (y : ℕ). x ≡ y → ⊥) (l ++ (i ∷ []))
+    apart h [] b d = ((λ e. omega arith), tt)
+    apart h (y ∷ l) b d = (d .0, apart h l (b .1) (d .1))
+
+-- what a set is known to be, of the first i nodes
+pub record Members (d : List ℕ) (r h a i : ℕ) (ms : List Mark) (l : List ℕ) : Type 0 where
+  pub few : length l ≤ i
+  pub below : All (λ (y : ℕ). y < i) l
+  pub distinct : Distinct l
+  pub joined : All (λ (y : ℕ). joinsOf d r h a y (markOf ms y) ≡ true) l
+
+all-more : (l : List ℕ) (i : ℕ) → All (λ (y : ℕ). y < i) l → All (λ (y : ℕ). y < suc i) l
+all-more [] i b = tt
+all-more (x ∷ l) i b = (omega arith, all-more l i (b .1))
+
+all-snoc : (P : ℕ → Type 0) (l : List ℕ) (i : ℕ) → All P l → P i → All P (l ++ (i ∷ []))
+all-snoc P [] i b p = (p, tt)
+all-snoc P (x ∷ l) i b p = (b .0, all-snoc P l i (b .1) p)
+
+-- THE SET IS RISING, BELOW n, and its nodes are those that bear the candidate's timestamp and cross checksum
+pub members-are : (ms : List Mark) (d : List ℕ) (r h a n : ℕ) → Members d r h a n ms (setOf ms d r h a n)
+unfolding setOf
+members-are ms d r h a zero = record { few = omega arith; below = tt; distinct = tt; joined = tt }
+members-are ms d r h a (suc n) = go (joinsOf d r h a n (markOf ms n)) refl (members-are ms d r h a n)
+  where
+    l : List ℕ
+    l = setOf ms d r h a n
+
+    go : (t : Bool) → joinsOf d r h a n (markOf ms n) ≡ t → Members d r h a n ms l → Members d r h a (suc n) ms (cond t (l ++ (n ∷ [])) l)
+    go true e k =
+        record {
+          few = let z : length (l ++ (n ∷ [])) ≡ length l + 1 = length-append l (n ∷ []) in omega (arith, z, k .few);
+          below = all-snoc (λ (y : ℕ). y < suc n) l n (all-more l n (k .below)) (omega arith);
+          distinct = distinct-snoc l n (k .below) (k .distinct);
+          joined = all-snoc (λ (y : ℕ). joinsOf d r h a y (markOf ms y) ≡ true) l n (k .joined) e;
+        }
+    go false e k = record { few = omega (arith, k .few); below = all-more l n (k .below); distinct = k .distinct; joined = k .joined }
+
+-- ---- the verdict tells the size
+module _ (member : Member) (high low size : ℕ) where
+  of-class : (x : Class) → x ≡ classOf high low size → decided member high low size ≡ verdictOf member x
+  of-class x e = unfold decided in ap (verdictOf member) (sym e)
+
+  unlike : (k : Member) → (verdict.Complete ≡ unsure k → ⊥)
+  unlike Repairable e = let z : _≡_ {A = ℕ} 0 1 = cc in omega arith
+  unlike NonRepair e = let z : _≡_ {A = ℕ} 0 1 = cc in omega arith
+
+  pub decided-complete : decided member high low size ≡ verdict.Complete → high ≤ size
+  decided-complete e = go (leb high size) refl (leb low size) refl
+    where
+      go : (s : Bool) → leb high size ≡ s → (u : Bool) → leb low size ≡ u → high ≤ size
+      go true f u g = leb-true high size f
+      go false f true g =
+          absurd (unlike member (sym e ∙ of-class class.Unclassifiable (is-unclassifiable high low size (leb-false high size f) (leb-true low size g))))
+      go false f false g =
+          let k = sym e ∙ of-class class.Incomplete (is-incomplete high low size (leb-false high size f) (leb-false low size g)) in
+          let z : _≡_ {A = ℕ} 0 1 = cc in
+          absurd (omega arith)
+
+  repairing : (k : Member) → unsure k ≡ verdict.Repair → k ≡ Repairable
+  repairing Repairable e = refl
+  repairing NonRepair e = let z : _≡_ {A = ℕ} 0 1 = cc in absurd (omega arith)
+
+  pub decided-repair : decided member high low size ≡ verdict.Repair → (low ≤ size) × (member ≡ Repairable)
+  decided-repair e = go (leb high size) refl (leb low size) refl
+    where
+      go : (s : Bool) → leb high size ≡ s → (u : Bool) → leb low size ≡ u → (low ≤ size) × (member ≡ Repairable)
+      go true f u g =
+          let k = sym e ∙ of-class class.Complete (is-complete high low size (leb-true high size f)) in
+          let z : _≡_ {A = ℕ} 0 1 = cc in
+          absurd (omega arith)
+      go false f true g =
+          (leb-true low size g, repairing member (sym (of-class class.Unclassifiable (is-unclassifiable high low size (leb-false high size f) (leb-true low size g))) ∙ e))
+      go false f false g =
+          let k = sym e ∙ of-class class.Incomplete (is-incomplete high low size (leb-false high size f) (leb-false low size g)) in
+          let z : _≡_ {A = ℕ} 0 1 = cc in
+          absurd (omega arith)

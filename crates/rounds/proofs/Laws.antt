@@ -1,0 +1,189 @@
+-- Laws of marks, slots and sets. Assumes nothing.
+use mathlib.Core.Path.{_≡_, refl, sym, ap, _∙_, subst}
+use mathlib.Core.Bool.{Bool, true, false, cond}
+use mathlib.Core.List.{List, [], _∷_, _++_}
+use Prim.Native.Nat.{ℕ, zero, suc, _+_, _-_, _*_, _≤_, _<_}
+use native.Mathlib.Nat.{mul-le-mul-right, suc-mul}
+use native.Mathlib.Numerals.{add-one}
+use native.Mathlib.Decide.{ℕ-discrete}
+use native.Mathlib.Omega.{arith}
+use lib.ListN.{drop, drop-of-length-le, length, getD, take, length-set}
+use lib.Seq.{drop-cons, take-suc, take-all, take-suc-set, length-take-le}
+use Rattle.rounds.specs.declared.Heard.{Heard}
+use Rattle.rounds.specs.declared.Heard.the-variants.{Unheard, First, Record}
+use Rattle.rounds.specs.declared.Mark.{Mark}
+use Rattle.rounds.specs.declared.Lead.{Lead}
+use Rattle.rounds.specs.declared.Lead.the-variants.{Nobody, Node}
+use Rattle.rounds.specs.declared.Set.{Set}
+use Rattle.rounds.specs.declared.Bound.{Bound}
+use Rattle.rounds.specs.declared.Bound.the-variants.{Free, Under}
+use Rattle.rounds.specs.Rounds.{unheard, underOf, every, slotFits, slotsFit, slotStamp, heardCount, bitOf, markOf, aheadOf, stepOf, leadOf, leadIn, joinsOf, setOf, addOf, listed, Closed, closeWith, closeOf}
+use Rattle.terms.specs.declared.Member.{Member}
+use Rattle.terms.specs.declared.Verdict.{Verdict}
+use Rattle.terms.specs.declared.Verdict.the-variants.{Complete}
+use Rattle.terms.specs.Stamp.{stampAt, zeroStamp, stampNumber}
+use Rattle.terms.specs.Terms.{decided}
+use lib.Dec.{ltb}
+use Rattle.terms.specs.declared.Timestamp.{Timestamp}
+
+pub bit-small : (h : Heard) → bitOf h ≤ 1
+bit-small Unheard = omega arith
+bit-small First = omega arith
+bit-small Record = omega arith
+
+pub count-snoc : (l : List Mark) (m : Mark) → heardCount (l ++ (m ∷ [])) ≡ heardCount l + bitOf (m .is)
+unfolding heardCount
+count-snoc [] m = omega arith
+count-snoc (x ∷ l) m = rw (count-snoc l m) (omega arith)
+
+pub count-turn : (l : List Mark) (i n v : ℕ) (d : Mark) → i < length l → n ≡ heardCount (take i l) → v ≡ bitOf (getD l i d .is) → n + v ≡ heardCount (take (i + 1) l)
+count-turn l i n v d h e f = rw (add-one, take-suc l i d h, count-snoc, e, f)
+
+pub count-all : (l : List Mark) (i n : ℕ) → length l ≤ i → n ≡ heardCount (take i l) → n ≡ heardCount l
+count-all l i n h e = e ∙ ap heardCount (take-all i l h)
+
+-- slot i of n is within
+pub slot-room : (i n r e : ℕ) → i < n → n * r ≤ e → i * r + r ≤ e
+slot-room i n r e h k = let q : suc i * r ≤ n * r = mul-le-mul-right r h in omega (arith, suc-mul i r)
+
+-- ---- the lead
+pub lead-told : (l : Lead) (b n : ℕ) → l ≡ Node b → leadIn l n → b < n
+unfolding leadIn
+lead-told l b n e h = subst (λ (x : Lead). leadIn x n) e h
+
+ahead-in : (d : List ℕ) (r : ℕ) (l : Lead) (i n : ℕ) → i < n → leadIn l n → leadIn (aheadOf d r l i) n
+unfolding aheadOf leadIn
+ahead-in d r Nobody i n h k = h
+ahead-in d r (Node b) i n h k = pick (ltb (slotStamp d r b) (slotStamp d r i))
+  where
+    pick : (t : Bool) → leadIn (cond t (Node i) (Node b)) n
+    pick true = h
+    pick false = k
+
+pub step-in : (d : List ℕ) (r : ℕ) (l : Lead) (i : ℕ) (m : Heard) (n : ℕ) → i < n → leadIn l n → leadIn (stepOf d r l i m) n
+unfolding stepOf
+step-in d r l i Record n h k = ahead-in d r l i n h k
+step-in d r l i First n h k = k
+step-in d r l i Unheard n h k = k
+
+lead-more : (l : Lead) (i n : ℕ) → i ≤ n → leadIn l i → leadIn l n
+unfolding leadIn
+lead-more Nobody i n h k = k
+lead-more (Node b) i n h k = omega arith
+
+pub lead-in : (ms : List Mark) (d : List ℕ) (r n : ℕ) → leadIn (leadOf ms d r n) n
+unfolding leadOf
+lead-in ms d r zero = unfold leadIn in omega arith
+lead-in ms d r (suc n) = step-in d r (leadOf ms d r n) n (markOf ms n) (suc n) (omega arith) (lead-more (leadOf ms d r n) n (suc n) (omega arith) (lead-in ms d r n))
+
+pub lead-turn : (ms : List Mark) (d : List ℕ) (r i : ℕ) (best x : Lead) → best ≡ leadOf ms d r i → x ≡ stepOf d r best i (markOf ms i) → x ≡ leadOf ms d r (i + 1)
+unfolding leadOf
+lead-turn ms d r i best x e f = f ∙ rw (add-one, e)
+
+pub ahead-first : (d : List ℕ) (r i : ℕ) (l : Lead) → l ≡ Nobody → Node i ≡ aheadOf d r l i
+unfolding aheadOf
+ahead-first d r i l e = rw e
+
+module _ (d : List ℕ) (r i b : ℕ) (l : Lead) (e : l ≡ Node b) (x : Bool) (f : x ≡ ltb (slotStamp d r b) (slotStamp d r i)) where
+  pub ahead-yes : x ≡ true → Node i ≡ aheadOf d r l i
+  ahead-yes t = unfold aheadOf in rw (e, ← f, t)
+
+  pub ahead-no : x ≡ false → Node b ≡ aheadOf d r l i
+  ahead-no t = unfold aheadOf in rw (e, ← f, t)
+
+-- ---- the set
+pub add-len : (s : Set) (i : ℕ) (on : Bool) → length (addOf s i on .nodes) ≡ length (s .nodes)
+unfolding addOf
+add-len s i true = simp length-set
+add-len s i false = refl
+
+pub add-size : (s : Set) (i : ℕ) (on : Bool) → addOf s i on .size ≤ s .size + 1
+unfolding addOf
+add-size s i true = omega arith
+add-size s i false = omega arith
+
+add-listed : (s : Set) (i : ℕ) (on : Bool) → s .size < length (s .nodes) → listed (addOf s i on) ≡ cond on (listed s ++ (i ∷ [])) (listed s)
+unfolding addOf
+add-listed s i true h = rw (add-one, take-suc-set (s .nodes) (s .size) i h)
+add-listed s i false h = refl
+
+pub members-turn : (ms : List Mark) (d : List ℕ) (r h a i : ℕ) (s x : Set) (on : Bool) → s .size < length (s .nodes)
+    → listed s ≡ setOf ms d r h a i → on ≡ joinsOf d r h a i (markOf ms i) → x ≡ addOf s i on → listed x ≡ setOf ms d r h a (i + 1)
+unfolding setOf
+members-turn ms d r h a i s x on k e f g = ap listed g ∙ add-listed s i on k ∙ rw (add-one, e, f)
+
+pub lead-below : (ms : List Mark) (d : List ℕ) (r i n : ℕ) → i ≤ n → leadIn (leadOf ms d r i) n
+lead-below ms d r i n h = lead-more (leadOf ms d r i) i n h (lead-in ms d r i)
+
+pub size-is : (s : Set) (l : List ℕ) → length (s .nodes) ≡ 16 → s .size ≤ 16 → listed s ≡ l → s .size ≡ length l
+size-is s l h k e = sym (length-take-le (s .size) (s .nodes) (omega arith)) ∙ ap length e
+
+pub lead-room : (ms : List Mark) (d : List ℕ) (r n a : ℕ) (l : Lead) → l ≡ leadOf ms d r n → l ≡ Node a → a < n
+lead-room ms d r n a l e f = lead-told (leadOf ms d r n) a n (sym e ∙ f) (lead-in ms d r n)
+
+pub close-none : (ms : List Mark) (d : List ℕ) (n h r : ℕ) (member : Member) (c i : ℕ) (l : Lead) (t : Timestamp) → l ≡ leadOf ms d r n → l ≡ Nobody → t ≡ zeroStamp
+    → _≡_ {A = Closed} (record { lead = l; stamp = t; nodes = []; verdict = Complete }) (closeOf ms d n h r member c i)
+unfolding closeWith
+close-none ms d n h r member c i l t e f g = rw (← e, f, g)
+
+pub close-some : (ms : List Mark) (d : List ℕ) (n h r : ℕ) (member : Member) (c i a : ℕ) (l : Lead) (s : Set) (w : Verdict) (t : Timestamp)
+    → l ≡ leadOf ms d r n → l ≡ Node a → n ≤ 16 → length (s .nodes) ≡ 16 → s .size ≤ n
+    → listed s ≡ setOf ms d r h a n → w ≡ decided member c i (s .size) → t ≡ stampAt d (a * r)
+    → _≡_ {A = Closed} (record { lead = Node a; stamp = t; nodes = listed s; verdict = w }) (closeOf ms d n h r member c i)
+unfolding closeWith
+close-some ms d n h r member c i a l s w t e f k m z g x y =
+    let q : s .size ≡ length (setOf ms d r h a n) = size-is s (setOf ms d r h a n) m (omega arith) g in
+    (λ j. record { lead = Node a; stamp = y j; nodes = g j; verdict = (x ∙ ap (decided member c i) q) j }) ∙ ap (closeWith ms d n h r member c i) (sym f ∙ e)
+
+-- ---- the ranges of marks and slots
+-- every mark from i on meets the test, where those from n on have to
+pub every-stop : (t : Heard → Bool) (ms : List Mark) (i : ℕ) (w x : Bool) → i < length ms → w ≡ every t (drop i ms) → x ≡ t (markOf ms i) → x ≡ false → false ≡ w
+unfolding every
+every-stop t ms i w x h e f g = sym (e ∙ rw (drop-cons ms i unheard h, ← f, g))
+
+pub every-on : (t : Heard → Bool) (ms : List Mark) (i : ℕ) (w x : Bool) → i < length ms → w ≡ every t (drop i ms) → x ≡ t (markOf ms i) → x ≡ true
+    → w ≡ every t (drop (i + 1) ms)
+unfolding every
+every-on t ms i w x h e f g = e ∙ rw (drop-cons ms i unheard h, ← f, g, add-one)
+
+pub every-end : (t : Heard → Bool) (ms : List Mark) (i : ℕ) (w : Bool) → length ms ≤ i → w ≡ every t (drop i ms) → true ≡ w
+unfolding every
+every-end t ms i w h e = sym (e ∙ ap (every t) (drop-of-length-le ms h))
+
+pub fits-more : (ms : List Mark) (d : List ℕ) (r : ℕ) (b : Bound) (i : ℕ) (x : Bool) → slotsFit ms d r b i ≡ true → x ≡ slotFits d r b i (markOf ms i) → x ≡ true
+    → slotsFit ms d r b (i + 1) ≡ true
+unfolding slotsFit
+fits-more ms d r b i x e f g = rw (add-one, e, ← f, g)
+
+-- a slot that does not fit
+fits-off : (ms : List Mark) (d : List ℕ) (r : ℕ) (b : Bound) (i n : ℕ) → i < n → slotFits d r b i (markOf ms i) ≡ false → slotsFit ms d r b n ≡ false
+unfolding slotsFit
+fits-off ms d r b i zero h e = absurd (omega arith)
+fits-off ms d r b i (suc n) h e = go (ℕ-discrete i n) (λ l. fits-off ms d r b i n l e)
+  where
+    off : (t : Bool) → cond t false false ≡ false
+    off true = refl
+    off false = refl
+
+    go : Dec (i ≡ n) → (i < n → slotsFit ms d r b n ≡ false) → cond (slotsFit ms d r b n) (slotFits d r b n (markOf ms n)) false ≡ false
+    go (yes q) more = let z : slotFits d r b n (markOf ms n) ≡ false = rw q at e in rw z (off (slotsFit ms d r b n))
+    go (no q) more = rw (more (omega arith))
+
+pub fits-stop : (ms : List Mark) (d : List ℕ) (r : ℕ) (b : Bound) (i n : ℕ) (x : Bool) → i < n → x ≡ slotFits d r b i (markOf ms i) → x ≡ false → false ≡ slotsFit ms d r b n
+fits-stop ms d r b i n x h e f = sym (fits-off ms d r b i n h (sym e ∙ f))
+
+pub fits-all : (ms : List Mark) (d : List ℕ) (r : ℕ) (b : Bound) (i n : ℕ) → i ≡ n → slotsFit ms d r b i ≡ true → true ≡ slotsFit ms d r b n
+fits-all ms d r b i n e f = sym (rw e at f)
+
+pub fits-none : (ms : List Mark) (d : List ℕ) (r : ℕ) (b : Bound) → slotsFit ms d r b 0 ≡ true
+unfolding slotsFit
+fits-none ms d r b = refl
+
+-- the bound, by the timestamp that lies at a place
+pub under-free : (b : Bound) (x : ℕ) → b ≡ Free → true ≡ underOf b x
+unfolding underOf
+under-free b x e = rw e
+
+pub under-is : (b : Bound) (u t : Timestamp) (x : ℕ) (w : Bool) → b ≡ Under u → stampNumber t ≡ x → w ≡ ltb (stampNumber t) (stampNumber u) → w ≡ underOf b x
+unfolding underOf
+under-is b u t x w e f g = g ∙ rw (e, f)

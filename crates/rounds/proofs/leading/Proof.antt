@@ -1,0 +1,50 @@
+use mathlib.Core.Path.{_≡_, refl, sym, ap, _∙_, subst}
+use Prim.Native.Nat.{_-_, _≤_}
+use native.Mathlib.Omega.{arith}
+use Rattle.rounds.proofs.Laws as laws
+use Rattle.rounds.specs.Rounds.{leadOf, leadIn}
+use Rattle.rounds.specs.declared.Lead.{Lead}
+use Rattle.rounds.proofs.leading.Statement.{statement}
+use Rattle.rounds.proofs.leading.Tie as tie
+
+abbrev Inv-loop : tie.InvT-loop
+Inv-loop desk n r marks best₀ i₀ best i = (i ≤ n) × (best ≡ leadOf marks desk r i)
+
+abbrev μ-loop : tie.MeasureT-loop
+μ-loop desk n r marks best₀ i₀ best i = n - i
+
+loop-holds : tie.Need-loop-holds Inv-loop μ-loop
+unfolding leadOf
+loop-holds c = (omega arith, refl)
+
+array-copy-out-m : tie.Need-array-copy-out-m Inv-loop μ-loop
+array-copy-out-m c = omega arith
+
+step-requires : tie.Need-step-requires Inv-loop μ-loop
+step-requires c κs = (c .before .before .before .before .pre .0, c .before .before .before .before .pre .1, c .before .loop-test .taken, subst (λ (x : Lead). leadIn x (c .before .before .before .before .args .n)) (sym (c .before .before .loop .inv .1)) (laws.lead-below _ _ _ _ _ (c .before .before .loop .inv .0)))
+
+add-i : tie.Need-add-i Inv-loop μ-loop
+add-i c = omega arith
+
+loop-less : tie.Need-loop-less Inv-loop μ-loop
+loop-less c = omega arith
+
+loop-again : tie.Need-loop-again Inv-loop μ-loop
+loop-again c = (omega arith, laws.lead-turn _ _ _ _ _ _ (c .before .before .before .loop .inv .1) (c .step .ensures))
+
+returns : tie.Need-returns Inv-loop μ-loop
+returns c = c .before .loop .inv .1 ∙ ap (leadOf _ _ _) (let e : c .before .loop .i ≡ c .before .before .before .args .n = omega arith in e)
+
+pub leading-spec : {M : Type 1} → statement M
+leading-spec =
+    tie.close
+    (tie.spec
+    Inv-loop
+    μ-loop
+    loop-holds
+    array-copy-out-m
+    step-requires
+    add-i
+    loop-less
+    loop-again
+    returns)

@@ -1,0 +1,317 @@
+// What a round decides, on an array of marks and the slots of a desk: document 01, "The client". Node i lies in slot i, at i * r; a
+// slot starts with the timestamp and the cross checksum, h bytes together.
+use terms::Member;
+use terms::Timestamp;
+use terms::Verdict;
+ghost use mathlib.Core.Path.{_≡_};
+ghost use Prim.Native.Nat.{ℕ, _+_, _*_, _≤_, _<_};
+ghost use lib.ListN.{length};
+ghost use Rattle.octets.specs.Bytes.{part, num};
+ghost use Rattle.rounds.specs.Rounds.{bitOf, heardCount, aheadOf, stepOf, leadOf, leadIn, joinsOf, setOf, addOf, listed, told, closeOf, isUnheard, isNotFirst, restUnheard, noneFirst, underOf, slotFits, slotsFit};
+
+// A node's mark. Later requests add to it.
+pub enum Heard {
+    Unheard,
+    First,
+    Record,
+}
+
+// A session's field may not be an array of enums, so a mark is a struct that holds one.
+pub struct Mark {
+    pub is: Heard,
+}
+
+// The candidate: the first triple where no node is marked record, else the record of the lowest-numbered node that bears the greatest
+// timestamp.
+pub enum Lead {
+    Nobody,
+    Node(usize),
+}
+
+// Node numbers, rising: the first `size` of the array.
+pub struct Set {
+    pub nodes: [u8; 16],
+    pub size: usize,
+}
+
+// The close of a read round: the candidate, its timestamp, its set and what that decides. For the first triple the timestamp is zero,
+// the set empty and the verdict Complete, since the first triple always has COMPLETE replies.
+pub struct Close {
+    pub lead: Lead,
+    pub stamp: Timestamp,
+    pub set: Set,
+    pub verdict: Verdict,
+}
+
+// The bound of a read round: none in the first, else the last candidate's timestamp.
+pub enum Bound {
+    Free,
+    Under(Timestamp),
+}
+
+// 1 where a node is heard.
+pub fn bit(h: Heard) -> u64
+    ensures { λ r. ⌜ (r ≡ bitOf h) × (r ≤ 1) ⌝ }
+{
+    match h {
+        Heard::Unheard => 0,
+        Heard::First => 1,
+        Heard::Record => 1,
+    }
+}
+
+// How many of the marks are heard.
+pub fn count(marks: [Mark; 16]) -> u64
+    ensures { λ r. ⌜ (r ≡ heardCount marks) × (r ≤ 16) ⌝ }
+{
+    let mut n: u64 = 0;
+    let mut i: usize = 0;
+    while i < 16 {
+        let m = marks[i];
+        let h = m.is;
+        n += bit(h);
+        i += 1;
+    }
+    n
+}
+
+// Node i against the best so far: only a greater timestamp takes its place.
+fn ahead(desk: &[u8], r: usize, n: usize, best: Lead, i: usize) -> Lead
+    requires { ⌜ (n * r ≤ length (now desk)) × (40 ≤ r) × (i < n) × (leadIn best n) ⌝ }
+    ensures { λ x. ⌜ x ≡ aheadOf (now (desk .entry)) r best i ⌝ }
+{
+    match best {
+        Lead::Nobody => Lead::Node(i),
+        Lead::Node(b) => {
+            if octets::less(desk, b * r, desk, i * r, 40) {
+                return Lead::Node(i);
+            }
+            Lead::Node(b)
+        }
+    }
+}
+
+// Only a record competes.
+fn step(desk: &[u8], r: usize, n: usize, best: Lead, i: usize, h: Heard) -> Lead
+    requires { ⌜ (n * r ≤ length (now desk)) × (40 ≤ r) × (i < n) × (leadIn best n) ⌝ }
+    ensures { λ x. ⌜ x ≡ stepOf (now (desk .entry)) r best i h ⌝ }
+{
+    match h {
+        Heard::Record => ahead(desk, r, n, best, i),
+        Heard::First => best,
+        Heard::Unheard => best,
+    }
+}
+
+// The candidate.
+fn leading(marks: [Mark; 16], desk: &[u8], n: usize, r: usize) -> Lead
+    requires { ⌜ (n * r ≤ length (now desk)) × (40 ≤ r) × (n ≤ 16) ⌝ }
+    ensures { λ x. ⌜ x ≡ leadOf marks (now (desk .entry)) r n ⌝ }
+{
+    let mut best = Lead::Nobody;
+    let mut i: usize = 0;
+    while i < n {
+        let m = marks[i];
+        let h = m.is;
+        best = step(desk, r, n, best, i, h);
+        i += 1;
+    }
+    best
+}
+
+// Whether node i is of the set: a record, with the timestamp and the cross checksum that node a has.
+fn joins(desk: &[u8], r: usize, n: usize, h: usize, a: usize, i: usize, k: Heard) -> bool
+    requires { ⌜ (n * r ≤ length (now desk)) × (h ≤ r) × (i < n) × (a < n) ⌝ }
+    ensures { λ x. ⌜ x ≡ joinsOf (now (desk .entry)) r h a i k ⌝ }
+{
+    match k {
+        Heard::Record => octets::same(desk, i * r, desk, a * r, h),
+        Heard::First => false,
+        Heard::Unheard => false,
+    }
+}
+
+impl Set {
+    // The set with node i, where it is on.
+    fn add(mut self, i: usize, on: bool) -> Set
+        requires { ⌜ (self .size < 16) × (i < 16) × (length (self .nodes) ≡ 16) ⌝ }
+        ensures { λ x. ⌜ x ≡ addOf self i on ⌝ }
+    {
+        if !on {
+            return self;
+        }
+        let k = self.size;
+        self.nodes[k] = i as u8;
+        self.size = k + 1;
+        self
+    }
+}
+
+// The nodes of the candidate's set, rising.
+fn members(marks: [Mark; 16], desk: &[u8], n: usize, r: usize, h: usize, a: usize) -> Set
+    requires { ⌜ (n * r ≤ length (now desk)) × (h ≤ r) × (n ≤ 16) × (a < n) ⌝ }
+    ensures { λ x. ⌜ (listed x ≡ setOf marks (now (desk .entry)) r h a n) × (x .size ≤ n) × (length (x .nodes) ≡ 16) ⌝ }
+{
+    let mut set = Set {
+        nodes: [0; 16],
+        size: 0,
+    };
+    let mut i: usize = 0;
+    while i < n {
+        let m = marks[i];
+        let k = m.is;
+        let on = joins(desk, r, n, h, a, i, k);
+        set = set.add(i, on);
+        i += 1;
+    }
+    set
+}
+
+// The close of a read round, as one value.
+pub fn closing(
+    marks: [Mark; 16],
+    desk: &[u8],
+    n: usize,
+    h: usize,
+    r: usize,
+    member: Member,
+    complete: u64,
+    incomplete: u64,
+) -> Close
+    requires { ⌜ (n * r ≤ length (now desk)) × (40 ≤ h) × (h ≤ r) × (n ≤ 16) ⌝ }
+    ensures { λ x. ⌜ (told x ≡ closeOf marks (now (desk .entry)) n h r member complete incomplete) × (length (x .set .nodes) ≡ 16) × (x .set .size ≤ n) ⌝ }
+{
+    let lead = leading(marks, desk, n, r);
+    match lead {
+        Lead::Nobody => {
+            let stamp = terms::zero_stamp();
+            let set = Set {
+                nodes: [0; 16],
+                size: 0,
+            };
+            Close {
+                lead: lead,
+                stamp: stamp,
+                set: set,
+                verdict: Verdict::Complete,
+            }
+        }
+        Lead::Node(a) => {
+            let set = members(marks, desk, n, r, h, a);
+            let size = set.size;
+            let verdict = terms::decide(member, complete, incomplete, size as u64);
+            let stamp = terms::stamp_at(desk, a * r);
+            Close {
+                lead: lead,
+                stamp: stamp,
+                set: set,
+                verdict: verdict,
+            }
+        }
+    }
+}
+
+// ---- the ranges of marks and slots: refusal 9
+
+// Whether a node's mark is "unheard".
+fn silent(h: Heard) -> bool
+    ensures { λ r. ⌜ r ≡ isUnheard h ⌝ }
+{
+    match h {
+        Heard::Unheard => true,
+        Heard::First => false,
+        Heard::Record => false,
+    }
+}
+
+// Whether a node's mark is not "first triple".
+fn not_first(h: Heard) -> bool
+    ensures { λ r. ⌜ r ≡ isNotFirst h ⌝ }
+{
+    match h {
+        Heard::Unheard => true,
+        Heard::First => false,
+        Heard::Record => true,
+    }
+}
+
+// Whether the marks from n on are unheard.
+pub fn rest_unheard(marks: [Mark; 16], n: usize) -> bool
+    requires { ⌜ n ≤ 16 ⌝ }
+    ensures { λ r. ⌜ r ≡ restUnheard marks n ⌝ }
+{
+    let mut i = n;
+    while i < 16 {
+        let m = marks[i];
+        let h = m.is;
+        if !silent(h) {
+            return false;
+        }
+        i += 1;
+    }
+    true
+}
+
+// Whether no mark is "first triple".
+pub fn none_first(marks: [Mark; 16]) -> bool
+    ensures { λ r. ⌜ r ≡ noneFirst marks ⌝ }
+{
+    let mut i: usize = 0;
+    while i < 16 {
+        let m = marks[i];
+        let h = m.is;
+        if !not_first(h) {
+            return false;
+        }
+        i += 1;
+    }
+    true
+}
+
+// Whether the timestamp at `at` is strictly below the bound.
+pub fn under(b: Bound, s: &[u8], at: usize) -> bool
+    requires { ⌜ at + 40 ≤ length (now s) ⌝ }
+    ensures { λ r. ⌜ r ≡ underOf b (num (part (now (s .entry)) at 40)) ⌝ }
+{
+    match b {
+        Bound::Free => true,
+        Bound::Under(u) => {
+            let t = terms::stamp_at(s, at);
+            t.less(u)
+        }
+    }
+}
+
+// Whether slot i, where it is marked record, holds a time of 1 or more and a timestamp below the bound.
+fn slot_fits(desk: &[u8], r: usize, n: usize, b: Bound, i: usize, h: Heard) -> bool
+    requires { ⌜ (n * r ≤ length (now desk)) × (40 ≤ r) × (i < n) ⌝ }
+    ensures { λ x. ⌜ x ≡ slotFits (now (desk .entry)) r b i h ⌝ }
+{
+    match h {
+        Heard::Record => {
+            if octets::get(desk, i * r, 8) < 1 {
+                return false;
+            }
+            under(b, desk, i * r)
+        }
+        Heard::First => true,
+        Heard::Unheard => true,
+    }
+}
+
+// Whether each slot marked record fits.
+pub fn slots_fit(marks: [Mark; 16], desk: &[u8], n: usize, r: usize, b: Bound) -> bool
+    requires { ⌜ (n * r ≤ length (now desk)) × (40 ≤ r) × (n ≤ 16) ⌝ }
+    ensures { λ x. ⌜ x ≡ slotsFit marks (now (desk .entry)) r b n ⌝ }
+{
+    let mut i: usize = 0;
+    while i < n {
+        let m = marks[i];
+        let h = m.is;
+        if !slot_fits(desk, r, n, b, i, h) {
+            return false;
+        }
+        i += 1;
+    }
+    true
+}

@@ -5,3 +5,4 @@ pub mod Node
 pub mod Kept
 pub mod Books
 pub mod Instances
+pub mod Edges

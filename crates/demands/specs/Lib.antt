@@ -1,2 +1,3 @@
 pub mod Deliver
 pub mod History
+pub mod Edges

@@ -10,14 +10,14 @@ use borrow.Author.Tests.{ltb-true, ltb-false}
 use lib.Dec.{ltb}
 use lib.ListN.{length, take, drop, length-append, length-drop, take-append-drop}
 use lib.Seq.{drop-drop, drop-append-add, drop-append-le, take-append-le, drop-at, drop-length, take-at, take-all}
-use Rattle.octets.specs.Bytes.{part, put, be}
+use Rattle.octets.specs.Bytes.{part, put, num, be}
 use Rattle.octets.proofs.Laws.{length-part, length-put, put-nil, put-then, part-put-same, part-put-before, part-put-after, part-middle, length-be}
-use Rattle.octets.proofs.Meaning.{part-add, alike-refl}
+use Rattle.octets.proofs.Meaning.{part-add, alike-refl, num-be}
 use Rattle.sha256.specs.Sha256.{sha256}
 use Rattle.sha256.proofs.Laws.{sha256-length, whole}
 use Rattle.terms.specs.Terms.{planOk, recordLength}
 use Rattle.terms.specs.declared.Plan.{Plan}
-use Rattle.terms.specs.Stamp.{stampNumber}
+use Rattle.terms.specs.Stamp.{stampNumber, stampAt}
 use Rattle.terms.specs.declared.Timestamp.{Timestamp}
 use Rattle.terms.proofs.Plans.{plan-is}
 use Rattle.terms.proofs.Stamps.{Words, stamp-hash}
@@ -46,6 +46,10 @@ part-right : (x y : List ℕ) (at n : ℕ) → length x ≡ at → length y ≡ 
 unfolding part
 part-right x y at n a b = rw (drop-at x y at a) (take-all n y (omega arith))
 
+part-past : (x y : List ℕ) (at k n : ℕ) → length x ≡ at → part (x ++ y) (at + k) n ≡ part y k n
+unfolding part
+part-past x y at k n a = rw (← a, drop-append-add x y k)
+
 -- block k stands at k * r
 pub part-row : (block : ℕ → List ℕ) (r k n : ℕ) → ((j : ℕ) → j < n → length (block j) ≡ r) → k < n → part (row block n) (k * r) r ≡ block k
 unfolding row
@@ -60,6 +64,22 @@ part-row block r k (suc n) h i = go (ltb k n) refl (λ z. part-row block r k n (
     go false e ih =
         let z : k ≡ n = omega (arith, ltb-false k n e) in
         rw z (part-right (row block n) (block n) (n * r) r l (h n (omega arith)))
+
+-- blocks that are the same one by one
+row-same : (a b : ℕ → List ℕ) (n : ℕ) → ((k : ℕ) → k < n → a k ≡ b k) → row a n ≡ row b n
+unfolding row
+row-same a b zero h = refl
+row-same a b (suc n) h = let ih = row-same a b n (λ k i. h k (omega arith)) in λ j. ih j ++ h n (omega arith) j
+
+-- fragments that are the same one by one
+module _ (a b : ℕ → List ℕ) (n : ℕ) (h : (k : ℕ) → k < n → a k ≡ b k) where
+  pub cross-same : crossMade a n ≡ crossMade b n
+  unfolding crossMade
+  cross-same = row-same (λ k. fragmentHash [] (a k)) (λ k. fragmentHash [] (b k)) n (λ k i. ap (fragmentHash []) (h k i))
+
+  pub desk-same : (s c : List ℕ) → deskOf s c a n ≡ deskOf s c b n
+  unfolding deskOf
+  desk-same s c = row-same (λ k. s ++ (c ++ a k)) (λ k. s ++ (c ++ b k)) n (λ k i. ap (λ (l : List ℕ). s ++ (c ++ l)) (h k i))
 
 -- the last f bytes of slot k, after the first h
 abbrev pub restOf : List ℕ → ℕ → ℕ → ℕ → ℕ → List ℕ
@@ -143,6 +163,25 @@ stamp-is t s d at n w w0 e0 e1 e2 e3 e =
     stamp-hash t d w w0 e0 e1 e2 e3
     ∙ ap (λ (l : List ℕ). be 8 (t .time .0) ++ l) (whole (part s at (32 * n)) d (e ∙ ap sha256 (taken s at (at + 32 * n - at) (32 * n) (omega arith))))
 
+-- its time, and the same timestamp, as those 40 bytes give it
+pub time-made : (time : ℕ) (cross : List ℕ) → time < 256 ^ 8 → num (part (stampMade time cross) 0 8) ≡ time
+time-made time cross h =
+    ap num (part-middle (stampMade time cross) [] (be 8 time) (sha256 cross) 0 8 refl refl (length-be 8 time)) ∙ num-be 8 time h
+
+pub stamp-made : (t : Timestamp) (s d : List ℕ) (at n : ℕ) → t .time .0 < 256 ^ 8
+    → t .verifier .0 ≡ num (part d 0 8) → t .verifier .1 ≡ num (part d 8 8)
+    → t .verifier .2 ≡ num (part d 16 8) → t .verifier .3 ≡ num (part d 24 8) → d ≡ sha256 (take (at + 32 * n - at) (drop at s))
+    → t ≡ stampAt (stampMade (t .time .0) (part s at (32 * n))) 0
+unfolding stampAt
+stamp-made t s d at n h e0 e1 e2 e3 e =
+    let q = sym (time-made (t .time .0) (part s at (32 * n)) h) in
+    λ i. record { time = record { 0 = q i }; verifier = record { 0 = (e0 ∙ word 0) i; 1 = (e1 ∙ word 8) i; 2 = (e2 ∙ word 16) i; 3 = (e3 ∙ word 24) i } }
+  where
+    word : (k : ℕ) → num (part d k 8) ≡ num (part (stampMade (t .time .0) (part s at (32 * n))) (8 + k) 8)
+    word k =
+        let z : d ≡ sha256 (part s at (32 * n)) = e ∙ ap sha256 (taken s at (at + 32 * n - at) (32 * n) (omega arith)) in
+        ap num (ap (λ (l : List ℕ). part l k 8) z ∙ sym (part-past (be 8 (t .time .0)) (sha256 (part s at (32 * n))) 8 k 8 (length-be 8 (t .time .0))))
+
 -- ---- by plan: r is R, and the first h bytes of a slot are timestamp and cross checksum
 module _ (p : Plan) (d : List ℕ) (r : ℕ) (er : r ≡ recordLength p) where
   pub sources : (n : ℕ) → length d ≡ n * recordLength p → (k : ℕ) → k < n → 40 + 32 * p .n + k * r + p .f ≤ length d
@@ -206,6 +245,13 @@ pub slot-is : (p : Plan) (s c : List ℕ) (fragment : ℕ → List ℕ) (k : ℕ
 unfolding deskOf
 slot-is p s c fragment k ls lc lf h =
     part-row (λ j. s ++ (c ++ fragment j)) (recordLength p) k (p .n) (λ j y. let l = lf j y in simp length-append (omega (arith, record-length p))) h
+
+-- N records have N·R bytes
+pub length-desk : (p : Plan) (s c : List ℕ) (fragment : ℕ → List ℕ) → length s ≡ 40 → length c ≡ 32 * p .n
+    → ((j : ℕ) → j < p .n → length (fragment j) ≡ p .f) → length (deskOf s c fragment (p .n)) ≡ p .n * recordLength p
+unfolding deskOf
+length-desk p s c fragment ls lc lf =
+    length-row (λ j. s ++ (c ++ fragment j)) (recordLength p) (p .n) (λ j y. let l = lf j y in simp length-append (omega (arith, record-length p)))
 
 -- a desk's fragments have F bytes
 pub length-in : (p : Plan) (d : List ℕ) → length d ≡ p .n * recordLength p → (k : ℕ) → k < p .n → length (fragmentIn p d k) ≡ p .f

@@ -7,7 +7,7 @@ ghost use Prim.Native.Nat.{ℕ, _+_, _*_, _≤_, _<_};
 ghost use lib.ListN.{length, drop};
 ghost use Rattle.octets.specs.Bytes.{part, put, be};
 ghost use Rattle.terms.specs.Terms.{planOk, recordLength};
-ghost use Rattle.terms.specs.Stamp.{stampNumber};
+ghost use Rattle.terms.specs.Stamp.{stampNumber, stampAt};
 ghost use Rattle.record.specs.Record.{stampOf, crossOf, fragmentHash, hashesOk, timeZero};
 ghost use Rattle.record.specs.Desk.{slotOf, fragmentIn, crossMade, deskOf, stampMade};
 use terms::Hash;
@@ -73,7 +73,8 @@ pub fn cross(p: Plan, desk: &[u8], out: &mut [u8], at: usize)
 // Writing: the timestamp of a time and the cross checksum at `at`, whose hash is its verifier.
 pub fn stamp_of(p: Plan, time: Time, cross: &[u8], at: usize) -> Timestamp
     requires { ⌜ (planOk p ≡ true) × (at + 32 * p .n ≤ length (now cross)) ⌝ }
-    ensures { λ r. ⌜ (r .time ≡ time) × (be 40 (stampNumber r) ≡ stampMade (time .0) (part (now (cross .entry)) at (32 * p .n))) ⌝ }
+    ensures { λ r. ⌜ (r ≡ stampAt (stampMade (time .0) (part (now (cross .entry)) at (32 * p .n))) 0)
+        × (be 40 (stampNumber r) ≡ stampMade (time .0) (part (now (cross .entry)) at (32 * p .n))) ⌝ }
 {
     let end = at + 32 * (p.n as usize);
     let d = sha256::digest(&cross[at..end]);

@@ -1,4 +1,4 @@
-use mathlib.Core.Path.{refl}
+use native.Mathlib.Omega.{arith}
 use Rattle.terms.proofs.Plans.{plan-is}
 use Rattle.record.proofs.Desks as laws
 use borrow.Author.Needs.{needs}
@@ -56,7 +56,8 @@ returns c = let g3 = c .before .before in
     let b2 = g2 .get2 .ensures .1 in
     let b3 = g3 .get3 .ensures .1 in
     let b4 = c .get4 .ensures .1 in (
-      refl,
+      laws.stamp-made _ (a .cross .now) _ (a .at) (a .p .n) (omega (arith, g1 .before .before .before .before .before .good .1 .0))
+          (g1 .get .ensures .0) (g2 .get2 .ensures .0) (g3 .get3 .ensures .0) (c .get4 .ensures .0) (g1 .before .before .digest .ensures),
       laws.stamp-is _ (a .cross .now) _ (a .at) (a .p .n) (record { w1 = b2; w2 = b3; w3 = b4 }) b1
           (g1 .get .ensures .2) (g2 .get2 .ensures .2) (g3 .get3 .ensures .2) (c .get4 .ensures .2) (g1 .before .before .digest .ensures),
     )

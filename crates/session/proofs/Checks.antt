@@ -1,0 +1,97 @@
+-- From what a check came to, to the outcome that its ladder decides. Assumes nothing.
+use Prim.{tt}
+use Prim.Native.Nat.{ℕ, _≤_}
+use mathlib.Core.Path.{_≡_, refl, sym, ap, _∙_}
+use mathlib.Core.Bool.{Bool, true, false, cond}
+use mathlib.Core.List.{List, [], _∷_}
+use native.Mathlib.Omega.{arith}
+use borrow.Author.Tests.{leb-true}
+use lib.Dec.{leb}
+use Rattle.terms.specs.Ladder.{Rung, first, _and_}
+use Rattle.terms.specs.Terms.{refusalNumber}
+use Rattle.terms.specs.declared.Refusal.{Refusal}
+use Rattle.terms.specs.declared.Refusal.the-variants.{OutsidePlan, WrongLength, WrongBook, WrongFrame, TimeZero, HashFails, OtherBytes, NoRoom, OutOfRange, NotAwaited, AlreadyHeard, NotBelow, AskTooHigh, HasEnded}
+use Rattle.terms.proofs.Rungs.{Verdict, refused, passes, None, both, read, first-read, none-is}
+use Rattle.session.specs.declared.Check.{Check}
+use Rattle.session.specs.declared.Check.the-variants.{Passed, Failed}
+use Rattle.session.specs.Reply.{checkNumber}
+
+-- no refusal of a ladder has the number 0
+abbrev pub numbered : List Rung → Bool
+numbered [] = true
+numbered (x ∷ xs) = leb 1 (x .number) and numbered xs
+
+-- a ladder that came to 0: none of it applies
+pub none-applies : (l : List Rung) → numbered l ≡ true → first l (λ (k : ℕ). k) 0 ≡ 0 → None l
+unfolding first
+none-applies [] n e = tt
+none-applies (x ∷ xs) n e = go (x .applies) refl e (λ m g. none-applies xs m g)
+  where
+    b : (leb 1 (x .number) ≡ true) × (numbered xs ≡ true)
+    b = both (leb 1 (x .number)) (numbered xs) n
+
+    go : (c : Bool) → x .applies ≡ c → cond c (x .number) (first xs (λ (k : ℕ). k) 0) ≡ 0
+        → (numbered xs ≡ true → first xs (λ (k : ℕ). k) 0 ≡ 0 → None xs) → (x .applies ≡ false) × None xs
+    go true f g ih = let h = leb-true 1 (x .number) (b .0) in absurd (omega arith)
+    go false f g ih = (f, ih (b .1) g)
+
+-- a part of what a ladder gives
+pub first-map : {A B : Type 0} (f : A → B) (l : List Rung) (refuse : ℕ → A) (pass : A) → f (first l refuse pass) ≡ first l (λ (k : ℕ). f (refuse k)) (f pass)
+first-map {A} {B} f l refuse pass = ap f (first-read l refuse pass) ∙ go (first l refused passes) ∙ sym (first-read l (λ (k : ℕ). f (refuse k)) (f pass))
+  where
+    go : (v : Verdict) → f (read v refuse pass) ≡ read v (λ (k : ℕ). f (refuse k)) (f pass)
+    go (refused k) = refl
+    go passes = refl
+
+-- what holds of every refusal, and of the pass where the ladder is passed, holds of the outcome
+pub outcome-all : {A : Type 0} (P : A → Type 0) (l : List Rung) (refuse : ℕ → A) (pass : A) → ((k : ℕ) → P (refuse k))
+    → (first l (λ (k : ℕ). k) 0 ≡ 0 → P pass) → P (first l refuse pass)
+unfolding first
+outcome-all P [] refuse pass h g = g refl
+outcome-all {A} P (x ∷ xs) refuse pass h g = go (x .applies) g (outcome-all P xs refuse pass h)
+  where
+    go : (c : Bool) → (cond c (x .number) (first xs (λ (k : ℕ). k) 0) ≡ 0 → P pass) → ((first xs (λ (k : ℕ). k) 0 ≡ 0 → P pass) → P (first xs refuse pass))
+        → P (cond c (refuse (x .number)) (first xs refuse pass))
+    go true f ih = h (x .number)
+    go false f ih = ih f
+
+module _ {A : Type 0} (refuse : ℕ → A) (pass : A) where
+  pub goes-on : (l : List Rung) → numbered l ≡ true → first l (λ (k : ℕ). k) 0 ≡ 0 → pass ≡ first l refuse pass
+  goes-on l n e = sym (first-read l refuse pass ∙ ap (λ (v : Verdict). read v refuse pass) (none-is l (none-applies l n e)))
+
+  pub stops : (l : List Rung) (k : ℕ) → 1 ≤ k → first l (λ (j : ℕ). j) 0 ≡ k → refuse k ≡ first l refuse pass
+  unfolding first
+  stops [] k h e = absurd (omega arith)
+  stops (x ∷ xs) k h e = go (x .applies) e (λ g. stops xs k h g)
+    where
+      go : (c : Bool) → cond c (x .number) (first xs (λ (j : ℕ). j) 0) ≡ k → (first xs (λ (j : ℕ). j) 0 ≡ k → refuse k ≡ first xs refuse pass)
+          → refuse k ≡ cond c (refuse (x .number)) (first xs refuse pass)
+      go true g ih = ap refuse (sym g)
+      go false g ih = ih g
+
+low : (r : Refusal) → leb 1 (refusalNumber r) ≡ true
+low OutsidePlan = refl
+low WrongLength = refl
+low WrongBook = refl
+low WrongFrame = refl
+low TimeZero = refl
+low HashFails = refl
+low OtherBytes = refl
+low NoRoom = refl
+low OutOfRange = refl
+low NotAwaited = refl
+low AlreadyHeard = refl
+low NotBelow = refl
+low AskTooHigh = refl
+low HasEnded = refl
+
+pub refusal-low : (r : Refusal) → 1 ≤ refusalNumber r
+refusal-low r = leb-true 1 (refusalNumber r) (low r)
+
+-- the two arms of a match on a check
+module _ (l : List Rung) (x : Check) (e : checkNumber x ≡ first l (λ (k : ℕ). k) 0) where
+  pub check-passed : x ≡ Passed → first l (λ (k : ℕ). k) 0 ≡ 0
+  check-passed t = sym e ∙ ap checkNumber t
+
+  pub check-failed : {A : Type 0} (refuse : ℕ → A) (pass : A) (r : Refusal) → x ≡ Failed r → refuse (refusalNumber r) ≡ first l refuse pass
+  check-failed refuse pass r t = stops refuse pass l (refusalNumber r) (refusal-low r) (sym e ∙ ap checkNumber t)

@@ -1,0 +1,192 @@
+-- Every session that opening and writing make is in its ranges with the desk handed back: an accepted opening's (opened-kept), and what a
+-- reply to a writer leaves of one that was (write-kept). Assumes nothing.
+use Prim.Native.Nat.{ℕ, _*_, _^_, _≤_, _<_}
+use mathlib.Core.Path.{_≡_, refl, sym, ap, _∙_, subst}
+use mathlib.Core.Bool.{Bool, true, false, cond}
+use mathlib.Core.List.{List}
+use native.Mathlib.Omega.{arith}
+use borrow.Author.Tests.{eqb-false}
+use lib.Dec.{ltb, eqb}
+use lib.ListN.{length, set, length-append}
+use Rattle.octets.specs.Bytes.{part, num, Octets}
+use Rattle.octets.proofs.Laws.{length-part, length-be}
+use Rattle.octets.proofs.Meaning.{num-small, bytes-part, bytes-all}
+use Rattle.sha256.proofs.Laws.{sha256-length}
+use Rattle.terms.specs.Ladder.{first, _and_, _or_}
+use Rattle.terms.specs.Terms.{recordLength}
+use Rattle.terms.specs.Stamp.{time, stampAt, stampNumber}
+use Rattle.terms.specs.declared.Plan.{Plan}
+use Rattle.terms.specs.declared.Ask.{Ask}
+use Rattle.terms.specs.declared.Time.{Time}
+use Rattle.fragments.specs.Fragments.{fragment, from, Sources}
+use Rattle.fragments.proofs.Laws.{fragment-is, length-regenerated, length-from, getD-from, run-fits}
+use Rattle.frame.specs.Frame.{frameNode, bodyOf}
+use Rattle.frame.proofs.Frames.{body-part}
+use Rattle.record.proofs.Desks.{length-cross, length-desk, time-made}
+use Rattle.rounds.specs.declared.Heard.the-variants.{Record}
+use Rattle.rounds.specs.Rounds.{heardCount}
+use Rattle.session.specs.declared.Session.{Session}
+use Rattle.session.specs.declared.Took.{Took}
+use Rattle.session.specs.declared.Operation.{Operation}
+use Rattle.session.specs.declared.opening.Opened.{Opened}
+use Rattle.session.specs.declared.opening.Opening.the-variants.{Accepted}
+use Rattle.session.specs.Opening.{OpenCall}
+use Rattle.session.specs.declared.Operation.the-variants.{Write}
+use Rattle.session.specs.Session.{isRead, isStoring, replies, markedOf, endedOf, storingOf, refused, stillOpen, done, clockSpent}
+use Rattle.session.specs.Ranges.{inRange}
+use Rattle.session.specs.Reply.{replyLadder}
+use Rattle.session.specs.Writer.{laterOf, timedOf, newTime, crossFor, stampFor, recordsFor, leaves, Leaves, timeEnd, timeTurn, writeTurn, acceptedWrite, writeReply, WriteReplyCall}
+use Rattle.session.proofs.Checks.{none-applies, outcome-all}
+use Rattle.session.proofs.Made.{StandingIs, OpenIs, in-range-facts, ended-in-range, open-in-range, end-stands, storing-in-range, rest-set, none-set}
+use Rattle.session.proofs.Openings.{accepted-session, accepted-in-range}
+use Rattle.session.proofs.Writers.{Taking, taking, time-there}
+
+-- a session in its ranges with its desk, which is N·R bytes; its greatest time has 8 bytes
+pub record Kept (p : Plan) (s : Session) (d : List ℕ) : Type 0 where
+  pub range : inRange p s d ≡ true
+  pub desk-is : length d ≡ p .n * recordLength p
+  pub clock : s .greatest .0 < 256 ^ 8
+
+-- so is an accepted opening's, with any desk of that length
+pub opened-kept : (op : Operation) (p : Plan) (a : Ask) (r : Opened) → OpenCall op p a r → r .answer ≡ Accepted → (d : List ℕ)
+    → length d ≡ p .n * recordLength p → Kept p (r .session) d
+opened-kept op p a r call e d l =
+    record { range = accepted-in-range op p a r call e d; desk-is = l; clock = rw (accepted-session op p a r call e) (omega arith) }
+
+-- ---- times, timestamps and records as they are made
+time-small : (f : List ℕ) → Octets f → length f ≡ 23 → time (bodyOf f) < 256 ^ 8
+time-small f o l =
+    let z : part (bodyOf f) 0 8 ≡ part f 15 8 = body-part 15 f 0 8 in
+    let e : length (part f 15 8) ≡ 8 = length-part f 15 8 (omega arith) in
+    rw z (subst (λ (n : ℕ). num (part f 15 8) < 256 ^ n) e (num-small (part f 15 8) (bytes-part f 15 8 (bytes-all f o))))
+
+later-small : (a b : ℕ) → a < 256 ^ 8 → b < 256 ^ 8 → laterOf a b < 256 ^ 8
+later-small a b h k = go (ltb a b)
+  where
+    go : (t : Bool) → cond t b a < 256 ^ 8
+    go true = k
+    go false = h
+
+stamp-low : (p : Plan) (t : ℕ) (i : List ℕ) → 1 ≤ t → t < 256 ^ 8 → 1 ≤ stampFor p t i .time .0
+unfolding stampFor stampAt
+stamp-low p t i h k = rw (time-made t (crossFor p i) k) h
+
+length-records : (p : Plan) (t : ℕ) (i : List ℕ) → length i ≡ p .m * p .f → length (recordsFor p t i) ≡ p .n * recordLength p
+unfolding recordsFor crossFor
+length-records p t i l =
+    length-desk p _ _ (fragment (p .m) (p .f) i) (simp (length-append, length-be, sha256-length)) (length-cross (fragment (p .m) (p .f) i) (p .n))
+    (λ k h. ap length (fragment-is (p .m) (p .f) i k) ∙ length-regenerated i 0 (p .f) (p .f) (from 0 (p .m)) k runs)
+  where
+    runs : Sources i 0 (p .f) (p .f) (from 0 (p .m))
+    runs k h =
+        let z : k < p .m = omega (arith, length-from 0 (p .m)) in
+        rw (getD-from 0 (p .m) k z) (omega (arith, run-fits (p .m) (p .f) k z))
+
+-- ---- a node heard in a time or write round
+abbrev heardOf : Session → ℕ → Time → Session
+heardOf s n g =
+    record {
+      operation = s .operation;
+      stage = s .stage;
+      round = s .round;
+      bound = s .bound;
+      opening = s .opening;
+      greatest = g;
+      stamp = s .stamp;
+      marks = set (s .marks) n (record { is = Record });
+    }
+
+module _ (p : Plan) (s : Session) (n : ℕ) (g : Time) (h : n < p .n) where
+  heard-stands : StandingIs p s → StandingIs p (heardOf s n g)
+  heard-stands q =
+      record {
+        low = q .low;
+        high = q .high;
+        counted = q .counted;
+        bounded = q .bounded;
+        rest = rest-set (s .marks) (p .n) n (record { is = Record }) h ∙ q .rest;
+        opening = q .opening;
+      }
+
+  heard-open : (d : List ℕ) → isRead (s .operation) ≡ false → OpenIs p s d → ltb (heardCount (heardOf s n g .marks)) (replies p) ≡ true
+      → OpenIs p (heardOf s n g) d
+  heard-open d w o e =
+      record {
+        stamped = o .stamped;
+        firsts = rw w (none-set (s .marks) n (rw w at (o .firsts)));
+        few = e;
+        slots = rw w;
+      }
+
+-- ---- the call
+module _ (p : Plan) (s : Session) (f d i : List ℕ) (o : Octets f) (k : Kept p s d) where
+  -- what the call leaves is kept
+  abbrev Good : Leaves → Type 0
+  Good x = Kept p (x .session) (x .desk)
+
+  module _ (e : first (replyLadder Write p s f d (length i)) (λ (j : ℕ). j) 0 ≡ 0) where
+    q : Taking p s f d (length i)
+    q = taking p s f d (length i) e
+
+    held : StandingIs p s × OpenIs p s d
+    held = in-range-facts p s d (k .range) (none-applies (replyLadder Write p s f d (length i)) refl e .1 .1 .1 .0)
+
+    module _ (g : Time) (small : g .0 < 256 ^ 8) where
+      abbrev u : Session
+      u = heardOf s (frameNode f) g
+
+      stands : StandingIs p u
+      stands = heard-stands p s (frameNode f) g (q .reply .node-low) (held .0)
+
+      still : ltb (heardCount (u .marks)) (replies p) ≡ true → Kept p u d
+      still c =
+          record {
+            range = open-in-range p u d stands (heard-open p s (frameNode f) g (q .reply .node-low) d (q .writes) (held .1) c);
+            desk-is = k .desk-is;
+            clock = small;
+          }
+
+      ends : Kept p (endedOf u) d
+      ends = record { range = ended-in-range p (endedOf u) d (end-stands p u stands) refl; desk-is = k .desk-is; clock = small }
+
+      in-write : Good (writeTurn p u d)
+      unfolding writeTurn
+      in-write = go (ltb (heardCount (u .marks)) (replies p)) refl
+        where
+          go : (c : Bool) → ltb (heardCount (u .marks)) (replies p) ≡ c → Good (cond c (leaves stillOpen u d) (leaves (done (stampNumber (u .stamp)) 0) (endedOf u) d))
+          go true c = still c
+          go false c = ends
+
+      in-time : Good (timeTurn p u d i)
+      unfolding timeTurn timeEnd
+      in-time = go (ltb (heardCount (u .marks)) (replies p)) (eqb (g .0) 18446744073709551615) refl refl
+        where
+          go : (c m : Bool) → ltb (heardCount (u .marks)) (replies p) ≡ c → eqb (g .0) 18446744073709551615 ≡ m
+              → Good (cond c (leaves stillOpen u d)
+              (cond m (leaves clockSpent (endedOf u) d) (leaves stillOpen (storingOf u (stampFor p (newTime (g .0)) i)) (recordsFor p (newTime (g .0)) i))))
+          go true m c v = still c
+          go false true c v = ends
+          go false false c v =
+              let z = eqb-false (g .0) 18446744073709551615 v in
+              record {
+                range = storing-in-range p u (stampFor p (newTime (g .0)) i) _ (q .plan-ok) stands (stamp-low p (newTime (g .0)) i (omega arith) (omega arith));
+                desk-is = length-records p (newTime (g .0)) i (q .lengths .item-is);
+                clock = small;
+              }
+
+    accepted : Good (acceptedWrite p s f d i)
+    unfolding acceptedWrite
+    accepted = go (isStoring (s .stage)) refl
+      where
+        go : (c : Bool) → isStoring (s .stage) ≡ c
+            → Good (cond c (writeTurn p (markedOf s (frameNode f) Record) d) (timeTurn p (timedOf s (frameNode f) (time (bodyOf f))) d i))
+        go true c = in-write (s .greatest) (k .clock)
+        go false c =
+            in-time (record { 0 = laterOf (s .greatest .0) (time (bodyOf f)) })
+            (later-small (s .greatest .0) (time (bodyOf f)) (k .clock) (time-small f o (time-there p s f d (length i) q c)))
+
+  pub write-kept : (t : Took) (d₂ : List ℕ) → WriteReplyCall p s f d i t d₂ → Kept p (t .session) d₂
+  unfolding writeReply
+  write-kept t d₂ c =
+      subst Good (sym (c .is))
+      (outcome-all Good (replyLadder Write p s f d (length i)) (λ (j : ℕ). leaves (refused j) s d) (acceptedWrite p s f d i) (λ j. k) accepted)

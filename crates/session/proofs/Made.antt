@@ -1,0 +1,150 @@
+-- What it takes to be in range: the rules of refusal 9 as plain facts, what they come to of marks that are all unheard or of which one is
+-- set, and of sessions that follow one in its ranges. Kept.antt has the calls. Assumes nothing.
+use Prim.Native.Nat.{ℕ, zero, suc, _≤_, _<_}
+use mathlib.Core.Path.{_≡_, refl, sym, ap}
+use mathlib.Core.Bool.{Bool, true, false, not}
+use mathlib.Core.List.{List, [], _∷_}
+use native.Mathlib.Omega.{arith}
+use borrow.Author.Tests.{le-leb, lt-ltb}
+use lib.Dec.{leb, ltb, eqb}
+use lib.ListN.{getD, set, drop, replicate}
+use lib.Seq.{drop-set-lt}
+use Rattle.terms.specs.Ladder.{all, _and_, _or_}
+use Rattle.terms.specs.Terms.{planOk, recordLength}
+use Rattle.terms.specs.declared.Plan.{Plan}
+use Rattle.terms.specs.declared.Timestamp.{Timestamp}
+use Rattle.terms.proofs.Facts.{facts}
+use Rattle.terms.proofs.Rungs.{both}
+use Rattle.rounds.specs.declared.Bound.{Bound}
+use Rattle.rounds.specs.declared.Heard.{Heard}
+use Rattle.rounds.specs.declared.Heard.the-variants.{Record}
+use Rattle.rounds.specs.declared.Mark.{Mark}
+use Rattle.rounds.specs.Rounds.{heardCount, unheard, unheards, every, isUnheard, isNotFirst, restUnheard, noneFirst, slotFits, slotsFit}
+use Rattle.session.specs.declared.Session.{Session}
+use Rattle.session.specs.Session.{isRead, isStoring, isEnded, readRound, replies, endedOf, storingOf}
+use Rattle.session.specs.Ranges.{openingOk, boundOk, standingRules, openRules, inRange}
+use Rattle.session.proofs.Rules.{holds, last}
+
+-- ---- the rules of refusal 9 as plain facts
+pub record StandingIs (p : Plan) (s : Session) : Type 0 where
+  pub low : leb 1 (s .round) ≡ true
+  pub high : leb (s .round) (p .w) ≡ true
+  pub counted : (isRead (s .operation) or eqb (s .round) 1) ≡ true
+  pub bounded : boundOk (s .bound) (s .round) ≡ true
+  pub rest : restUnheard (s .marks) (p .n) ≡ true
+  pub opening : openingOk p (s .opening .0) ≡ true
+
+pub record OpenIs (p : Plan) (s : Session) (d : List ℕ) : Type 0 where
+  pub stamped : (not (isStoring (s .stage)) or leb 1 (s .stamp .time .0)) ≡ true
+  pub firsts : (readRound s or noneFirst (s .marks)) ≡ true
+  pub few : ltb (heardCount (s .marks)) (replies p) ≡ true
+  pub slots : (not (readRound s) or slotsFit (s .marks) d (recordLength p) (s .bound) (p .n)) ≡ true
+
+pub standing-facts : (p : Plan) (s : Session) → standingRules p s ≡ true → StandingIs p s
+unfolding standingRules all
+standing-facts p s e =
+    let e1 = both (leb 1 (s .round)) _ e in
+    let e2 = both (leb (s .round) (p .w)) _ (e1 .1) in
+    let e3 = both (isRead (s .operation) or eqb (s .round) 1) _ (e2 .1) in
+    let e4 = both (boundOk (s .bound) (s .round)) _ (e3 .1) in
+    let e5 = both (restUnheard (s .marks) (p .n)) _ (e4 .1) in
+    let e6 = both (openingOk p (s .opening .0)) _ (e5 .1) in
+    record { low = e1 .0; high = e2 .0; counted = e3 .0; bounded = e4 .0; rest = e5 .0; opening = e6 .0 }
+
+pub open-facts : (p : Plan) (s : Session) (d : List ℕ) → openRules p s d ≡ true → OpenIs p s d
+unfolding openRules all
+open-facts p s d e =
+    let e1 = both (not (isStoring (s .stage)) or leb 1 (s .stamp .time .0)) _ e in
+    let e2 = both (readRound s or noneFirst (s .marks)) _ (e1 .1) in
+    let e3 = both (ltb (heardCount (s .marks)) (replies p)) _ (e2 .1) in
+    let e4 = both (not (readRound s) or slotsFit (s .marks) d (recordLength p) (s .bound) (p .n)) _ (e3 .1) in
+    record { stamped = e1 .0; firsts = e2 .0; few = e3 .0; slots = e4 .0 }
+
+module _ (p : Plan) (s : Session) where
+  standing-back : StandingIs p s → standingRules p s ≡ true
+  unfolding standingRules
+  standing-back q =
+      sym (holds _ (q .low) (holds _ (q .high) (holds _ (q .counted) (holds _ (q .bounded) (holds _ (q .rest) (last (sym (q .opening))))))))
+
+  open-back : (d : List ℕ) → OpenIs p s d → openRules p s d ≡ true
+  unfolding openRules
+  open-back d q = sym (holds _ (q .stamped) (holds _ (q .firsts) (holds _ (q .few) (last (sym (q .slots))))))
+
+  pub ended-in-range : (d : List ℕ) → StandingIs p s → isEnded (s .stage) ≡ true → inRange p s d ≡ true
+  unfolding inRange
+  ended-in-range d q e = rw (standing-back q, e)
+
+  pub open-in-range : (d : List ℕ) → StandingIs p s → OpenIs p s d → inRange p s d ≡ true
+  unfolding inRange
+  open-in-range d q o = rw (standing-back q, open-back d o) (go (isEnded (s .stage)))
+    where
+      go : (t : Bool) → (t or true) ≡ true
+      go true = refl
+      go false = refl
+
+  -- a session in its ranges, and open
+  pub in-range-facts : (d : List ℕ) → inRange p s d ≡ true → isEnded (s .stage) ≡ false → StandingIs p s × OpenIs p s d
+  unfolding inRange
+  in-range-facts d e f =
+      let q = both (standingRules p s) (isEnded (s .stage) or openRules p s d) e in
+      (standing-facts p s (q .0), open-facts p s d (rw f at (q .1)))
+
+-- ---- marks
+every-same : (t : Heard → Bool) (m : Mark) (k n : ℕ) → t (m .is) ≡ true → every t (drop n (replicate k m)) ≡ true
+unfolding every
+every-same t m zero zero e = refl
+every-same t m zero (suc n) e = refl
+every-same t m (suc k) zero e = rw e (every-same t m k 0 e)
+every-same t m (suc k) (suc n) e = every-same t m k n e
+
+mark-same : (m : Mark) (k i : ℕ) → getD (replicate k m) i m ≡ m
+mark-same m zero i = refl
+mark-same m (suc k) zero = refl
+mark-same m (suc k) (suc i) = mark-same m k i
+
+every-set : (t : Heard → Bool) (ms : List Mark) (i : ℕ) (m : Mark) → t (m .is) ≡ true → every t ms ≡ true → every t (set ms i m) ≡ true
+unfolding every
+every-set t [] i m e f = refl
+every-set t (x ∷ ms) zero m e f = rw e (both (t (x .is)) (every t ms) f .1)
+every-set t (x ∷ ms) (suc i) m e f = let q = both (t (x .is)) (every t ms) f in rw (q .0) (every-set t ms i m e (q .1))
+
+pub rest-unheards : (n : ℕ) → restUnheard unheards n ≡ true
+rest-unheards n = every-same isUnheard unheard 16 n refl
+
+pub none-unheards : noneFirst unheards ≡ true
+none-unheards = every-same isNotFirst unheard 16 0 refl
+
+pub few-unheards : (p : Plan) → planOk p ≡ true → ltb (heardCount unheards) (replies p) ≡ true
+unfolding heardCount
+few-unheards p e = let g = facts p e in lt-ltb 0 (replies p) (omega arith)
+
+pub slots-unheards : (d : List ℕ) (r : ℕ) (b : Bound) (n : ℕ) → slotsFit unheards d r b n ≡ true
+unfolding slotsFit slotFits
+slots-unheards d r b zero = refl
+slots-unheards d r b (suc n) = rw (slots-unheards d r b n, mark-same unheard 16 n)
+
+pub rest-set : (ms : List Mark) (n i : ℕ) (m : Mark) → i < n → restUnheard (set ms i m) n ≡ restUnheard ms n
+rest-set ms n i m h = ap (every isUnheard) (drop-set-lt n ms i m h)
+
+pub none-set : (ms : List Mark) (i : ℕ) → noneFirst ms ≡ true → noneFirst (set ms i (record { is = Record })) ≡ true
+none-set ms i e = every-set isNotFirst ms i (record { is = Record }) refl e
+
+-- ---- what follows a session in its ranges
+pub end-stands : (p : Plan) (s : Session) → StandingIs p s → StandingIs p (endedOf s)
+end-stands p s q = record { low = q .low; high = q .high; counted = q .counted; bounded = q .bounded; rest = q .rest; opening = q .opening }
+
+-- a write or repair round that opens
+pub storing-in-range : (p : Plan) (s : Session) (t : Timestamp) (d : List ℕ) → planOk p ≡ true → StandingIs p s → 1 ≤ t .time .0
+    → inRange p (storingOf s t) d ≡ true
+storing-in-range p s t d k q h =
+    open-in-range p (storingOf s t) d
+    (record { low = q .low; high = q .high; counted = q .counted; bounded = q .bounded; rest = rest-unheards (p .n); opening = q .opening })
+    (record { stamped = le-leb 1 (t .time .0) h; firsts = side (isRead (s .operation)); few = few-unheards p k; slots = other (isRead (s .operation)) })
+  where
+    side : (b : Bool) → ((b and false) or noneFirst unheards) ≡ true
+    side true = none-unheards
+    side false = none-unheards
+
+    other : (b : Bool) → (not (b and false) or slotsFit unheards d (recordLength p) (s .bound) (p .n)) ≡ true
+    other true = refl
+    other false = refl

@@ -1,0 +1,120 @@
+-- Laws of the request owed to a node. Assumes nothing.
+use Prim.Native.Nat.{ℕ, _+_, _*_, _≤_, _<_}
+use mathlib.Core.Path.{_≡_, refl, sym, ap, _∙_}
+use mathlib.Core.Bool.{Bool, true, false}
+use mathlib.Core.List.{List, []}
+use native.Mathlib.Omega.{arith}
+use borrow.Author.Tests.{eqb-true, leb-true, ltb-true, not-false}
+use lib.Dec.{eqb, ltb}
+use lib.ListN.{length}
+use Rattle.octets.specs.Bytes.{part, over, be}
+use Rattle.terms.specs.Ladder.{first}
+use Rattle.terms.specs.Terms.{planOk, recordLength, refusalNumber}
+use Rattle.terms.specs.Stamp.{stampNumber}
+use Rattle.terms.specs.declared.Plan.{Plan}
+use Rattle.terms.specs.declared.Refusal.{Refusal}
+use Rattle.terms.specs.declared.Timestamp.{Timestamp}
+use Rattle.terms.proofs.Plans.{plan-is}
+use Rattle.terms.proofs.Rungs.{both, refusal-one}
+use Rattle.frame.specs.Frame.{frame}
+use Rattle.frame.proofs.Built.{length-frame}
+use Rattle.rounds.specs.declared.Bound.{Bound}
+use Rattle.rounds.specs.declared.Bound.the-variants.{Free, Under}
+use Rattle.session.specs.declared.Session.{Session}
+use Rattle.session.specs.declared.Check.{Check}
+use Rattle.session.specs.declared.Check.the-variants.{Failed}
+use Rattle.session.specs.declared.owed.Owed.{Owed}
+use Rattle.session.specs.declared.owed.Owed.the-variants.{Refused, Request}
+use Rattle.session.specs.Session.{isRead, isStoring, askNow}
+use Rattle.session.specs.Ranges.{inRange}
+use Rattle.session.specs.Reply.{checkNumber}
+use Rattle.session.specs.Owed.{roomOk, owedLadder, readRequest, requestOf, refused, written, dueOf, dues, owedTo}
+use Rattle.session.proofs.Checks.{none-applies, goes-on, check-failed}
+use Rattle.session.proofs.Rules.{in-range-is}
+
+-- ---- lengths
+pub record Room (p : Plan) (desk request : ℕ) : Type 0 where
+  pub desk-is : desk ≡ p .n * recordLength p
+  pub request-low : recordLength p + 15 ≤ request
+
+pub room-is : (p : Plan) (desk request : ℕ) → roomOk p desk request ≡ true → Room p desk request
+unfolding roomOk
+room-is p desk request e =
+    let q = both (eqb desk (p .n * recordLength p)) _ e in
+    record { desk-is = eqb-true _ _ (q .0); request-low = leb-true _ _ (q .1) }
+
+-- ---- what is known where nothing refuses
+pub record Owing (p : Plan) (s : Session) (node : ℕ) (d : List ℕ) (request : ℕ) : Type 0 where
+  pub plan-ok : planOk p ≡ true
+  pub room : Room p (length d) request
+  pub round-low : 1 ≤ s .round
+  pub ask-high : s .opening .0 + s .round ≤ 18446744073709551615
+  pub node-low : node < p .n
+
+pub owing : (p : Plan) (s : Session) (node : ℕ) (d : List ℕ) (request : ℕ) → first (owedLadder p s node d request) (λ (k : ℕ). k) 0 ≡ 0
+    → Owing p s node d request
+owing p s node d request e =
+    let n = none-applies (owedLadder p s node d request) refl e in
+    let ok = not-false (planOk p) (n .0) in
+    let q = plan-is p ok in
+    let st = in-range-is p s d (inRange p s d) refl (not-false (inRange p s d) (n .1 .1 .0)) in
+    record {
+      plan-ok = ok;
+      room = room-is p (length d) request (not-false (roomOk p (length d) request) (n .1 .0));
+      round-low = st .round-low;
+      ask-high = omega arith;
+      node-low = ltb-true _ _ (not-false (ltb node (p .n)) (n .1 .1 .1 .1 .0));
+    }
+
+-- ---- the frame of the round
+-- a frame that was written, and its length
+pub the-same : (want got old new : List ℕ) (n : ℕ) → want ≡ got → (new ≡ over got old) × (n ≡ length got) → (new ≡ over want old) × (n ≡ length want)
+the-same want got old new n w e = (e .0 ∙ ap (λ (f : List ℕ). over f old) (sym w), e .1 ∙ ap length (sym w))
+
+pub sent : (want : List ℕ) (kind node ask : ℕ) (body old new : List ℕ) (n : ℕ) → want ≡ frame kind node ask body → length body ≡ n
+    → new ≡ over (frame kind node ask body) old → (new ≡ over want old) × (15 + n ≡ length want)
+sent want kind node ask body old new n w l e =
+    the-same want (frame kind node ask body) old new (15 + n) w (e, ap (λ (k : ℕ). 15 + k) (sym l) ∙ sym (length-frame kind node ask body))
+
+module _ (b : Bound) (node ask : ℕ) where
+  pub read-latest : b ≡ Free → readRequest b node ask ≡ frame 5 node ask []
+  unfolding readRequest
+  read-latest e = rw e
+
+  pub read-previous : (u : Timestamp) → b ≡ Under u → readRequest b node ask ≡ frame 6 node ask (be 40 (stampNumber u))
+  unfolding readRequest
+  read-previous u e = rw e
+
+module _ (p : Plan) (s : Session) (node : ℕ) (d : List ℕ) (ask : ℕ) (a : ask ≡ askNow s) (x : Bool) (g : x ≡ isStoring (s .stage)) where
+  pub stores : x ≡ true → (r : ℕ) → r ≡ recordLength p → requestOf p s node d ≡ frame 3 node ask (part d (node * r) r)
+  unfolding requestOf
+  stores t r e = rw (← g, t, a, e)
+
+  module _ (f : x ≡ false) (y : Bool) (h : y ≡ isRead (s .operation)) where
+    pub asks-record : y ≡ true → requestOf p s node d ≡ readRequest (s .bound) node ask
+    unfolding requestOf
+    asks-record t = rw (← g, f, ← h, t, a)
+
+    pub asks-time : y ≡ false → requestOf p s node d ≡ frame 1 node ask []
+    unfolding requestOf
+    asks-time t = rw (← g, f, ← h, t, a)
+
+-- ---- the outcome
+module _ (p : Plan) (s : Session) (node : ℕ) (d q : List ℕ) where
+  pub owed-refused : (x : Check) → checkNumber x ≡ first (owedLadder p s node d (length q)) (λ (k : ℕ). k) 0 → (r : Refusal) → x ≡ Failed r
+      → dues (refused (refusalNumber r)) q ≡ owedTo p s node d q
+  unfolding owedTo
+  owed-refused x e r t = check-failed (owedLadder p s node d (length q)) x e (λ (k : ℕ). dues (refused k) q) _ r t
+
+  pub owed-written : (n : ℕ) (new : List ℕ) → first (owedLadder p s node d (length q)) (λ (k : ℕ). k) 0 ≡ 0
+      → (new ≡ over (requestOf p s node d) q) × (n ≡ length (requestOf p s node d)) → dues (written n) new ≡ owedTo p s node d q
+  unfolding owedTo
+  owed-written n new e h =
+      (λ i. dues (written (h .1 i)) (h .0 i)) ∙ goes-on (λ (k : ℕ). dues (refused k) q) _ (owedLadder p s node d (length q)) refl e
+
+-- the answer in the document's terms tells the answer
+pub due-one : (x y : Owed) → dueOf x ≡ dueOf y → x ≡ y
+due-one (Refused r) (Refused q) e = let z : refusalNumber r ≡ refusalNumber q = cc in ap Refused (refusal-one r q z)
+due-one (Refused r) (Request n) e = let z : _≡_ {A = ℕ} 0 1 = cc in absurd (omega arith)
+due-one (Request n) (Refused r) e = let z : _≡_ {A = ℕ} 0 1 = cc in absurd (omega arith)
+due-one (Request m) (Request n) e = let z : m ≡ n = cc in ap Request z

@@ -1,0 +1,362 @@
+-- One law for each hard need of the reader's functions. Assumes nothing.
+use mathlib.Core.Path.{_≡_, refl, sym, ap, ap₂, _∙_}
+use mathlib.Core.Bool.{Bool, true, false}
+use mathlib.Core.List.{List, [], _∷_}
+use Prim.Native.Nat.{ℕ, zero, suc, _+_, _-_, _*_, _≤_, _<_}
+use native.Mathlib.Omega.{arith}
+use borrow.Author.Tests.{lt-ltb, le-ltb, lt-leb, le-leb, eqb-true, not-false}
+use lib.Dec.{eqb}
+use lib.ListN.{length, getD, take}
+use lib.Seq.{length-take-le, take-take, getD-take}
+use Rattle.octets.specs.Bytes.{part, put}
+use Rattle.terms.specs.Ladder.{first}
+use Rattle.terms.specs.declared.Refusal.{Refusal}
+use Rattle.terms.specs.Terms.{planOk, recordLength, complete, incomplete, decided, refusalNumber}
+use Rattle.terms.specs.Stamp.{stamp, stampNumber}
+use Rattle.terms.specs.declared.Plan.{Plan}
+use Rattle.terms.specs.declared.Timestamp.{Timestamp}
+use Rattle.terms.specs.declared.Clients.the-variants.{Crash, Byzantine}
+use Rattle.terms.specs.declared.Verdict.{Verdict}
+use Rattle.terms.specs.declared.Verdict.the-variants.{Complete, Repair, Aborted, Incomplete}
+use Rattle.terms.proofs.Rungs.{None, both}
+use Rattle.terms.proofs.Plans.{PlanIs, plan-is}
+use Rattle.terms.proofs.Facts.{facts}
+use Rattle.fragments.specs.Fragments.{All, from, laid, Sources}
+use Rattle.frame.specs.Frame.{kindOf, frameNode, bodyOf, goodReply}
+use Rattle.frame.proofs.Frames.{reply-is, body-is}
+use Rattle.rounds.specs.declared.Heard.the-variants.{First, Record}
+use Rattle.rounds.specs.declared.Lead.{Lead}
+use Rattle.rounds.specs.declared.Lead.the-variants.{Nobody, Node}
+use Rattle.rounds.specs.declared.Close.{Close}
+use Rattle.record.specs.Record.{hashesOk, timeZero}
+use Rattle.rounds.specs.Rounds.{underOf, heardCount, leadOf, setOf, listed, told, Closed, closeWith, closeOf}
+use Rattle.rounds.proofs.Laws.{lead-room, size-is, slot-room}
+use Rattle.rounds.proofs.Closes.{members-are, decided-complete, decided-repair}
+use Rattle.recover.specs.Recover.{validates, refilled}
+use Rattle.session.specs.declared.Session.{Session}
+use Rattle.session.specs.Session.{isStoring, replies, markedOf, endedOf, nextOf, storingOf, stillOpen, done, neverWritten, aborted, roundsSpent, refused}
+use Rattle.session.specs.declared.Check.{Check}
+use Rattle.session.specs.declared.Check.the-variants.{Passed, Failed}
+use Rattle.session.specs.declared.Operation.{Operation}
+use Rattle.session.specs.declared.Operation.the-variants.{Read}
+use Rattle.session.specs.Reply.{bears, lengthsOk, replyLadder, recordLadder, checkNumber}
+use Rattle.session.proofs.Rules.{lengths-are}
+use Rattle.session.proofs.Checks.{none-applies, goes-on as ladder-goes-on, check-passed, check-failed}
+use Rattle.session.specs.Reader.{Outcome, outcome, headLength, lowest, sound, decoded, collected, repaired, failing, actOn, actFor, acted, closed, settled, heard, stored, accepted, readReply, Usable, Acting}
+
+-- ---- lengths
+record-sum : (p : Plan) → recordLength p ≡ 40 + 32 * p .n + p .f
+unfolding recordLength
+record-sum p = refl
+
+-- ---- a set that can be decoded
+module _ (p : Plan) (c : Close) (a : ℕ) (d : List ℕ) (u : Usable p c a d) where
+  pub plan : PlanIs p
+  plan = plan-is p (u .plan)
+
+  pub m16 : p .m ≤ 16
+  m16 = let f = facts p (u .plan) in let q = plan-is p (u .plan) in omega arith
+
+  pub few : p .m ≡ length (take (p .m) (c .set .nodes))
+  few = sym (length-take-le (p .m) (c .set .nodes) (omega (arith, m16, u .nodes)))
+
+  pub desk-is : length d ≡ p .n * (40 + 32 * p .n + p .f)
+  desk-is = u .desk ∙ rw (record-sum p)
+
+  pub sources : Sources d (40 + 32 * p .n) (40 + 32 * p .n + p .f) (p .f) (take (p .m) (c .set .nodes))
+  sources k h =
+      let hk : k < p .m = omega (arith, few) in
+      let e : getD (take (p .m) (c .set .nodes)) k 0 ≡ getD (c .set .nodes) k 0 = getD-take (p .m) (c .set .nodes) k 0 hk in
+      let r = slot-room (getD (c .set .nodes) k 0) (p .n) (40 + 32 * p .n + p .f) (length d) (u .below k hk) (omega (arith, desk-is)) in
+      rw e (omega (arith, r))
+
+  pub head-room : a * (40 + 32 * p .n + p .f) + 40 + 32 * p .n ≤ length d
+  head-room = let r = slot-room a (p .n) (40 + 32 * p .n + p .f) (length d) (u .lead) (omega (arith, desk-is)) in omega (arith, r)
+
+  lowest-is : lowest p (told c) ≡ take (p .m) (c .set .nodes)
+  lowest-is = take-take (p .m) (c .set .size) (c .set .nodes) (u .size)
+
+  pub sound-crash : p .clients ≡ Crash → true ≡ sound p (told c) a d
+  unfolding sound
+  sound-crash e = rw e
+
+  pub sound-told : (x : Bool) → p .clients ≡ Byzantine
+      → x ≡ validates d (40 + 32 * p .n) (40 + 32 * p .n + p .f) (p .f) (take (p .m) (c .set .nodes)) a (p .n) → x ≡ sound p (told c) a d
+  unfolding sound
+  sound-told x e v =
+      let g : validates d (40 + 32 * p .n) (40 + 32 * p .n + p .f) (p .f) (take (p .m) (c .set .nodes)) a (p .n) ≡ validates d (headLength p) (recordLength p) (p .f) (lowest p (told c)) a (p .n) =
+      ap₂ (λ (r : ℕ) (qs : List ℕ). validates d (headLength p) r (p .f) qs a (p .n)) (sym (record-sum p)) (sym lowest-is) in
+      v ∙ g ∙ rw e
+
+  pub decoded-is : (i x : List ℕ) → x ≡ laid d (40 + 32 * p .n) (40 + 32 * p .n + p .f) (p .f) (take (p .m) (c .set .nodes)) 0 (p .f) (p .m) i → x ≡ decoded p (told c) d i
+  unfolding decoded
+  decoded-is i x v = v ∙ rw (lowest-is, record-sum p)
+
+  pub repaired-is : (x : List ℕ) → x ≡ refilled d (40 + 32 * p .n) (40 + 32 * p .n + p .f) (p .f) (take (p .m) (c .set .nodes)) a (p .n) → x ≡ repaired p (told c) a d
+  unfolding repaired
+  repaired-is x v = v ∙ rw (lowest-is, record-sum p)
+
+-- ---- the first m slots
+pub first-slots : (p : Plan) (d : List ℕ) → planOk p ≡ true → length d ≡ p .n * recordLength p
+    → (k : ℕ) → k < p .m → 40 + 32 * p .n + k * (40 + 32 * p .n + p .f) + p .f ≤ length d
+first-slots p d ok l k h =
+    let f = facts p ok in
+    let e : length d ≡ p .n * (40 + 32 * p .n + p .f) = l ∙ rw (record-sum p) in
+    let r = slot-room k (p .n) (40 + 32 * p .n + p .f) (length d) (omega arith) (omega arith) in
+    omega (arith, r)
+
+pub collected-is : (p : Plan) (d i x : List ℕ) → x ≡ laid d (40 + 32 * p .n) (40 + 32 * p .n + p .f) (p .f) (from 0 (p .m)) 0 (p .f) (p .m) i → x ≡ collected p d i
+unfolding collected
+collected-is p d i x v = v ∙ rw (record-sum p)
+
+-- ---- each way that a closed round can go
+module _ (p : Plan) (s : Session) (t : Timestamp) (d i : List ℕ) where
+  pub spent : (e : Session) → p .w ≤ s .round → e ≡ endedOf s → outcome (roundsSpent (s .round)) e d i ≡ failing p s t d i
+  unfolding failing
+  spent e h q = rw (le-leb (p .w) (s .round) h, q)
+
+  pub goes-on : (e : Session) → s .round < p .w → e ≡ nextOf s t → outcome stillOpen e d i ≡ failing p s t d i
+  unfolding failing
+  goes-on e h q = rw (lt-leb (p .w) (s .round) h, q)
+
+module _ (p : Plan) (s : Session) (c : Closed) (a : ℕ) (d i : List ℕ) (v : Verdict) where
+  pub act-done : (x : Bool) (e : Session) (y : List ℕ) → v ≡ Complete → x ≡ sound p c a d → x ≡ true → e ≡ endedOf s → y ≡ decoded p c d i
+      → outcome (done (stampNumber (c .stamp)) (s .round)) e d y ≡ actOn v p s c a d i
+  unfolding actOn
+  act-done x e y k f t q r = rw (k, ← f, t, q, r)
+
+  pub act-ill : (x : Bool) (o : Outcome) → v ≡ Complete → x ≡ sound p c a d → x ≡ false → o ≡ failing p s (c .stamp) d i → o ≡ actOn v p s c a d i
+  unfolding actOn
+  act-ill x o k f t q = q ∙ rw (k, ← f, t)
+
+  pub act-repair : (x : Bool) (e : Session) (y : List ℕ) → v ≡ Repair → x ≡ sound p c a d → x ≡ true → e ≡ storingOf s (c .stamp) → y ≡ repaired p c a d
+      → outcome stillOpen e y i ≡ actOn v p s c a d i
+  unfolding actOn
+  act-repair x e y k f t q r = rw (k, ← f, t, q, r)
+
+  pub act-unsound : (x : Bool) (o : Outcome) → v ≡ Repair → x ≡ sound p c a d → x ≡ false → o ≡ failing p s (c .stamp) d i → o ≡ actOn v p s c a d i
+  unfolding actOn
+  act-unsound x o k f t q = q ∙ rw (k, ← f, t)
+
+  pub act-aborted : (e : Session) → v ≡ Aborted → e ≡ endedOf s → outcome (aborted (s .round)) e d i ≡ actOn v p s c a d i
+  unfolding actOn
+  act-aborted e k q = rw (k, q)
+
+  pub act-incomplete : (o : Outcome) → v ≡ Incomplete → o ≡ failing p s (c .stamp) d i → o ≡ actOn v p s c a d i
+  unfolding actOn
+  act-incomplete o k q = q ∙ rw k
+
+module _ (p : Plan) (s : Session) (c : Closed) (d i : List ℕ) where
+  pub act-never : (e : Session) → c .lead ≡ Nobody → e ≡ endedOf s → outcome (neverWritten (s .round)) e d i ≡ acted p s c d i
+  unfolding actFor
+  act-never e k q = rw (k, q)
+
+  pub act-led : (a : ℕ) (o : Outcome) → c .lead ≡ Node a → o ≡ actOn (c .verdict) p s c a d i → o ≡ acted p s c d i
+  unfolding actFor
+  act-led a o k q = q ∙ rw k
+
+-- ---- a close that is this round's can be acted on
+all-at : (P : ℕ → Type 0) (l : List ℕ) → All P l → (k : ℕ) → k < length l → P (getD l k 0)
+all-at P [] h k u = absurd (omega arith)
+all-at P (x ∷ l) h zero u = h .0
+all-at P (x ∷ l) h (suc k) u = all-at P l (h .1) k (omega arith)
+
+module _ (p : Plan) (s : Session) (d : List ℕ) (c : Close) (ok : planOk p ≡ true) (l : length d ≡ p .n * recordLength p)
+    (t : told c ≡ closed p s d) (len : length (c .set .nodes) ≡ 16) (few : c .set .size ≤ p .n) where
+  -- the lead of the close is the round's
+  with-lead : (x : Lead) → closeWith (s .marks) d (p .n) (headLength p) (recordLength p) (p .member) (complete p) (incomplete p) x .lead ≡ x
+  unfolding closeWith
+  with-lead Nobody = refl
+  with-lead (Node a) = refl
+
+  leads : (a : ℕ) → c .lead ≡ Node a → leadOf (s .marks) d (recordLength p) (p .n) ≡ Node a
+  leads a e = sym (with-lead (leadOf (s .marks) d (recordLength p) (p .n))) ∙ sym (ap (λ (x : Closed). x .lead) t) ∙ e
+
+  pub record Set-is (a : ℕ) : Type 0 where
+    pub nodes : listed (c .set) ≡ setOf (s .marks) d (recordLength p) (headLength p) a (p .n)
+    pub verdict : c .verdict ≡ decided (p .member) (complete p) (incomplete p) (length (setOf (s .marks) d (recordLength p) (headLength p) a (p .n)))
+
+  set-is : (a : ℕ) → c .lead ≡ Node a → Set-is a
+  unfolding closeWith
+  set-is a e =
+      let q : told c ≡ closeWith (s .marks) d (p .n) (headLength p) (recordLength p) (p .member) (complete p) (incomplete p) (Node a) =
+      t ∙ ap (closeWith (s .marks) d (p .n) (headLength p) (recordLength p) (p .member) (complete p) (incomplete p)) (leads a e) in
+      record { nodes = ap (λ (x : Closed). x .nodes) q; verdict = ap (λ (x : Closed). x .verdict) q }
+
+  usable : (a : ℕ) (e : c .lead ≡ Node a) → p .m ≤ length (setOf (s .marks) d (recordLength p) (headLength p) a (p .n)) → Usable p c a d
+  usable a e m =
+      let q = set-is a e in
+      let n16 = plan-is p ok .n-high in
+      let size : c .set .size ≡ length (setOf (s .marks) d (recordLength p) (headLength p) a (p .n)) = size-is (c .set) (setOf (s .marks) d (recordLength p) (headLength p) a (p .n)) len (omega arith) (q .nodes) in
+      let all = members-are (s .marks) d (recordLength p) (headLength p) a (p .n) .below in
+      record {
+        plan = ok;
+        desk = l;
+        lead = lead-room (s .marks) d (recordLength p) (p .n) a (leadOf (s .marks) d (recordLength p) (p .n)) refl (leads a e);
+        nodes = len;
+        size = omega arith;
+        below = λ k u.
+            let b : getD (setOf (s .marks) d (recordLength p) (headLength p) a (p .n)) k 0 < p .n = all-at (λ (y : ℕ). y < p .n) (setOf (s .marks) d (recordLength p) (headLength p) a (p .n)) all k (omega arith) in
+            let g : getD (c .set .nodes) k 0 ≡ getD (setOf (s .marks) d (recordLength p) (headLength p) a (p .n)) k 0 =
+            sym (getD-take (c .set .size) (c .set .nodes) k 0 (omega arith)) ∙ ap (λ (x : List ℕ). getD x k 0) (q .nodes) in
+            omega (arith, b, g);
+      }
+
+  pub acting : (i : List ℕ) → length i ≡ p .m * p .f → Acting p c d i
+  acting i li =
+      record {
+        plan = ok;
+        item = li;
+        whole = λ a e v. let f = facts p ok in usable a e (omega (arith, decided-complete (p .member) (complete p) (incomplete p) (length (setOf (s .marks) d (recordLength p) (headLength p) a (p .n))) (sym (set-is a e .verdict) ∙ v)));
+        half = λ a e v.
+            let f = facts p ok in
+            let g = decided-repair (p .member) (complete p) (incomplete p) (length (setOf (s .marks) d (recordLength p) (headLength p) a (p .n))) (sym (set-is a e .verdict) ∙ v) in
+            usable a e (omega (arith, g .0, f .low-decodes (g .1)));
+      }
+
+-- ---- after a mark
+module _ (p : Plan) (s : Session) (d i : List ℕ) (n : ℕ) (e : n ≡ heardCount (s .marks)) where
+  pub settled-open : n < p .n - p .t → outcome stillOpen s d i ≡ settled p s d i
+  unfolding settled
+  settled-open h = rw (lt-ltb (heardCount (s .marks)) (replies p) (omega arith))
+
+  pub settled-acts : (o : Outcome) (c : Closed) → p .n - p .t ≤ n → c ≡ closed p s d → o ≡ acted p s c d i → o ≡ settled p s d i
+  unfolding settled
+  settled-acts o c h k q = q ∙ rw (k, le-ltb (heardCount (s .marks)) (replies p) (omega arith))
+
+-- ---- an accepted reply
+module _ (p : Plan) (s : Session) (f d i : List ℕ) (x : Bool) (b : x ≡ bears p f) where
+  pub heard-first : (k : ℕ) (m : Session) (o : Outcome) → x ≡ false → k ≡ frameNode f → m ≡ markedOf s k First → o ≡ settled p m d i → o ≡ heard p s f d i
+  unfolding heard
+  heard-first k m o t e g q = q ∙ rw (← b, t, g, e)
+
+  pub heard-record : (k : ℕ) (m : Session) (d₂ : List ℕ) (o : Outcome) → x ≡ true → k ≡ frameNode f → m ≡ markedOf s k Record
+      → d₂ ≡ put d (k * recordLength p) (bodyOf f) → o ≡ settled p m d₂ i → o ≡ heard p s f d i
+  unfolding heard
+  heard-record k m d₂ o t e g w q = q ∙ rw (← b, t, g, w, e)
+
+-- what a reply that bears a record is
+pub bears-is : (p : Plan) (f : List ℕ) (x : Bool) → x ≡ bears p f → x ≡ true → (kindOf f ≡ 7) × (length f ≡ 15 + recordLength p)
+unfolding bears
+bears-is p f x e t =
+    let q = both (eqb (kindOf f) 7) _ (sym e ∙ t) in
+    (eqb-true (kindOf f) 7 (q .0), eqb-true (length f) (15 + recordLength p) (q .1))
+
+pub body-at : (p : Plan) (f : List ℕ) (r : ℕ) → r ≡ recordLength p → length f ≡ 15 + recordLength p → part f 15 r ≡ bodyOf f
+body-at p f r e l = rw e (sym (body-is 15 f (recordLength p) l))
+
+-- an accepted reply of a repair round
+module _ (p : Plan) (s m : Session) (f d i : List ℕ) (k n : ℕ) (e : k ≡ frameNode f) (g : m ≡ markedOf s k Record) (c : n ≡ heardCount (m .marks)) where
+  marks-are : n ≡ heardCount (markedOf s (frameNode f) Record .marks)
+  marks-are = c ∙ rw (g, e)
+
+  pub stored-open : n < p .n - p .t → outcome stillOpen m d i ≡ stored p s f d i
+  unfolding stored
+  stored-open h = rw (lt-ltb (heardCount (markedOf s (frameNode f) Record .marks)) (replies p) (omega (arith, marks-are)), g, e)
+
+  pub stored-done : (o : Session) (y : List ℕ) → p .n - p .t ≤ n → o ≡ endedOf m → y ≡ collected p d i
+      → outcome (done (stampNumber (s .stamp)) (s .round)) o d y ≡ stored p s f d i
+  unfolding stored
+  stored-done o y h q r = rw (le-ltb (heardCount (markedOf s (frameNode f) Record .marks)) (replies p) (omega (arith, marks-are)), q, g, e, r)
+
+pub accept-stored : (p : Plan) (s : Session) (f d i : List ℕ) (x : Bool) (o : Outcome) → x ≡ isStoring (s .stage) → x ≡ true → o ≡ stored p s f d i → o ≡ accepted p s f d i
+unfolding accepted
+accept-stored p s f d i x o e t q = q ∙ rw (← e, t)
+
+pub accept-heard : (p : Plan) (s : Session) (f d i : List ℕ) (x : Bool) (o : Outcome) → x ≡ isStoring (s .stage) → x ≡ false → o ≡ heard p s f d i → o ≡ accepted p s f d i
+unfolding accepted
+accept-heard p s f d i x o e t q = q ∙ rw (← e, t)
+
+-- what is known where a reply passed
+pub record Passes (p : Plan) (f d : List ℕ) (item : ℕ) : Type 0 where
+  pub plan : planOk p ≡ true
+  pub frame : goodReply p f ≡ true
+  pub desk : length d ≡ p .n * recordLength p
+  pub item-is : item ≡ p .m * p .f
+
+module _ (op : Operation) (p : Plan) (s : Session) (f d : List ℕ) (item : ℕ) (k : Check) (e : checkNumber k ≡ first (replyLadder op p s f d item) (λ (n : ℕ). n) 0) where
+  check-none : k ≡ Passed → None (replyLadder op p s f d item)
+  check-none q = none-applies (replyLadder op p s f d item) refl (check-passed (replyLadder op p s f d item) k e q)
+
+  pub check-passes : k ≡ Passed → Passes p f d item
+  check-passes q =
+      let n = check-none q in
+      let l = lengths-are p (length d) item (not-false (lengthsOk p (length d) item) (n .1 .0)) in
+      record {
+        plan = not-false (planOk p) (n .0);
+        frame = not-false (goodReply p f) (n .1 .1 .1 .1 .0);
+        desk = l .desk-is;
+        item-is = l .item-is;
+      }
+
+-- ---- the call
+module _ (p : Plan) (s : Session) (f d i : List ℕ) (k : Check) (e : checkNumber k ≡ first (replyLadder Read p s f d (length i)) (λ (n : ℕ). n) 0) where
+  pub refused-early : (r : Refusal) → k ≡ Failed r → outcome (refused (refusalNumber r)) s d i ≡ readReply p s f d i
+  unfolding readReply
+  refused-early r q = check-failed (replyLadder Read p s f d (length i)) k e (λ (n : ℕ). outcome (refused n) s d i) _ r q
+
+  module _ (j : Check) (g : checkNumber j ≡ first (recordLadder p s f) (λ (n : ℕ). n) 0) (q : k ≡ Passed) where
+    past : first (recordLadder p s f) (λ (n : ℕ). outcome (refused n) s d i) (accepted p s f d i) ≡ readReply p s f d i
+    unfolding readReply
+    past = ladder-goes-on (λ (n : ℕ). outcome (refused n) s d i) _ (replyLadder Read p s f d (length i)) refl (check-passed (replyLadder Read p s f d (length i)) k e q)
+
+    pub refused-late : (r : Refusal) → j ≡ Failed r → outcome (refused (refusalNumber r)) s d i ≡ readReply p s f d i
+    refused-late r w = check-failed (recordLadder p s f) j g (λ (n : ℕ). outcome (refused n) s d i) (accepted p s f d i) r w ∙ past
+
+    pub accepts : (o : Outcome) → j ≡ Passed → o ≡ accepted p s f d i → o ≡ readReply p s f d i
+    accepts o w a = a ∙ ladder-goes-on (λ (n : ℕ). outcome (refused n) s d i) (accepted p s f d i) (recordLadder p s f) refl (check-passed (recordLadder p s f) j g w) ∙ past
+
+-- ---- the close, with the lengths and thresholds that the code worked out
+pub desk-sum : (p : Plan) (d : List ℕ) → length d ≡ p .n * recordLength p → length d ≡ p .n * (40 + 32 * p .n + p .f)
+desk-sum p d l = l ∙ rw (record-sum p)
+
+pub closed-is : (p : Plan) (s : Session) (d : List ℕ) (x : Closed) (high low : ℕ) → high ≡ complete p → low ≡ incomplete p
+    → x ≡ closeOf (s .marks) d (p .n) (40 + 32 * p .n) (40 + 32 * p .n + p .f) (p .member) high low → x ≡ closed p s d
+closed-is p s d x high low e f q =
+    q ∙ ap₂ (λ (a b : ℕ). closeOf (s .marks) d (p .n) (40 + 32 * p .n) (40 + 32 * p .n + p .f) (p .member) a b) e f
+    ∙ ap (λ (r : ℕ). closeOf (s .marks) d (p .n) (headLength p) r (p .member) (complete p) (incomplete p)) (sym (record-sum p))
+
+-- ---- rungs 5, 6, 12
+module _ (p : Plan) (s : Session) (f : List ℕ) (x : Bool) (b : x ≡ bears p f) where
+  pub no-record : x ≡ false → 0 ≡ first (recordLadder p s f) (λ (n : ℕ). n) 0
+  unfolding first
+  no-record t = rw (← b, t)
+
+  module _ (t : x ≡ true) (y : Bool) (z : y ≡ timeZero (bodyOf f)) where
+    pub zero-time : y ≡ true → 5 ≡ first (recordLadder p s f) (λ (n : ℕ). n) 0
+    unfolding first
+    zero-time e = rw (← b, t, ← z, e)
+
+    module _ (u : y ≡ false) (v : Bool) (w : v ≡ hashesOk p (frameNode f) (bodyOf f)) where
+      pub ill-hash : v ≡ false → 6 ≡ first (recordLadder p s f) (λ (n : ℕ). n) 0
+      unfolding first
+      ill-hash e = rw (← b, t, ← z, u, ← w, e)
+
+      module _ (g : v ≡ true) (o : Bool) (q : o ≡ underOf (s .bound) (stamp (bodyOf f))) where
+        pub too-high : o ≡ false → 12 ≡ first (recordLadder p s f) (λ (n : ℕ). n) 0
+        unfolding first
+        too-high e = rw (← b, t, ← z, u, ← w, g, ← q, e)
+
+        pub all-well : o ≡ true → 0 ≡ first (recordLadder p s f) (λ (n : ℕ). n) 0
+        unfolding first
+        all-well e = rw (← b, t, ← z, u, ← w, g, ← q, e)
+
+pub record-long : (p : Plan) → 40 ≤ recordLength p
+unfolding recordLength
+record-long p = omega arith
+
+pub hashes-at : (p : Plan) (f : List ℕ) (k : ℕ) (x : Bool) → x ≡ bears p f → x ≡ true → k ≡ frameNode f → (y : Bool)
+    → y ≡ hashesOk p k (part f 15 (recordLength p)) → y ≡ hashesOk p (frameNode f) (bodyOf f)
+hashes-at p f k x b t e y q = q ∙ ap₂ (hashesOk p) e (body-at p f (recordLength p) refl (bears-is p f x b t .1))
+
+-- ---- a record in its slot
+pub slot-fits-desk : (p : Plan) (f d : List ℕ) (k r : ℕ) → goodReply p f ≡ true → k ≡ frameNode f → r ≡ recordLength p → length d ≡ p .n * recordLength p
+    → k * r + r ≤ length d
+slot-fits-desk p f d k r g e q l =
+    let n : k < p .n = omega (arith, e, reply-is p f g .node-low) in
+    rw q (slot-room k (p .n) (recordLength p) (length d) n (omega arith))
+
+pub slot-body : (p : Plan) (f d : List ℕ) (k r : ℕ) (x : Bool) → x ≡ bears p f → x ≡ true → r ≡ recordLength p
+    → put d (k * r) (part f 15 r) ≡ put d (k * recordLength p) (bodyOf f)
+slot-body p f d k r x b t q =
+    ap (λ (g : List ℕ). put d (k * r) g) (body-at p f r q (bears-is p f x b t .1)) ∙ ap (λ (n : ℕ). put d (k * n) (bodyOf f)) q

@@ -1,0 +1,137 @@
+-- How code goes down a list of rules, and what is known when all hold. Assumes nothing.
+use mathlib.Core.Path.{_≡_, refl, sym, ap, _∙_}
+use mathlib.Core.Bool.{Bool, true, false, cond, not}
+use mathlib.Core.List.{List, [], _∷_}
+use Prim.Native.Nat.{ℕ, _-_, _*_, _≤_}
+use native.Mathlib.Nat.{le-trans, mul-le-mul-right, mul-le-mul-left}
+use native.Mathlib.Omega.{arith}
+use borrow.Author.Tests.{leb-true, eqb-true, eq-eqb, ne-eqb}
+use lib.ListN.{length}
+use lib.Dec.{leb, eqb}
+use Rattle.terms.specs.Ladder.{all, _and_, _or_}
+use Rattle.terms.specs.declared.Plan.{Plan}
+use Rattle.terms.specs.declared.Timestamp.{Timestamp}
+use Rattle.terms.specs.Stamp.{stamp, stampNumber, stampAt}
+use Rattle.terms.proofs.Stamps.{stamp-at-number}
+use Rattle.terms.proofs.Rungs.{both}
+use Rattle.octets.specs.Bytes.{part, num}
+use Rattle.frame.specs.Frame.{kindOf, askOf, bodyOf}
+use Rattle.frame.proofs.Frames.{ReplyIs, length-4}
+use Rattle.rounds.specs.Rounds.{restUnheard}
+use Rattle.session.specs.declared.Session.{Session}
+use Rattle.session.specs.Session.{isRead, isStoring, askNow, kindAwaited}
+use Rattle.session.specs.Reply.{awaited, lengthsOk}
+use Rattle.terms.specs.Terms.{recordLength}
+use Rattle.session.specs.Ranges.{boundOk, standingRules, inRange}
+
+-- a rule that fails; one that holds; the last
+pub fails : {b : Bool} (xs : List Bool) → b ≡ false → false ≡ all (b ∷ xs)
+unfolding all
+fails xs e = rw e
+
+pub holds : {b : Bool} (xs : List Bool) {z : Bool} → b ≡ true → z ≡ all xs → z ≡ all (b ∷ xs)
+unfolding all
+holds xs e p = rw e p
+
+pub last : {b z : Bool} → z ≡ b → z ≡ all (b ∷ [])
+unfolding all
+last {b} e = e ∙ side b
+  where
+    side : (b : Bool) → b ≡ cond b true false
+    side true = refl
+    side false = refl
+
+-- one condition and another, tested one after the other
+pub and-fails : {a : Bool} (b : Bool) → a ≡ false → false ≡ (a and b)
+and-fails b e = rw e
+
+pub and-last : {a b z : Bool} → a ≡ true → z ≡ b → z ≡ (a and b)
+and-last e p = rw e p
+
+pub or-holds : {a : Bool} (b : Bool) → a ≡ true → true ≡ (a or b)
+or-holds b e = rw e
+
+pub or-last : {a b z : Bool} → a ≡ false → z ≡ b → z ≡ (a or b)
+or-last e p = rw e p
+
+pub flip : {a b : Bool} → a ≡ b → not a ≡ not b
+flip e = ap not e
+
+-- a product of two bounded numbers
+pub product-low : (a b x y : ℕ) → a ≤ x → b ≤ y → a * b ≤ x * y
+product-low a b x y h k = le-trans (mul-le-mul-right b h) (mul-le-mul-left x k)
+
+-- ---- what a session in its ranges is known to be
+pub record Standing (p : Plan) (s : Session) : Type 0 where
+  pub round-low : 1 ≤ s .round
+  pub round-high : s .round ≤ p .w
+  pub ask-high : s .opening .0 ≤ 18446744073709551615 - p .w
+
+pub standing-is : (p : Plan) (s : Session) → standingRules p s ≡ true → Standing p s
+unfolding standingRules all
+standing-is p s e =
+    let e1 = both (leb 1 (s .round)) _ e in
+    let e2 = both (leb (s .round) (p .w)) _ (e1 .1) in
+    let e3 = both (isRead (s .operation) or eqb (s .round) 1) _ (e2 .1) in
+    let e4 = both (boundOk (s .bound) (s .round)) _ (e3 .1) in
+    let e5 = both (restUnheard (s .marks) (p .n)) _ (e4 .1) in
+    let e6 = both (leb (s .opening .0) (18446744073709551615 - p .w)) _ (e5 .1) in
+    record { round-low = leb-true _ _ (e1 .0); round-high = leb-true _ _ (e2 .0); ask-high = leb-true _ _ (e6 .0) }
+
+pub in-range-is : (p : Plan) (s : Session) (d : List ℕ) (x : Bool) → x ≡ inRange p s d → x ≡ true → Standing p s
+unfolding inRange
+in-range-is p s d x e t = standing-is p s (both (standingRules p s) _ (sym e ∙ t) .0)
+
+-- a write reply bears a timestamp
+pub reply-stamped : (p : Plan) (f : List ℕ) → ReplyIs p f → kindOf f ≡ 4 → 55 ≤ length f
+reply-stamped p f r k = omega (arith, length-4 (r .frame-is) k)
+
+-- the timestamp that a body starts with
+pub body-stamp : (f : List ℕ) → num (part f 15 40) ≡ stamp (bodyOf f)
+unfolding part
+body-stamp f = refl
+
+-- ---- what a round awaits, tested one after the other
+module _ (s : Session) (f : List ℕ) (ask now : ℕ) (a : ask ≡ askOf f) (b : now ≡ askNow s) where
+  pub other-ask : (ask ≡ now → ⊥) → false ≡ awaited s f
+  other-ask n = unfold awaited in rw (ne-eqb (askOf f) (askNow s) (λ e. n (a ∙ e ∙ sym b)))
+
+  module _ (same : ask ≡ now) (kind want : ℕ) (k : kind ≡ kindOf f) (w : want ≡ kindAwaited s) where
+    asks : eqb (askOf f) (askNow s) ≡ true
+    asks = eq-eqb (askOf f) (askNow s) (sym a ∙ same ∙ b)
+
+    pub other-kind : (kind ≡ want → ⊥) → false ≡ awaited s f
+    other-kind n = unfold awaited in rw (asks, ne-eqb (kindOf f) (kindAwaited s) (λ e. n (k ∙ e ∙ sym w)))
+
+    module _ (like : kind ≡ want) (x : Bool) (g : x ≡ isStoring (s .stage)) where
+      kinds : eqb (kindOf f) (kindAwaited s) ≡ true
+      kinds = eq-eqb (kindOf f) (kindAwaited s) (sym k ∙ like ∙ w)
+
+      pub no-stamp : x ≡ false → true ≡ awaited s f
+      no-stamp e = unfold awaited in rw (asks, kinds, ← g, e)
+
+      -- a write reply bears a timestamp, which is compared
+      pub stamp-there : x ≡ true → (kindOf f ≡ 4 → 55 ≤ length f) → 55 ≤ length f
+      stamp-there e h =
+          let q : kindAwaited s ≡ 4 = unfold kindAwaited in rw (← g, e) in
+          h (sym k ∙ like ∙ w ∙ q)
+
+      pub stamp-told : x ≡ true → (t : Timestamp) (y : Bool) → t ≡ stampAt f 15 → 55 ≤ length f → y ≡ eqb (stampNumber t) (stampNumber (s .stamp)) → y ≡ awaited s f
+      unfolding awaited
+      stamp-told e t y p l q =
+          let n : stampNumber t ≡ stamp (bodyOf f) = ap stampNumber p ∙ stamp-at-number f 15 l ∙ body-stamp f in
+          q ∙ rw (asks, kinds, ← g, e, n)
+
+-- ---- lengths
+pub record Lengths (p : Plan) (desk item : ℕ) : Type 0 where
+  pub desk-is : desk ≡ p .n * recordLength p
+  pub item-is : item ≡ p .m * p .f
+
+pub lengths-are : (p : Plan) (desk item : ℕ) → lengthsOk p desk item ≡ true → Lengths p desk item
+unfolding lengthsOk
+lengths-are p desk item e =
+    let q = both (eqb desk (p .n * recordLength p)) _ e in
+    record { desk-is = eqb-true _ _ (q .0); item-is = eqb-true _ _ (q .1) }
+
+pub desk-fits : (p : Plan) (desk item : ℕ) → lengthsOk p desk item ≡ true → desk ≡ p .n * recordLength p
+desk-fits p desk item e = lengths-are p desk item e .desk-is

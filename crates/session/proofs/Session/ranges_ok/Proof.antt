@@ -1,0 +1,33 @@
+use mathlib.Core.Path.{sym, _∙_}
+use borrow.Author.Tests.{not-true, not-false}
+use Rattle.session.specs.Ranges.{inRange}
+use Rattle.session.proofs.Rules as rules
+use borrow.Author.Needs.{needs}
+use Rattle.session.proofs.Session.ranges_ok.Statement.{statement}
+use Rattle.session.proofs.Session.ranges_ok.Tie as tie
+
+stands-requires : tie.Need-stands-requires
+stands-requires c κs = search needs
+
+returns : tie.Need-returns
+unfolding inRange
+returns c = rules.and-fails _ (sym (c .before .stands .ensures) ∙ not-true (c .before .stands .result) (c .if1 .taken))
+
+ended-requires : tie.Need-ended-requires
+ended-requires c κs = search needs
+
+returns-2 : tie.Need-returns-2
+unfolding inRange
+returns-2 c = rules.and-last (sym (c .before .before .before .stands .ensures) ∙ not-false (c .before .before .before .stands .result) (c .before .before .if1 .left)) (rules.or-holds _ (sym (c .before .ended .ensures) ∙ c .if2 .taken))
+
+open-ok-requires : tie.Need-open-ok-requires
+open-ok-requires c κs = search needs
+
+returns-3 : tie.Need-returns-3
+unfolding inRange
+returns-3 c = rules.and-last (sym (c .before .before .before .before .stands .ensures) ∙ not-false (c .before .before .before .before .stands .result) (c .before .before .before .if1 .left)) (rules.or-last (sym (c .before .before .ended .ensures) ∙ c .before .if2 .left) (c .open-ok .ensures))
+
+pub ranges-ok-spec : {M : Type 1} → statement M
+ranges-ok-spec =
+    tie.close
+    (tie.spec stands-requires returns ended-requires returns-2 open-ok-requires returns-3)

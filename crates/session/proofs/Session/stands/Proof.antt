@@ -1,0 +1,60 @@
+use mathlib.Core.Path.{refl, sym, _∙_}
+use Prim.Native.Nat.{_-_}
+use borrow.Author.Tests.{le-leb, lt-leb, not-true, not-false}
+use Rattle.terms.proofs.Plans.{plan-is}
+use Rattle.session.specs.Ranges.{standingRules}
+use Rattle.session.proofs.Rules as rules
+use borrow.Author.Needs.{needs}
+use Rattle.session.proofs.Session.stands.Statement.{statement}
+use Rattle.session.proofs.Session.stands.Tie as tie
+
+returns : tie.Need-returns
+unfolding standingRules
+returns c = rules.fails _ (lt-leb _ _ (c .if1 .taken))
+
+returns-2 : tie.Need-returns-2
+unfolding standingRules
+returns-2 c = rules.holds _ (le-leb _ _ (c .before .before .if1 .left)) (rules.fails _ (lt-leb _ _ (c .if2 .taken)))
+
+counts-requires : tie.Need-counts-requires
+counts-requires c κs = search needs
+
+returns-3 : tie.Need-returns-3
+unfolding standingRules
+returns-3 c = rules.holds _ (le-leb _ _ (c .before .before .before .before .if1 .left)) (rules.holds _ (le-leb _ _ (c .before .before .if2 .left)) (rules.fails _ (sym (c .before .counts .ensures) ∙ not-true (c .before .counts .result) (c .if3 .taken))))
+
+bound-ok-requires : tie.Need-bound-ok-requires
+bound-ok-requires c κs = search needs
+
+returns-4 : tie.Need-returns-4
+unfolding standingRules
+returns-4 c = rules.holds _ (le-leb _ _ (c .before .before .before .before .before .before .if1 .left)) (rules.holds _ (le-leb _ _ (c .before .before .before .before .if2 .left)) (rules.holds _ (sym (c .before .before .before .counts .ensures) ∙ not-false (c .before .before .before .counts .result) (c .before .before .if3 .left)) (rules.fails _ (sym (c .before .bound-ok .ensures) ∙ not-true (c .before .bound-ok .result) (c .if4 .taken)))))
+
+rest-unheard-requires : tie.Need-rest-unheard-requires
+rest-unheard-requires c κs = plan-is _ (c .before .before .before .before .before .before .before .before .pre) .n-high
+
+returns-5 : tie.Need-returns-5
+unfolding standingRules
+returns-5 c = rules.holds _ (le-leb _ _ (c .before .before .before .before .before .before .before .before .before .if1 .left)) (rules.holds _ (le-leb _ _ (c .before .before .before .before .before .before .before .if2 .left)) (rules.holds _ (sym (c .before .before .before .before .before .before .counts .ensures) ∙ not-false (c .before .before .before .before .before .before .counts .result) (c .before .before .before .before .before .if3 .left)) (rules.holds _ (sym (c .before .before .before .before .bound-ok .ensures) ∙ not-false (c .before .before .before .before .bound-ok .result) (c .before .before .before .if4 .left)) (rules.fails _ (sym (c .before .rest-unheard .ensures) ∙ not-true (c .before .rest-unheard .result) (c .if5 .taken))))))
+
+sub-result : tie.Need-sub-result
+sub-result c = search needs
+
+returns-6 : tie.Need-returns-6
+unfolding standingRules
+returns-6 c = rules.holds _ (le-leb _ _ (c .before .before .before .before .before .before .before .before .before .before .before .before .if1 .left)) (rules.holds _ (le-leb _ _ (c .before .before .before .before .before .before .before .before .before .before .if2 .left)) (rules.holds _ (sym (c .before .before .before .before .before .before .before .before .before .counts .ensures) ∙ not-false (c .before .before .before .before .before .before .before .before .before .counts .result) (c .before .before .before .before .before .before .before .before .if3 .left)) (rules.holds _ (sym (c .before .before .before .before .before .before .before .bound-ok .ensures) ∙ not-false (c .before .before .before .before .before .before .before .bound-ok .result) (c .before .before .before .before .before .before .if4 .left)) (rules.holds _ (sym (c .before .before .before .before .rest-unheard .ensures) ∙ not-false (c .before .before .before .before .rest-unheard .result) (c .before .before .before .if5 .left)) (rules.last refl)))))
+
+pub stands-spec : {M : Type 1} → statement M
+stands-spec =
+    tie.close
+    (tie.spec
+    returns
+    returns-2
+    counts-requires
+    returns-3
+    bound-ok-requires
+    returns-4
+    rest-unheard-requires
+    returns-5
+    sub-result
+    returns-6)

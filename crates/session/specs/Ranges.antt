@@ -1,0 +1,53 @@
+-- Refusal 9: session out of its ranges, or of the other operation. Document 01, "Refusal numbers", in its order; the rules that an ended
+-- session meets too stand apart.
+--   openingOk          the opening ask number leaves room for W more: 13 at opening
+--   boundOk            a bound exactly when round is above 1, time 1 or more
+--   standingRules      round, bound, opening ask, marks from N on: for every session
+--   openRules          timestamp, first triple marks, heard count, slots: for an open session
+--   inRange            all of them
+-- Assumes nothing.
+use Prim.Native.Nat.{ℕ, _-_}
+use mathlib.Core.Bool.{Bool, not}
+use mathlib.Core.List.{List, [], _∷_}
+use lib.Dec.{ltb, leb, eqb}
+use Rattle.terms.specs.Ladder.{all, _and_, _or_}
+use Rattle.terms.specs.Terms.{recordLength}
+use Rattle.terms.specs.declared.Plan.{Plan}
+use Rattle.rounds.specs.declared.Bound.{Bound}
+use Rattle.rounds.specs.declared.Bound.the-variants.{Free, Under}
+use Rattle.rounds.specs.Rounds.{heardCount, restUnheard, noneFirst, slotsFit}
+use Rattle.session.specs.declared.Session.{Session}
+use Rattle.session.specs.Session.{isRead, isStoring, isEnded, readRound, replies}
+
+-- opening ask number plus W at most 2^64-1
+abbrev pub openingOk : Plan → ℕ → Bool
+openingOk p a = leb a (18446744073709551615 - p .w)
+
+abbrev pub boundOk : Bound → ℕ → Bool
+boundOk Free round = leb round 1
+boundOk (Under u) round = ltb 1 round and leb 1 (u .time .0)
+
+-- "round 1 to W, and 1 in a write; a bound exactly when round is above 1, time 1 or more"; "marks from N on unheard"; "opening ask as for 13"
+unfoldable pub standingRules : Plan → Session → Bool
+standingRules p s =
+    all (
+    leb 1 (s .round) ∷
+    leb (s .round) (p .w) ∷
+    (isRead (s .operation) or eqb (s .round) 1) ∷
+    boundOk (s .bound) (s .round) ∷
+    restUnheard (s .marks) (p .n) ∷
+    openingOk p (s .opening .0) ∷ [])
+
+-- "a timestamp being written of time 1 or more"; "no first triple mark in a time or write round"; "fewer than N-t heard while open";
+-- "in a read round each slot marked record must hold a time of 1 or more and a timestamp below the bound, if there is one"
+unfoldable pub openRules : Plan → Session → List ℕ → Bool
+openRules p s d =
+    all (
+    (not (isStoring (s .stage)) or leb 1 (s .stamp .time .0)) ∷
+    (readRound s or noneFirst (s .marks)) ∷
+    ltb (heardCount (s .marks)) (replies p) ∷
+    (not (readRound s) or slotsFit (s .marks) d (recordLength p) (s .bound) (p .n)) ∷ [])
+
+-- "An ended session meets only the rules on round, bound, opening ask and marks from N on."
+unfoldable pub inRange : Plan → Session → List ℕ → Bool
+inRange p s d = standingRules p s and (isEnded (s .stage) or openRules p s d)

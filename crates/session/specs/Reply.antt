@@ -1,0 +1,67 @@
+-- A reply to a client: what it is refused for. Document 01, "Refusal numbers": at the client 1, 2, 9, 14, 4, 10, 11, 5, 6, 12.
+--   lengthsOk          2: the desk is exactly N·R bytes, the item exactly m·F
+--   sameOperation      9: the session is of this operation
+--   awaited            10: ask number, kind and write timestamp are the ones awaited
+--   isHeard            11: the node is already heard
+--   bears              the reply bears a record
+--   replyLadder        the order, as far as it applies to a writer
+--   recordLadder       5, 6, 12: of a record, at a reader
+-- Assumes nothing.
+use Prim.Native.Nat.{ℕ, _+_, _*_}
+use mathlib.Core.Bool.{Bool, not}
+use mathlib.Core.List.{List, [], _∷_}
+use lib.ListN.{length}
+use lib.Dec.{eqb}
+use Rattle.terms.specs.Ladder.{Rung, on, _and_, _or_}
+use Rattle.terms.specs.Terms.{planOk, recordLength, refusalNumber}
+use Rattle.terms.specs.Stamp.{stamp, stampNumber}
+use Rattle.terms.specs.declared.Plan.{Plan}
+use Rattle.frame.specs.Frame.{kindOf, frameNode, askOf, bodyOf, goodReply}
+use Rattle.record.specs.Record.{hashesOk, timeZero}
+use Rattle.rounds.specs.Rounds.{bitOf, markOf, underOf}
+use Rattle.session.specs.declared.Session.{Session}
+use Rattle.session.specs.declared.Check.{Check}
+use Rattle.session.specs.declared.Check.the-variants.{Passed, Failed}
+use Rattle.session.specs.declared.Operation.{Operation}
+use Rattle.session.specs.declared.Operation.the-variants.{Write, Read}
+use Rattle.session.specs.Session.{isRead, isStoring, isEnded, askNow, kindAwaited}
+use Rattle.session.specs.Ranges.{inRange}
+
+unfoldable pub lengthsOk : Plan → ℕ → ℕ → Bool
+lengthsOk p desk item = eqb desk (p .n * recordLength p) and eqb item (p .m * p .f)
+
+abbrev pub sameOperation : Operation → Operation → Bool
+sameOperation Read o = isRead o
+sameOperation Write o = not (isRead o)
+
+unfoldable pub awaited : Session → List ℕ → Bool
+awaited s f =
+    eqb (askOf f) (askNow s) and (eqb (kindOf f) (kindAwaited s) and (not (isStoring (s .stage)) or eqb (stamp (bodyOf f)) (stampNumber (s .stamp))))
+
+unfoldable pub isHeard : Session → ℕ → Bool
+isHeard s i = eqb (bitOf (markOf (s .marks) i)) 1
+
+abbrev pub replyLadder : Operation → Plan → Session → List ℕ → List ℕ → ℕ → List Rung
+replyLadder op p s f d item =
+    on 1 (not (planOk p)) ∷
+    on 2 (not (lengthsOk p (length d) item)) ∷
+    on 9 (not (sameOperation op (s .operation) and inRange p s d)) ∷
+    on 14 (isEnded (s .stage)) ∷
+    on 4 (not (goodReply p f)) ∷
+    on 10 (not (awaited s f)) ∷
+    on 11 (isHeard s (frameNode f)) ∷ []
+
+-- a read reply with a record, and not the first triple
+unfoldable pub bears : Plan → List ℕ → Bool
+bears p f = eqb (kindOf f) 7 and eqb (length f) (15 + recordLength p)
+
+abbrev pub recordLadder : Plan → Session → List ℕ → List Rung
+recordLadder p s f =
+    on 5 (bears p f and timeZero (bodyOf f)) ∷
+    on 6 (bears p f and not (hashesOk p (frameNode f) (bodyOf f))) ∷
+    on 12 (bears p f and not (underOf (s .bound) (stamp (bodyOf f)))) ∷ []
+
+-- what a ladder came to, as a number: 0 where none applies
+abbrev pub checkNumber : Check → ℕ
+checkNumber Passed = 0
+checkNumber (Failed r) = refusalNumber r

@@ -1,0 +1,133 @@
+-- The session. Document 01, "The client": a value handed in and handed back. Operation and stage together name the round: a write that
+-- asks is in its time round, one that stores in its write round; a read that asks is in a read round, one that stores in a repair round.
+--   isRead isAsking isStoring isEnded   the operation and the stage
+--   replies            N-t, the replies that close a round
+--   askNow             the ask number of the round that is open
+--   kindAwaited        the kind of the reply that the round awaits
+--   markedOf endedOf nextOf storingOf   the session after a node was heard, ended, in the next read round, in a write or repair round
+--   saidOf             an answer in the document's terms
+-- Assumes nothing.
+use Prim.Native.Nat.{ℕ, _+_, _-_}
+use mathlib.Core.Bool.{Bool, true, false, cond}
+use lib.ListN.{set}
+use Rattle.terms.specs.Ladder.{_and_}
+use Rattle.terms.specs.Terms.{refusalNumber}
+use Rattle.terms.specs.Stamp.{stampNumber}
+use Rattle.terms.specs.declared.Plan.{Plan}
+use Rattle.terms.specs.declared.Timestamp.{Timestamp}
+use Rattle.rounds.specs.declared.Heard.{Heard}
+use Rattle.rounds.specs.declared.Bound.the-variants.{Under}
+use Rattle.rounds.specs.Rounds.{unheards}
+use Rattle.session.specs.declared.Session.{Session}
+use Rattle.session.specs.declared.Operation.{Operation}
+use Rattle.session.specs.declared.Operation.the-variants.{Write, Read}
+use Rattle.session.specs.declared.Stage.{Stage}
+use Rattle.session.specs.declared.Stage.the-variants.{Asking, Storing, Ended}
+use Rattle.session.specs.declared.Answer.{Answer}
+use Rattle.session.specs.declared.Answer.the-variants.{Refused, Open, Done, NeverWritten, Aborted, RoundsSpent, ClockSpent}
+
+abbrev pub isRead : Operation → Bool
+isRead Write = false
+isRead Read = true
+
+abbrev pub isAsking : Stage → Bool
+isAsking Asking = true
+isAsking Storing = false
+isAsking Ended = false
+
+abbrev pub isStoring : Stage → Bool
+isStoring Asking = false
+isStoring Storing = true
+isStoring Ended = false
+
+abbrev pub isEnded : Stage → Bool
+isEnded Asking = false
+isEnded Storing = false
+isEnded Ended = true
+
+abbrev pub readRound : Session → Bool
+readRound s = isRead (s .operation) and isAsking (s .stage)
+
+abbrev pub replies : Plan → ℕ
+replies p = p .n - p .t
+
+-- "The opening ask number serves round 1, each round takes the next, a write or repair round the one after."
+unfoldable pub askNow : Session → ℕ
+askNow s = cond (isStoring (s .stage)) (s .opening .0 + s .round) (s .opening .0 + (s .round - 1))
+
+-- 2 in a time round, 7 in a read round, 4 in a write or repair round
+unfoldable pub kindAwaited : Session → ℕ
+kindAwaited s = cond (isStoring (s .stage)) 4 (cond (isRead (s .operation)) 7 2)
+
+abbrev pub markedOf : Session → ℕ → Heard → Session
+markedOf s i h =
+    record {
+      operation = s .operation;
+      stage = s .stage;
+      round = s .round;
+      bound = s .bound;
+      opening = s .opening;
+      greatest = s .greatest;
+      stamp = s .stamp;
+      marks = set (s .marks) i (record { is = h });
+    }
+
+abbrev pub endedOf : Session → Session
+endedOf s =
+    record {
+      operation = s .operation;
+      stage = Ended;
+      round = s .round;
+      bound = s .bound;
+      opening = s .opening;
+      greatest = s .greatest;
+      stamp = s .stamp;
+      marks = s .marks;
+    }
+
+-- "the next round opens", below the candidate's timestamp
+abbrev pub nextOf : Session → Timestamp → Session
+nextOf s t =
+    record {
+      operation = s .operation;
+      stage = Asking;
+      round = s .round + 1;
+      bound = Under t;
+      opening = s .opening;
+      greatest = s .greatest;
+      stamp = s .stamp;
+      marks = unheards;
+    }
+
+-- a write or repair round, in which t is the timestamp being written
+abbrev pub storingOf : Session → Timestamp → Session
+storingOf s t =
+    record {
+      operation = s .operation;
+      stage = Storing;
+      round = s .round;
+      bound = s .bound;
+      opening = s .opening;
+      greatest = s .greatest;
+      stamp = t;
+      marks = unheards;
+    }
+
+-- ---- an answer in the document's terms: a refusal's number, open, or an ending with its timestamp and rounds
+pub data Said : Type 0 where
+  refused : ℕ → Said
+  stillOpen : Said
+  done : (stamp rounds : ℕ) → Said
+  neverWritten : (rounds : ℕ) → Said
+  aborted : (rounds : ℕ) → Said
+  roundsSpent : (rounds : ℕ) → Said
+  clockSpent : Said
+
+abbrev pub saidOf : Answer → Said
+saidOf (Refused r) = refused (refusalNumber r)
+saidOf Open = stillOpen
+saidOf (Done t n) = done (stampNumber t) n
+saidOf (NeverWritten n) = neverWritten n
+saidOf (Aborted n) = aborted n
+saidOf (RoundsSpent n) = roundsSpent n
+saidOf ClockSpent = clockSpent

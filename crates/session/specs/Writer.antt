@@ -1,0 +1,98 @@
+-- The writer. Document 01, "The client", writing: a time round, ends at N-t replies; the new time is the greatest reply plus 1. The reply
+-- that ends the time round fills the desk with all N records; until then, and at "clock spent", the desk stays. A write round runs to N-t
+-- replies bearing that timestamp. The item comes as a slice that cannot be written, so it is not among the outcomes.
+--   laterOf timedOf    the greatest time so far; the session after a time reply
+--   newTime            the time of the write, from the greatest time
+--   crossFor stampFor recordsFor   the cross checksum, the timestamp and the N records of an item
+--   Leaves leaves      the answer, the session and the desk as a call leaves them
+--   timeTurn           the time round after a reply: open, clock spent, or the write round opens
+--   writeTurn          the write round after a reply: open, or done
+--   acceptedWrite      a reply that nothing refuses
+--   writeReply         the call
+-- Assumes nothing.
+use Prim.Native.Nat.{ℕ, _+_}
+use mathlib.Core.Path.{_≡_}
+use mathlib.Core.Bool.{cond}
+use mathlib.Core.List.{List}
+use lib.ListN.{length, set}
+use lib.Dec.{ltb, eqb}
+use Rattle.terms.specs.Ladder.{first}
+use Rattle.terms.specs.Stamp.{time, stampAt, stampNumber}
+use Rattle.terms.specs.declared.Plan.{Plan}
+use Rattle.terms.specs.declared.Timestamp.{Timestamp}
+use Rattle.fragments.specs.Fragments.{fragment}
+use Rattle.frame.specs.Frame.{frameNode, bodyOf}
+use Rattle.record.specs.Desk.{crossMade, deskOf, stampMade}
+use Rattle.rounds.specs.declared.Heard.the-variants.{Record}
+use Rattle.rounds.specs.Rounds.{heardCount}
+use Rattle.session.specs.declared.Session.{Session}
+use Rattle.session.specs.declared.Took.{Took}
+use Rattle.session.specs.declared.Operation.the-variants.{Write}
+use Rattle.session.specs.Session.{isStoring, replies, markedOf, endedOf, storingOf, Said, refused, stillOpen, done, clockSpent, saidOf}
+use Rattle.session.specs.Reply.{replyLadder}
+
+-- ---- times
+abbrev pub laterOf : ℕ → ℕ → ℕ
+laterOf a b = cond (ltb a b) b a
+
+-- "In a time or write round a heard node is marked record"
+abbrev pub timedOf : Session → ℕ → ℕ → Session
+timedOf s i t =
+    record {
+      operation = s .operation;
+      stage = s .stage;
+      round = s .round;
+      bound = s .bound;
+      opening = s .opening;
+      greatest = record { 0 = laterOf (s .greatest .0) t };
+      stamp = s .stamp;
+      marks = set (s .marks) i (record { is = Record });
+    }
+
+-- "the new time is the greatest reply plus 1"
+abbrev pub newTime : ℕ → ℕ
+newTime greatest = greatest + 1
+
+-- ---- the records of an item, written at a time
+unfoldable pub crossFor : Plan → List ℕ → List ℕ
+crossFor p i = crossMade (fragment (p .m) (p .f) i) (p .n)
+
+unfoldable pub stampFor : Plan → ℕ → List ℕ → Timestamp
+stampFor p t i = stampAt (stampMade t (crossFor p i)) 0
+
+unfoldable pub recordsFor : Plan → ℕ → List ℕ → List ℕ
+recordsFor p t i = deskOf (stampMade t (crossFor p i)) (crossFor p i) (fragment (p .m) (p .f) i) (p .n)
+
+-- ---- the call
+pub record Leaves : Type 0 where
+  pub said : Said
+  pub session : Session
+  pub desk : List ℕ
+
+abbrev pub leaves : Said → Session → List ℕ → Leaves
+leaves a s d = record { said = a; session = s; desk = d }
+
+-- "clock spent (the greatest time reply is 2^64-1)"; else the write round opens
+unfoldable pub timeEnd : Plan → Session → List ℕ → List ℕ → Leaves
+timeEnd p s d i =
+    cond (eqb (s .greatest .0) 18446744073709551615) (leaves clockSpent (endedOf s) d)
+    (leaves stillOpen (storingOf s (stampFor p (newTime (s .greatest .0)) i)) (recordsFor p (newTime (s .greatest .0)) i))
+
+unfoldable pub timeTurn : Plan → Session → List ℕ → List ℕ → Leaves
+timeTurn p s d i = cond (ltb (heardCount (s .marks)) (replies p)) (leaves stillOpen s d) (timeEnd p s d i)
+
+-- a write that is done used no read rounds
+unfoldable pub writeTurn : Plan → Session → List ℕ → Leaves
+writeTurn p s d = cond (ltb (heardCount (s .marks)) (replies p)) (leaves stillOpen s d) (leaves (done (stampNumber (s .stamp)) 0) (endedOf s) d)
+
+unfoldable pub acceptedWrite : Plan → Session → List ℕ → List ℕ → List ℕ → Leaves
+acceptedWrite p s f d i =
+    cond (isStoring (s .stage)) (writeTurn p (markedOf s (frameNode f) Record) d) (timeTurn p (timedOf s (frameNode f) (time (bodyOf f))) d i)
+
+-- one reply: the first refusal that applies hands back everything as it came; where none does, it is accepted
+unfoldable pub writeReply : Plan → Session → List ℕ → List ℕ → List ℕ → Leaves
+writeReply p s f d i = first (replyLadder Write p s f d (length i)) (λ (k : ℕ). leaves (refused k) s d) (acceptedWrite p s f d i)
+
+-- the contract of the call: its inputs, then its outcome
+pub record WriteReplyCall (p : Plan) (s : Session) (f d i : List ℕ) (t : Took) (d₂ : List ℕ) : Type 0 where
+  pub is : leaves (saidOf (t .answer)) (t .session) d₂ ≡ writeReply p s f d i

@@ -1,0 +1,441 @@
+// The session of a client: document 01, "The client". A value handed in and handed back; its methods take a reply and return the next
+// session with its answer. opening.rt has the opening, owed.rt the request owed to a node, reader.rt a reply to a reader, writer.rt one to
+// a writer.
+mod opening;
+mod owed;
+mod reader;
+mod writer;
+
+use rounds::Bound;
+use rounds::Heard;
+use rounds::Mark;
+use terms::Ask;
+use terms::Plan;
+use terms::Refusal;
+use terms::Time;
+use terms::Timestamp;
+ghost use mathlib.Core.Path.{_≡_};
+ghost use mathlib.Core.Bool.{true, not};
+ghost use Prim.Native.Nat.{ℕ, _+_, _-_, _*_, _≤_, _<_};
+ghost use lib.ListN.{length};
+ghost use Rattle.terms.specs.Terms.{planOk, recordLength};
+ghost use lib.Dec.{eqb, leb};
+ghost use Rattle.terms.specs.Ladder.{first, _or_};
+ghost use Rattle.frame.specs.Frame.{kindOf};
+ghost use Rattle.rounds.specs.Rounds.{noneFirst, slotsFit};
+ghost use Rattle.session.specs.Session.{isRead, isAsking, isStoring, isEnded, readRound, replies, askNow, kindAwaited, markedOf, endedOf, nextOf, storingOf};
+ghost use Rattle.session.specs.Ranges.{openingOk, boundOk, standingRules, openRules, inRange};
+ghost use Rattle.session.specs.Reply.{lengthsOk, sameOperation, awaited, isHeard, replyLadder, checkNumber};
+
+pub enum Operation {
+    Write,
+    Read,
+}
+
+// Asking: a time or a read round. Storing: a write or a repair round.
+pub enum Stage {
+    Asking,
+    Storing,
+    Ended,
+}
+
+pub struct Session {
+    pub operation: Operation,
+    pub stage: Stage,
+    pub round: u64,
+    pub bound: Bound,
+    pub opening: Ask,
+    pub greatest: Time,
+    pub stamp: Timestamp,
+    pub marks: [Mark; 16],
+}
+
+// The answer to a reply. Endings of a read bear the rounds used; those of a write bear 0.
+pub enum Answer {
+    Refused(Refusal),
+    Open,
+    Done(Timestamp, u64),
+    NeverWritten(u64),
+    Aborted(u64),
+    RoundsSpent(u64),
+    ClockSpent,
+}
+
+// The next session, with the answer.
+pub struct Took {
+    pub session: Session,
+    pub answer: Answer,
+}
+
+// What a ladder came to.
+pub enum Check {
+    Passed,
+    Failed(Refusal),
+}
+
+pub fn reads(o: Operation) -> bool
+    ensures { λ r. ⌜ r ≡ isRead o ⌝ }
+{
+    match o {
+        Operation::Write => false,
+        Operation::Read => true,
+    }
+}
+
+pub fn asking(s: Stage) -> bool
+    ensures { λ r. ⌜ r ≡ isAsking s ⌝ }
+{
+    match s {
+        Stage::Asking => true,
+        Stage::Storing => false,
+        Stage::Ended => false,
+    }
+}
+
+pub fn storing(s: Stage) -> bool
+    ensures { λ r. ⌜ r ≡ isStoring s ⌝ }
+{
+    match s {
+        Stage::Asking => false,
+        Stage::Storing => true,
+        Stage::Ended => false,
+    }
+}
+
+pub fn ended(s: Stage) -> bool
+    ensures { λ r. ⌜ r ≡ isEnded s ⌝ }
+{
+    match s {
+        Stage::Asking => false,
+        Stage::Storing => false,
+        Stage::Ended => true,
+    }
+}
+
+// "Round .. 1 in a write."
+fn counts(o: Operation, round: u64) -> bool
+    ensures { λ r. ⌜ r ≡ (isRead o or eqb round 1) ⌝ }
+{
+    match o {
+        Operation::Write => round == 1,
+        Operation::Read => true,
+    }
+}
+
+// "A bound exactly when round is above 1, time 1 or more."
+fn bound_ok(b: Bound, round: u64) -> bool
+    ensures { λ r. ⌜ r ≡ boundOk b round ⌝ }
+{
+    match b {
+        Bound::Free => round <= 1,
+        Bound::Under(u) => {
+            if round <= 1 {
+                return false;
+            }
+            let t = u.time;
+            t.0 >= 1
+        }
+    }
+}
+
+// Whether a session's operation is the one that a call serves.
+fn same_operation(op: Operation, o: Operation) -> bool
+    ensures { λ r. ⌜ r ≡ sameOperation op o ⌝ }
+{
+    match op {
+        Operation::Write => !reads(o),
+        Operation::Read => reads(o),
+    }
+}
+
+// Refusal 2 of a reply: the desk and the item.
+fn lengths_ok(p: Plan, desk: usize, item: usize) -> bool
+    requires { ⌜ planOk p ≡ true ⌝ }
+    ensures { λ r. ⌜ r ≡ lengthsOk p desk item ⌝ }
+{
+    let r = terms::record_length(p);
+    if desk != (p.n as usize) * r {
+        return false;
+    }
+    item == (p.m as usize) * (p.f as usize)
+}
+
+impl Session {
+    // Node i heard, with h.
+    fn marked(mut self, i: usize, h: Heard) -> Session
+        requires { ⌜ i < 16 ⌝ }
+        ensures { λ r. ⌜ r ≡ markedOf self i h ⌝ }
+    {
+        self.marks[i] = Mark { is: h };
+        self
+    }
+
+    // The same session, ended.
+    fn over(self) -> Session
+        ensures { λ r. ⌜ r ≡ endedOf self ⌝ }
+    {
+        let operation = self.operation;
+        let bound = self.bound;
+        let opening = self.opening;
+        let greatest = self.greatest;
+        let stamp = self.stamp;
+        let marks = self.marks;
+        Session {
+            operation: operation,
+            stage: Stage::Ended,
+            round: self.round,
+            bound: bound,
+            opening: opening,
+            greatest: greatest,
+            stamp: stamp,
+            marks: marks,
+        }
+    }
+
+    // The next read round, below t: all marks unheard.
+    fn next(self, t: Timestamp) -> Session
+        requires { ⌜ self .round < 65535 ⌝ }
+        ensures { λ r. ⌜ r ≡ nextOf self t ⌝ }
+    {
+        let operation = self.operation;
+        let opening = self.opening;
+        let greatest = self.greatest;
+        let stamp = self.stamp;
+        Session {
+            operation: operation,
+            stage: Stage::Asking,
+            round: self.round + 1,
+            bound: Bound::Under(t),
+            opening: opening,
+            greatest: greatest,
+            stamp: stamp,
+            marks: [Mark { is: Heard::Unheard }; 16],
+        }
+    }
+
+    // The write or repair round that stores t: all marks unheard.
+    fn store(self, t: Timestamp) -> Session
+        ensures { λ r. ⌜ r ≡ storingOf self t ⌝ }
+    {
+        let operation = self.operation;
+        let bound = self.bound;
+        let opening = self.opening;
+        let greatest = self.greatest;
+        Session {
+            operation: operation,
+            stage: Stage::Storing,
+            round: self.round,
+            bound: bound,
+            opening: opening,
+            greatest: greatest,
+            stamp: t,
+            marks: [Mark { is: Heard::Unheard }; 16],
+        }
+    }
+
+    // Whether a read round is open.
+    fn in_read_round(self) -> bool
+        ensures { λ r. ⌜ r ≡ readRound self ⌝ }
+    {
+        let o = self.operation;
+        if !reads(o) {
+            return false;
+        }
+        let s = self.stage;
+        asking(s)
+    }
+
+    // The rules of refusal 9 that every session meets.
+    fn stands(self, p: Plan) -> bool
+        requires { ⌜ planOk p ≡ true ⌝ }
+        ensures { λ r. ⌜ r ≡ standingRules p self ⌝ }
+    {
+        let round = self.round;
+        if round < 1 {
+            return false;
+        }
+        if round > p.w {
+            return false;
+        }
+        let o = self.operation;
+        if !counts(o, round) {
+            return false;
+        }
+        let b = self.bound;
+        if !bound_ok(b, round) {
+            return false;
+        }
+        let marks = self.marks;
+        if !rounds::rest_unheard(marks, p.n as usize) {
+            return false;
+        }
+        let a = self.opening;
+        a.0 <= 18446744073709551615 - p.w
+    }
+
+    // "A timestamp being written of time 1 or more."
+    fn stamp_ok(self) -> bool
+        ensures { λ r. ⌜ r ≡ (not (isStoring (self .stage)) or leb 1 (self .stamp .time .0)) ⌝ }
+    {
+        let s = self.stage;
+        if !storing(s) {
+            return true;
+        }
+        let t = self.stamp;
+        let k = t.time;
+        k.0 >= 1
+    }
+
+    // "No first triple mark in a time or write round."
+    fn firsts_ok(self) -> bool
+        ensures { λ r. ⌜ r ≡ (readRound self or noneFirst (self .marks)) ⌝ }
+    {
+        if self.in_read_round() {
+            return true;
+        }
+        let marks = self.marks;
+        rounds::none_first(marks)
+    }
+
+    // "In a read round each slot marked record must hold a time of 1 or more and a timestamp below the bound."
+    fn slots_ok(self, p: Plan, desk: &[u8]) -> bool
+        requires { ⌜ (planOk p ≡ true) × (length (now desk) ≡ p .n * recordLength p) ⌝ }
+        ensures { λ r. ⌜ r ≡ (not (readRound self) or slotsFit (self .marks) (now (desk .entry)) (recordLength p) (self .bound) (p .n)) ⌝ }
+    {
+        if !self.in_read_round() {
+            return true;
+        }
+        let marks = self.marks;
+        let b = self.bound;
+        let r = terms::record_length(p);
+        rounds::slots_fit(marks, desk, p.n as usize, r, b)
+    }
+
+    // The rules of refusal 9 that an open session meets.
+    fn open_ok(self, p: Plan, desk: &[u8]) -> bool
+        requires { ⌜ (planOk p ≡ true) × (length (now desk) ≡ p .n * recordLength p) ⌝ }
+        ensures { λ r. ⌜ r ≡ openRules p self (now (desk .entry)) ⌝ }
+    {
+        if !self.stamp_ok() {
+            return false;
+        }
+        if !self.firsts_ok() {
+            return false;
+        }
+        let marks = self.marks;
+        if rounds::count(marks) >= p.n - p.t {
+            return false;
+        }
+        self.slots_ok(p, desk)
+    }
+
+    // Refusal 9: whether the session is in its ranges.
+    fn ranges_ok(self, p: Plan, desk: &[u8]) -> bool
+        requires { ⌜ (planOk p ≡ true) × (length (now desk) ≡ p .n * recordLength p) ⌝ }
+        ensures { λ r. ⌜ r ≡ inRange p self (now (desk .entry)) ⌝ }
+    {
+        if !self.stands(p) {
+            return false;
+        }
+        let s = self.stage;
+        if ended(s) {
+            return true;
+        }
+        self.open_ok(p, desk)
+    }
+
+    // The ask number of the round that is open: one more in a write or repair round.
+    fn asked(self) -> Ask
+        requires { ⌜ (1 ≤ self .round) × (self .opening .0 + self .round ≤ 18446744073709551615) ⌝ }
+        ensures { λ r. ⌜ r .0 ≡ askNow self ⌝ }
+    {
+        let a = self.opening;
+        let round = self.round;
+        let s = self.stage;
+        if storing(s) {
+            return Ask(a.0 + round);
+        }
+        Ask(a.0 + (round - 1))
+    }
+
+    // The kind of the reply that the round awaits.
+    fn kind_awaited(self) -> u64
+        ensures { λ r. ⌜ r ≡ kindAwaited self ⌝ }
+    {
+        let s = self.stage;
+        if storing(s) {
+            return 4;
+        }
+        let o = self.operation;
+        if reads(o) {
+            return 7;
+        }
+        2
+    }
+
+    // Refusal 10: whether ask number, kind and write timestamp are the ones awaited.
+    fn awaits(self, frame: &[u8]) -> bool
+        requires { ⌜ (1 ≤ self .round) × (self .opening .0 + self .round ≤ 18446744073709551615) × (15 ≤ length (now frame))
+            × (kindOf (now frame) ≡ 4 → 55 ≤ length (now frame)) ⌝ }
+        ensures { λ r. ⌜ r ≡ awaited self (now (frame .entry)) ⌝ }
+    {
+        let a = frame::ask_of(frame);
+        let b = self.asked();
+        if a.0 != b.0 {
+            return false;
+        }
+        if frame::kind_of(frame) != self.kind_awaited() {
+            return false;
+        }
+        let s = self.stage;
+        if !storing(s) {
+            return true;
+        }
+        let t = terms::stamp_at(frame, 15);
+        let u = self.stamp;
+        t.same(u)
+    }
+
+    // Refusal 11: whether node i is already heard.
+    fn has_heard(self, i: usize) -> bool
+        requires { ⌜ i < 16 ⌝ }
+        ensures { λ r. ⌜ r ≡ isHeard self i ⌝ }
+    {
+        let m = self.marks[i];
+        let h = m.is;
+        rounds::bit(h) == 1
+    }
+
+    // What a reply to a client is refused for: 1, 2, 9, 14, 4, 10, 11, in this order.
+    fn check(self, op: Operation, p: Plan, frame: &[u8], desk: &[u8], item: usize) -> Check
+        ensures { λ r. ⌜ checkNumber r ≡ first (replyLadder op p self (now (frame .entry)) (now (desk .entry)) item) (λ k. k) 0 ⌝ }
+    {
+        if !terms::plan_ok(p) {
+            return Check::Failed(Refusal::OutsidePlan);
+        }
+        if !lengths_ok(p, desk.len(), item) {
+            return Check::Failed(Refusal::WrongLength);
+        }
+        let o = self.operation;
+        if !same_operation(op, o) {
+            return Check::Failed(Refusal::OutOfRange);
+        }
+        if !self.ranges_ok(p, desk) {
+            return Check::Failed(Refusal::OutOfRange);
+        }
+        let s = self.stage;
+        if ended(s) {
+            return Check::Failed(Refusal::HasEnded);
+        }
+        if !frame::reply_ok(p, frame) {
+            return Check::Failed(Refusal::WrongFrame);
+        }
+        if !self.awaits(frame) {
+            return Check::Failed(Refusal::NotAwaited);
+        }
+        if self.has_heard(frame::node_of(frame) as usize) {
+            return Check::Failed(Refusal::AlreadyHeard);
+        }
+        Check::Passed
+    }
+}

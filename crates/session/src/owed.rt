@@ -1,0 +1,119 @@
+// The request frame owed to an unheard node: document 01, "The client". It may be asked for as often as wanted: the session comes by
+// value and stays as it is.
+use crate::Check;
+use crate::Session;
+use crate::ended;
+use crate::reads;
+use crate::storing;
+use rounds::Bound;
+use terms::Ask;
+use terms::Plan;
+use terms::Refusal;
+ghost use mathlib.Core.Path.{_≡_};
+ghost use mathlib.Core.Bool.{true};
+ghost use Prim.Native.Nat.{ℕ, _+_, _*_, _≤_, _<_};
+ghost use lib.ListN.{length};
+ghost use Rattle.octets.specs.Bytes.{over};
+ghost use Rattle.terms.specs.Terms.{planOk, recordLength};
+ghost use Rattle.terms.specs.Ladder.{first};
+ghost use Rattle.session.specs.Reply.{checkNumber};
+ghost use Rattle.session.specs.Owed.{roomOk, owedLadder, readRequest, requestOf, OwedCall};
+
+// The answer: refused, or the length of the frame that was written.
+pub enum Owed {
+    Refused(Refusal),
+    Request(usize),
+}
+
+// Refusal 2 of a request owed: the desk and the request buffer.
+fn room_ok(p: Plan, desk: usize, request: usize) -> bool
+    requires { ⌜ planOk p ≡ true ⌝ }
+    ensures { λ r. ⌜ r ≡ roomOk p desk request ⌝ }
+{
+    let r = terms::record_length(p);
+    if desk != (p.n as usize) * r {
+        return false;
+    }
+    request >= r + 15
+}
+
+// A read round's request: the latest record where there is no bound, else the one before it.
+fn read_request(b: Bound, node: u64, ask: Ask, request: &mut [u8]) -> usize
+    requires { ⌜ 55 ≤ length (now request) ⌝ }
+    ensures { λ r. ⌜ (now (request .exit) ≡ over (readRequest b node (ask .0)) (now (request .entry))) × (r ≡ length (readRequest b node (ask .0))) ⌝ }
+{
+    match b {
+        Bound::Free => {
+            frame::bare(request, 5, node, ask);
+            15
+        }
+        Bound::Under(u) => {
+            frame::with_stamp(request, 6, node, ask, u);
+            55
+        }
+    }
+}
+
+impl Session {
+    // What a request owed is refused for: 1, 2, 9, 14, 4, 11, in this order.
+    fn owed_check(self, p: Plan, node: u64, desk: &[u8], request: usize) -> Check
+        ensures { λ r. ⌜ checkNumber r ≡ first (owedLadder p self node (now (desk .entry)) request) (λ k. k) 0 ⌝ }
+    {
+        if !terms::plan_ok(p) {
+            return Check::Failed(Refusal::OutsidePlan);
+        }
+        if !room_ok(p, desk.len(), request) {
+            return Check::Failed(Refusal::WrongLength);
+        }
+        if !self.ranges_ok(p, desk) {
+            return Check::Failed(Refusal::OutOfRange);
+        }
+        let s = self.stage;
+        if ended(s) {
+            return Check::Failed(Refusal::HasEnded);
+        }
+        if node >= p.n {
+            return Check::Failed(Refusal::WrongFrame);
+        }
+        if self.has_heard(node as usize) {
+            return Check::Failed(Refusal::AlreadyHeard);
+        }
+        Check::Passed
+    }
+
+    // The request of the open round, where nothing refuses it: a time request, a read request, or the node's record of the desk.
+    fn write_request(self, p: Plan, node: u64, desk: &[u8], request: &mut [u8]) -> usize
+        requires { ⌜ first (owedLadder p self node (now desk) (length (now request))) (λ k. k) 0 ≡ 0 ⌝ }
+        ensures { λ r. ⌜ (now (request .exit) ≡ over (requestOf p self node (now (desk .entry))) (now (request .entry)))
+            × (r ≡ length (requestOf p self node (now (desk .entry)))) ⌝ }
+    {
+        let ask = self.asked();
+        let r = terms::record_length(p);
+        let s = self.stage;
+        if storing(s) {
+            frame::with_part(request, 3, node, ask, desk, (node as usize) * r, r);
+            return 15 + r;
+        }
+        let o = self.operation;
+        if reads(o) {
+            let b = self.bound;
+            return read_request(b, node, ask, request);
+        }
+        frame::bare(request, 1, node, ask);
+        15
+    }
+
+    // The request frame owed to a node, into the request buffer; bytes past it stay.
+    pub fn owed(self, p: Plan, node: u64, desk: &[u8], request: &mut [u8]) -> Owed
+        ensures { λ r. ⌜ OwedCall p self node (now (desk .entry)) (now (request .entry)) r (now (request .exit)) ⌝ }
+    {
+        let c = self.owed_check(p, node, desk, request.len());
+        match c {
+            Check::Failed(r) => Owed::Refused(r),
+            Check::Passed => {
+                let n = self.write_request(p, node, desk, request);
+                Owed::Request(n)
+            }
+        }
+    }
+}

@@ -1,0 +1,296 @@
+// A reply to a reader. Document 01, "The client", reading, and Figure 3 of the report: an accepted reply is a mark, and a record in its
+// slot; at N-t replies the round closes, and the reader acts on the close.
+use crate::Answer;
+use crate::Check;
+use crate::Operation;
+use crate::Session;
+use crate::Took;
+use crate::storing;
+use rounds::Close;
+use rounds::Heard;
+use rounds::Lead;
+use terms::Clients;
+use terms::Plan;
+use terms::Refusal;
+use terms::Timestamp;
+use terms::Verdict;
+ghost use mathlib.Core.Path.{_≡_};
+ghost use mathlib.Core.Bool.{true, false};
+ghost use Prim.Native.Nat.{ℕ, _+_, _*_, _≤_, _<_};
+ghost use lib.ListN.{length};
+ghost use Rattle.terms.specs.Ladder.{first};
+ghost use Rattle.terms.specs.Terms.{planOk, recordLength};
+ghost use Rattle.frame.specs.Frame.{goodReply, kindOf, frameNode};
+ghost use Rattle.rounds.specs.declared.Lead.the-variants.{Node};
+ghost use Rattle.rounds.specs.Rounds.{told};
+ghost use Rattle.session.specs.Session.{saidOf, isStoring};
+ghost use Rattle.session.specs.Reply.{bears, recordLadder, checkNumber};
+ghost use Rattle.session.specs.Reader.{outcome, sound, decoded, collected, repaired, failing, actOn, acted, settled, heard, stored, accepted, ReadReplyCall, Usable, Acting};
+
+// Whether a reply bears a record, and not the first triple.
+fn bears_record(p: Plan, frame: &[u8]) -> bool
+    requires { ⌜ (planOk p ≡ true) × (15 ≤ length (now frame)) ⌝ }
+    ensures { λ r. ⌜ r ≡ bears p (now (frame .entry)) ⌝ }
+{
+    if frame::kind_of(frame) != 7 {
+        return false;
+    }
+    frame.len() == 15 + terms::record_length(p)
+}
+
+// Validation: the clients of the plan are trusted, or the cross checksum agrees.
+fn validate(p: Plan, c: Close, a: usize, desk: &[u8]) -> bool
+    requires { ⌜ Usable p c a (now desk) ⌝ }
+    ensures { λ r. ⌜ r ≡ sound p (told c) a (now (desk .entry)) ⌝ }
+{
+    let k = p.clients;
+    match k {
+        Clients::Crash => true,
+        Clients::Byzantine => {
+            let n = p.n as usize;
+            let m = p.m as usize;
+            let f = p.f as usize;
+            let set = c.set;
+            let nodes = set.nodes;
+            let h = 40 + 32 * n;
+            recover::validated(desk, h, h + f, f, &nodes[..m], a, n)
+        }
+    }
+}
+
+// The item, from the m lowest-numbered of the set.
+fn decode(p: Plan, c: Close, a: usize, desk: &[u8], item: &mut [u8])
+    requires { ⌜ (Usable p c a (now desk)) × (length (now item) ≡ p .m * p .f) ⌝ }
+    ensures { λ _. ⌜ now (item .exit) ≡ decoded p (told c) (now (desk .entry)) (now (item .entry)) ⌝ }
+{
+    let n = p.n as usize;
+    let m = p.m as usize;
+    let f = p.f as usize;
+    let set = c.set;
+    let nodes = set.nodes;
+    let h = 40 + 32 * n;
+    fragments::decode(desk, h, h + f, f, &nodes[..m], m, item);
+}
+
+// All N records of the set, in place.
+fn repair(p: Plan, c: Close, a: usize, desk: &mut [u8])
+    requires { ⌜ Usable p c a (now desk) ⌝ }
+    ensures { λ _. ⌜ now (desk .exit) ≡ repaired p (told c) a (now (desk .entry)) ⌝ }
+{
+    let n = p.n as usize;
+    let m = p.m as usize;
+    let f = p.f as usize;
+    let set = c.set;
+    let nodes = set.nodes;
+    let h = 40 + 32 * n;
+    recover::mend(desk, h, h + f, f, &nodes[..m], a, n);
+}
+
+// The item from the desk's first m slots, after a repair round.
+fn collect(p: Plan, desk: &[u8], item: &mut [u8])
+    requires { ⌜ (planOk p ≡ true) × (length (now desk) ≡ p .n * recordLength p) × (length (now item) ≡ p .m * p .f) ⌝ }
+    ensures { λ _. ⌜ now (item .exit) ≡ collected p (now (desk .entry)) (now (item .entry)) ⌝ }
+{
+    let n = p.n as usize;
+    let m = p.m as usize;
+    let f = p.f as usize;
+    let h = 40 + 32 * n;
+    fragments::collect(desk, h, h + f, f, m, item);
+}
+
+impl Session {
+    // What a reply that bears a record is refused for: 5, 6, 12, in this order.
+    fn check_record(self, p: Plan, frame: &[u8]) -> Check
+        requires { ⌜ (planOk p ≡ true) × (goodReply p (now frame) ≡ true) ⌝ }
+        ensures { λ r. ⌜ checkNumber r ≡ first (recordLadder p self (now (frame .entry))) (λ k. k) 0 ⌝ }
+    {
+        if !bears_record(p, frame) {
+            return Check::Passed;
+        }
+        if record::time_zero(frame, 15) {
+            return Check::Failed(Refusal::TimeZero);
+        }
+        if !record::hashes_ok(p, frame::node_of(frame), frame, 15) {
+            return Check::Failed(Refusal::HashFails);
+        }
+        let b = self.bound;
+        if !rounds::under(b, frame, 15) {
+            return Check::Failed(Refusal::NotBelow);
+        }
+        Check::Passed
+    }
+
+    // Incomplete, or validation failed: the next round opens below t, or the rounds are spent.
+    fn fall(self, p: Plan, t: Timestamp, desk: &[u8], item: &[u8]) -> Took
+        requires { ⌜ planOk p ≡ true ⌝ }
+        ensures { λ r. ⌜ outcome (saidOf (r .answer)) (r .session) (now (desk .entry)) (now (item .entry)) ≡ failing p self t (now (desk .entry)) (now (item .entry)) ⌝ }
+    {
+        let round = self.round;
+        if round >= p.w {
+            let s = self.over();
+            return Took {
+                session: s,
+                answer: Answer::RoundsSpent(round),
+            };
+        }
+        let s = self.next(t);
+        Took {
+            session: s,
+            answer: Answer::Open,
+        }
+    }
+
+    // What a closed round comes to, where node a leads the candidate's set.
+    fn act_on(self, p: Plan, c: Close, a: usize, desk: &mut [u8], item: &mut [u8]) -> Took
+        requires { ⌜ (Acting p c (now desk) (now item)) × (c .lead ≡ Node a) ⌝ }
+        ensures { λ r. ⌜ outcome (saidOf (r .answer)) (r .session) (now (desk .exit)) (now (item .exit)) ≡ actOn (c .verdict) p self (told c) a (now (desk .entry)) (now (item .entry)) ⌝ }
+    {
+        let v = c.verdict;
+        let t = c.stamp;
+        let round = self.round;
+        match v {
+            Verdict::Complete => {
+                if !validate(p, c, a, &desk[..]) {
+                    return self.fall(p, t, &desk[..], &item[..]);
+                }
+                decode(p, c, a, &desk[..], item);
+                let s = self.over();
+                Took {
+                    session: s,
+                    answer: Answer::Done(t, round),
+                }
+            }
+            Verdict::Repair => {
+                if !validate(p, c, a, &desk[..]) {
+                    return self.fall(p, t, &desk[..], &item[..]);
+                }
+                repair(p, c, a, desk);
+                let s = self.store(t);
+                Took {
+                    session: s,
+                    answer: Answer::Open,
+                }
+            }
+            Verdict::Aborted => {
+                let s = self.over();
+                Took {
+                    session: s,
+                    answer: Answer::Aborted(round),
+                }
+            }
+            Verdict::Incomplete => self.fall(p, t, &desk[..], &item[..]),
+        }
+    }
+
+    // What a closed round comes to.
+    fn act(self, p: Plan, c: Close, desk: &mut [u8], item: &mut [u8]) -> Took
+        requires { ⌜ Acting p c (now desk) (now item) ⌝ }
+        ensures { λ r. ⌜ outcome (saidOf (r .answer)) (r .session) (now (desk .exit)) (now (item .exit)) ≡ acted p self (told c) (now (desk .entry)) (now (item .entry)) ⌝ }
+    {
+        let l = c.lead;
+        let round = self.round;
+        match l {
+            Lead::Nobody => {
+                let s = self.over();
+                Took {
+                    session: s,
+                    answer: Answer::NeverWritten(round),
+                }
+            }
+            Lead::Node(a) => self.act_on(p, c, a, desk, item),
+        }
+    }
+
+    // After a mark in a read round: still open, or closed and acted on.
+    fn settle(self, p: Plan, desk: &mut [u8], item: &mut [u8]) -> Took
+        requires { ⌜ (planOk p ≡ true) × (length (now desk) ≡ p .n * recordLength p) × (length (now item) ≡ p .m * p .f) ⌝ }
+        ensures { λ r. ⌜ outcome (saidOf (r .answer)) (r .session) (now (desk .exit)) (now (item .exit)) ≡ settled p self (now (desk .entry)) (now (item .entry)) ⌝ }
+    {
+        let marks = self.marks;
+        if rounds::count(marks) < p.n - p.t {
+            return Took {
+                session: self,
+                answer: Answer::Open,
+            };
+        }
+        let n = p.n as usize;
+        let h = 40 + 32 * n;
+        let r = h + p.f as usize;
+        let member = p.member;
+        let high = terms::complete_of(p);
+        let low = terms::incomplete_of(p);
+        let c = rounds::closing(marks, &desk[..], n, h, r, member, high, low);
+        self.act(p, c, desk, item)
+    }
+
+    // An accepted reply of a read round.
+    fn hear(self, p: Plan, frame: &[u8], desk: &mut [u8], item: &mut [u8]) -> Took
+        requires { ⌜ (planOk p ≡ true) × (goodReply p (now frame) ≡ true) × (length (now desk) ≡ p .n * recordLength p) × (length (now item) ≡ p .m * p .f) ⌝ }
+        ensures { λ r. ⌜ outcome (saidOf (r .answer)) (r .session) (now (desk .exit)) (now (item .exit)) ≡ heard p self (now (frame .entry)) (now (desk .entry)) (now (item .entry)) ⌝ }
+    {
+        let i = frame::node_of(frame) as usize;
+        if !bears_record(p, frame) {
+            let s = self.marked(i, Heard::First);
+            return s.settle(p, desk, item);
+        }
+        let r = terms::record_length(p);
+        octets::copy(frame, 15, r, desk, i * r);
+        let s = self.marked(i, Heard::Record);
+        s.settle(p, desk, item)
+    }
+
+    // An accepted reply of a repair round: at the last the item is read from the first m slots.
+    fn keep(self, p: Plan, frame: &[u8], desk: &[u8], item: &mut [u8]) -> Took
+        requires { ⌜ (planOk p ≡ true) × (goodReply p (now frame) ≡ true) × (length (now desk) ≡ p .n * recordLength p) × (length (now item) ≡ p .m * p .f) ⌝ }
+        ensures { λ r. ⌜ outcome (saidOf (r .answer)) (r .session) (now (desk .entry)) (now (item .exit)) ≡ stored p self (now (frame .entry)) (now (desk .entry)) (now (item .entry)) ⌝ }
+    {
+        let i = frame::node_of(frame) as usize;
+        let t = self.stamp;
+        let round = self.round;
+        let s = self.marked(i, Heard::Record);
+        let marks = s.marks;
+        if rounds::count(marks) < p.n - p.t {
+            return Took {
+                session: s,
+                answer: Answer::Open,
+            };
+        }
+        collect(p, desk, item);
+        let e = s.over();
+        Took {
+            session: e,
+            answer: Answer::Done(t, round),
+        }
+    }
+
+    // An accepted reply.
+    fn accept(self, p: Plan, frame: &[u8], desk: &mut [u8], item: &mut [u8]) -> Took
+        requires { ⌜ (planOk p ≡ true) × (goodReply p (now frame) ≡ true) × (length (now desk) ≡ p .n * recordLength p) × (length (now item) ≡ p .m * p .f) ⌝ }
+        ensures { λ r. ⌜ outcome (saidOf (r .answer)) (r .session) (now (desk .exit)) (now (item .exit)) ≡ accepted p self (now (frame .entry)) (now (desk .entry)) (now (item .entry)) ⌝ }
+    {
+        let s = self.stage;
+        if storing(s) {
+            return self.keep(p, frame, &desk[..], item);
+        }
+        self.hear(p, frame, desk, item)
+    }
+
+    // A reply to a reader.
+    pub fn read_reply(self, p: Plan, reply: &[u8], desk: &mut [u8], item: &mut [u8]) -> Took
+        ensures { λ r. ⌜ ReadReplyCall p self (now (reply .entry)) (now (desk .entry)) (now (item .entry)) r (now (desk .exit)) (now (item .exit)) ⌝ }
+    {
+        match self.check(Operation::Read, p, reply, &desk[..], item.len()) {
+            Check::Failed(k) => Took {
+                session: self,
+                answer: Answer::Refused(k),
+            },
+            Check::Passed => match self.check_record(p, reply) {
+                Check::Failed(k) => Took {
+                    session: self,
+                    answer: Answer::Refused(k),
+                },
+                Check::Passed => self.accept(p, reply, desk, item),
+            },
+        }
+    }
+}

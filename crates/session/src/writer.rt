@@ -1,0 +1,186 @@
+// A reply to a writer. Document 01, "The client", writing: a time round, in which the session keeps the greatest time so far; the reply
+// that ends it fills the desk with all N records of the item lent with it; then a write round.
+use crate::Answer;
+use crate::Check;
+use crate::Operation;
+use crate::Session;
+use crate::Took;
+use crate::storing;
+use rounds::Heard;
+use rounds::Mark;
+use terms::Plan;
+use terms::Time;
+use terms::Timestamp;
+ghost use mathlib.Core.Path.{_≡_};
+ghost use mathlib.Core.Bool.{true};
+ghost use mathlib.Core.List.{List};
+ghost use Prim.Native.Nat.{ℕ, _*_, _≤_, _<_};
+ghost use lib.ListN.{length};
+ghost use Rattle.terms.specs.Ladder.{first};
+ghost use Rattle.terms.specs.Terms.{planOk, recordLength};
+ghost use Rattle.terms.specs.Stamp.{time};
+ghost use Rattle.frame.specs.Frame.{bodyOf};
+ghost use Rattle.session.specs.declared.Operation.the-variants.{Write};
+ghost use Rattle.session.specs.Session.{saidOf};
+ghost use Rattle.session.specs.Reply.{replyLadder};
+ghost use Rattle.session.specs.Writer.{laterOf, timedOf, stampFor, recordsFor, leaves, timeTurn, writeTurn, acceptedWrite, writeReply, WriteReplyCall};
+
+// The time that a time reply bears.
+fn time_in(reply: &[u8]) -> Time
+    requires { ⌜ 23 ≤ length (now reply) ⌝ }
+    ensures { λ r. ⌜ r .0 ≡ time (bodyOf (now (reply .entry))) ⌝ }
+{
+    Time(octets::get(reply, 15, 8))
+}
+
+// The later of two times.
+fn later(a: Time, b: Time) -> Time
+    ensures { λ r. ⌜ r .0 ≡ laterOf (a .0) (b .0) ⌝ }
+{
+    if a.0 < b.0 {
+        return b;
+    }
+    a
+}
+
+// All N records of an item at a time, into the desk, by way of a cross checksum; their timestamp.
+fn write_records(p: Plan, at: Time, item: &[u8], desk: &mut [u8], cross: &mut [u8]) -> Timestamp
+    requires { ⌜ (planOk p ≡ true) × (length (now item) ≡ p .m * p .f) × (length (now desk) ≡ p .n * recordLength p) × (512 ≤ length (now cross)) ⌝ }
+    ensures { λ r. ⌜ (r ≡ stampFor p (at .0) (now (item .entry))) × (now (desk .exit) ≡ recordsFor p (at .0) (now (item .entry))) ⌝ }
+{
+    let n = p.n as usize;
+    let r = terms::record_length(p);
+    fragments::encode(item, p.m as usize, p.f as usize, n, desk, 40 + 32 * n, r);
+    record::cross(p, &desk[..], cross, 0);
+    let t = record::stamp_of(p, at, &cross[..], 0);
+    record::fill(p, t, &cross[..], 0, desk);
+    t
+}
+
+impl Session {
+    // Node i heard, with a time.
+    fn timed(self, i: usize, t: Time) -> Session
+        requires { ⌜ i < 16 ⌝ }
+        ensures { λ r. ⌜ r ≡ timedOf self i (t .0) ⌝ }
+    {
+        let operation = self.operation;
+        let stage = self.stage;
+        let bound = self.bound;
+        let opening = self.opening;
+        let greatest = later(self.greatest, t);
+        let stamp = self.stamp;
+        let mut marks = self.marks;
+        marks[i] = Mark { is: Heard::Record };
+        Session {
+            operation: operation,
+            stage: stage,
+            round: self.round,
+            bound: bound,
+            opening: opening,
+            greatest: greatest,
+            stamp: stamp,
+            marks: marks,
+        }
+    }
+
+    // The time round, after a reply: open, or at N-t replies the write round opens, with all records made.
+    fn time_turn(self, p: Plan, desk: &mut [u8], item: &[u8], cross: &mut [u8]) -> Took
+        requires { ⌜ (planOk p ≡ true) × (length (now item) ≡ p .m * p .f) × (length (now desk) ≡ p .n * recordLength p) × (512 ≤ length (now cross)) ⌝ }
+        ensures { λ r. ⌜ leaves (saidOf (r .answer)) (r .session) (now (desk .exit)) ≡ timeTurn p self (now (desk .entry)) (now (item .entry)) ⌝ }
+    {
+        let marks = self.marks;
+        if rounds::count(marks) < p.n - p.t {
+            return Took {
+                session: self,
+                answer: Answer::Open,
+            };
+        }
+        let g = self.greatest;
+        if g.0 == 18446744073709551615 {
+            let s = self.over();
+            return Took {
+                session: s,
+                answer: Answer::ClockSpent,
+            };
+        }
+        let t = write_records(p, Time(g.0 + 1), item, desk, cross);
+        let s = self.store(t);
+        Took {
+            session: s,
+            answer: Answer::Open,
+        }
+    }
+
+    // The write round, after a reply: open, or done at N-t replies.
+    fn write_turn(self, p: Plan) -> Took
+        requires { ⌜ planOk p ≡ true ⌝ }
+        ensures { λ r. ⌜ ((d : List ℕ) → leaves (saidOf (r .answer)) (r .session) d ≡ writeTurn p self d) ⌝ }
+    {
+        let marks = self.marks;
+        if rounds::count(marks) < p.n - p.t {
+            return Took {
+                session: self,
+                answer: Answer::Open,
+            };
+        }
+        let t = self.stamp;
+        let s = self.over();
+        Took {
+            session: s,
+            answer: Answer::Done(t, 0),
+        }
+    }
+
+    // A reply that nothing refuses.
+    fn accept_write(
+        self,
+        p: Plan,
+        reply: &[u8],
+        desk: &mut [u8],
+        item: &[u8],
+        cross: &mut [u8],
+    ) -> Took
+        requires { ⌜ (first (replyLadder Write p self (now reply) (now desk) (length (now item))) (λ k. k) 0 ≡ 0) × (512 ≤ length (now cross)) ⌝ }
+        ensures { λ r. ⌜ leaves (saidOf (r .answer)) (r .session) (now (desk .exit))
+            ≡ acceptedWrite p self (now (reply .entry)) (now (desk .entry)) (now (item .entry)) ⌝ }
+    {
+        let i = frame::node_of(reply) as usize;
+        let stage = self.stage;
+        if storing(stage) {
+            let s = self.marked(i, Heard::Record);
+            return s.write_turn(p);
+        }
+        let s = self.timed(i, time_in(reply));
+        s.time_turn(p, desk, item, cross)
+    }
+
+    // The call, with room for a cross checksum.
+    fn write_with(
+        self,
+        p: Plan,
+        reply: &[u8],
+        desk: &mut [u8],
+        item: &[u8],
+        cross: &mut [u8],
+    ) -> Took
+        requires { ⌜ 512 ≤ length (now cross) ⌝ }
+        ensures { λ r. ⌜ WriteReplyCall p self (now (reply .entry)) (now (desk .entry)) (now (item .entry)) r (now (desk .exit)) ⌝ }
+    {
+        let c = self.check(Operation::Write, p, reply, &desk[..], item.len());
+        match c {
+            Check::Failed(k) => Took {
+                session: self,
+                answer: Answer::Refused(k),
+            },
+            Check::Passed => self.accept_write(p, reply, desk, item, cross),
+        }
+    }
+
+    // A reply to a writer.
+    pub fn write_reply(self, p: Plan, reply: &[u8], desk: &mut [u8], item: &[u8]) -> Took
+        ensures { λ r. ⌜ WriteReplyCall p self (now (reply .entry)) (now (desk .entry)) (now (item .entry)) r (now (desk .exit)) ⌝ }
+    {
+        let mut cross = [0u8; 512];
+        self.write_with(p, reply, desk, item, &mut cross)
+    }
+}

@@ -1,28 +1,25 @@
 -- Every session that opening and writing make is in its ranges with the desk handed back: an accepted opening's (opened-kept), and what a
 -- reply to a writer leaves of one that was (write-kept). Assumes nothing.
 use Prim.Native.Nat.{ℕ, _*_, _^_, _≤_, _<_}
-use mathlib.Core.Path.{_≡_, refl, sym, ap, _∙_, subst}
+use mathlib.Core.Path.{_≡_, refl, sym, _∙_, subst}
 use mathlib.Core.Bool.{Bool, true, false, cond}
 use mathlib.Core.List.{List}
 use native.Mathlib.Omega.{arith}
 use borrow.Author.Tests.{eqb-false}
 use lib.Dec.{ltb, eqb}
-use lib.ListN.{length, set, length-append}
+use lib.ListN.{length, set}
 use Rattle.octets.specs.Bytes.{part, num, Octets}
-use Rattle.octets.proofs.Laws.{length-part, length-be}
+use Rattle.octets.proofs.Laws.{length-part}
 use Rattle.octets.proofs.Meaning.{num-small, bytes-part, bytes-all}
-use Rattle.sha256.proofs.Laws.{sha256-length}
 use Rattle.terms.specs.Ladder.{first, _and_, _or_}
 use Rattle.terms.specs.Terms.{recordLength}
 use Rattle.terms.specs.Stamp.{time, stampAt, stampNumber}
 use Rattle.terms.specs.declared.Plan.{Plan}
 use Rattle.terms.specs.declared.Ask.{Ask}
 use Rattle.terms.specs.declared.Time.{Time}
-use Rattle.fragments.specs.Fragments.{fragment, from, Sources}
-use Rattle.fragments.proofs.Laws.{fragment-is, length-regenerated, length-from, getD-from, run-fits}
 use Rattle.frame.specs.Frame.{frameNode, bodyOf}
 use Rattle.frame.proofs.Frames.{body-part}
-use Rattle.record.proofs.Desks.{length-cross, length-desk, time-made}
+use Rattle.record.proofs.Desks.{time-made}
 use Rattle.rounds.specs.declared.Heard.the-variants.{Record}
 use Rattle.rounds.specs.Rounds.{heardCount}
 use Rattle.session.specs.declared.Session.{Session}
@@ -39,7 +36,7 @@ use Rattle.session.specs.Writer.{laterOf, timedOf, newTime, crossFor, st
 use Rattle.session.proofs.Checks.{none-applies, outcome-all}
 use Rattle.session.proofs.Made.{StandingIs, OpenIs, in-range-facts, ended-in-range, open-in-range, end-stands, storing-in-range, rest-set, none-set}
 use Rattle.session.proofs.Openings.{accepted-session, accepted-in-range}
-use Rattle.session.proofs.Writers.{Taking, taking, time-there}
+use Rattle.session.proofs.Writers.{Taking, taking, time-there, length-records}
 
 -- a session in its ranges with its desk, which is N·R bytes; its greatest time has 8 bytes
 pub record Kept (p : Plan) (s : Session) (d : List ℕ) : Type 0 where
@@ -70,17 +67,6 @@ later-small a b h k = go (ltb a b)
 stamp-low : (p : Plan) (t : ℕ) (i : List ℕ) → 1 ≤ t → t < 256 ^ 8 → 1 ≤ stampFor p t i .time .0
 unfolding stampFor stampAt
 stamp-low p t i h k = rw (time-made t (crossFor p i) k) h
-
-length-records : (p : Plan) (t : ℕ) (i : List ℕ) → length i ≡ p .m * p .f → length (recordsFor p t i) ≡ p .n * recordLength p
-unfolding recordsFor crossFor
-length-records p t i l =
-    length-desk p _ _ (fragment (p .m) (p .f) i) (simp (length-append, length-be, sha256-length)) (length-cross (fragment (p .m) (p .f) i) (p .n))
-    (λ k h. ap length (fragment-is (p .m) (p .f) i k) ∙ length-regenerated i 0 (p .f) (p .f) (from 0 (p .m)) k runs)
-  where
-    runs : Sources i 0 (p .f) (p .f) (from 0 (p .m))
-    runs k h =
-        let z : k < p .m = omega (arith, length-from 0 (p .m)) in
-        rw (getD-from 0 (p .m) k z) (omega (arith, run-fits (p .m) (p .f) k z))
 
 -- ---- a node heard in a time or write round
 abbrev heardOf : Session → ℕ → Time → Session

@@ -1,14 +1,15 @@
--- Laws of the writer. Assumes nothing.
+-- Laws of the writer: the N records of an item as they are made, and that node k takes record k; a round after a reply; the outcome. Assumes
+-- nothing.
 use Prim.Native.Nat.{ℕ, _+_, _*_, _≤_, _<_}
 use mathlib.Core.Path.{_≡_, refl, ap, _∙_}
 use mathlib.Core.Bool.{Bool, true, false, not}
-use mathlib.Core.List.{List}
+use mathlib.Core.List.{List, _++_}
 use native.Mathlib.Omega.{arith}
 use borrow.Author.Tests.{lt-ltb, le-ltb, eq-eqb, ne-eqb, eqb-true, not-true, not-false}
 use lib.Dec.{eqb}
-use lib.ListN.{length, set}
+use lib.ListN.{length, set, length-append}
 use Rattle.octets.specs.Bytes.{part, put, be}
-use Rattle.octets.proofs.Laws.{part-put-same}
+use Rattle.octets.proofs.Laws.{part-put-same, length-be}
 use Rattle.terms.specs.Ladder.{first, _and_}
 use Rattle.terms.specs.Terms.{planOk, recordLength, refusalNumber}
 use Rattle.terms.specs.Stamp.{time, stampAt, stampNumber}
@@ -17,13 +18,16 @@ use Rattle.terms.specs.declared.Refusal.{Refusal}
 use Rattle.terms.specs.declared.Time.{Time}
 use Rattle.terms.specs.declared.Timestamp.{Timestamp}
 use Rattle.terms.proofs.Rungs.{both}
-use Rattle.fragments.specs.Fragments.{fragment, encoded}
+use Rattle.fragments.specs.Fragments.{fragment, encoded, from, Sources}
+use Rattle.fragments.proofs.Laws.{fragment-is, length-regenerated, length-from, getD-from, run-fits}
 use Rattle.fragments.proofs.Theorems.{encoded-at}
 use Rattle.frame.specs.Frame.{kindOf, askOf, frameNode, bodyOf, goodReply}
 use Rattle.frame.proofs.Frames.{ReplyIs, reply-is, length-2}
-use Rattle.record.specs.Desk.{fragmentIn, crossMade, deskOf, stampMade}
+use Rattle.record.specs.Record.{hashesOk}
+use Rattle.record.specs.Desk.{slotOf, fragmentIn, crossMade, deskOf, stampMade}
+use Rattle.sha256.proofs.Laws.{sha256-length}
 use Rattle.record.proofs.Records.{record-length, fragment-at}
-use Rattle.record.proofs.Desks.{sources, length-cross, cross-same, desk-same}
+use Rattle.record.proofs.Desks.{sources, length-cross, cross-same, desk-same, length-desk, slot-is, made-ok}
 use Rattle.rounds.specs.declared.Heard.the-variants.{Record}
 use Rattle.rounds.specs.Rounds.{heardCount}
 use Rattle.session.specs.declared.Session.{Session}
@@ -89,6 +93,35 @@ module _ (p : Plan) (i d₀ d₁ c₀ c₁ : List ℕ) (r : ℕ) (er : r ≡ rec
     x ∙ rw b (ap (λ (l : List ℕ). deskOf (stampMade time l) l (fragmentIn p d₁) (p .n)) cross-made)
         ∙ desk-same (fragmentIn p d₁) (fragment (p .m) (p .f) i) (p .n) held (stampMade time (crossFor p i)) (crossFor p i),
   )
+
+-- ---- what the records are
+length-fragment : (m F : ℕ) (i : List ℕ) → length i ≡ m * F → (k : ℕ) → length (fragment m F i k) ≡ F
+length-fragment m F i l k = ap length (fragment-is m F i k) ∙ length-regenerated i 0 F F (from 0 m) k runs
+  where
+    runs : Sources i 0 F F (from 0 m)
+    runs j h =
+        let z : j < m = omega (arith, length-from 0 m) in
+        rw (getD-from 0 m j z) (omega (arith, run-fits m F j z))
+
+module _ (p : Plan) (t : ℕ) (i : List ℕ) (l : length i ≡ p .m * p .f) where
+  length-stamp : length (stampMade t (crossFor p i)) ≡ 40
+  length-stamp = simp (length-append, length-be, sha256-length)
+
+  -- N·R bytes together
+  pub length-records : length (recordsFor p t i) ≡ p .n * recordLength p
+  unfolding recordsFor crossFor
+  length-records =
+      length-desk p _ _ (fragment (p .m) (p .f) i) length-stamp (length-cross (fragment (p .m) (p .f) i) (p .n)) (λ k h. length-fragment (p .m) (p .f) i l k)
+
+  -- slot k is the timestamp, the cross checksum and fragment k, and node k takes it: both hash checks hold
+  pub record-is : (k : ℕ) → k < p .n → slotOf p (recordsFor p t i) k ≡ stampMade t (crossFor p i) ++ (crossFor p i ++ fragment (p .m) (p .f) i k)
+  unfolding recordsFor crossFor
+  record-is k h =
+      slot-is p _ _ (fragment (p .m) (p .f) i) k length-stamp (length-cross (fragment (p .m) (p .f) i) (p .n)) (λ j y. length-fragment (p .m) (p .f) i l j) h
+
+  pub record-passes : (k : ℕ) → k < p .n → hashesOk p k (slotOf p (recordsFor p t i) k) ≡ true
+  unfolding crossFor
+  record-passes k h = ap (hashesOk p k) (record-is k h) ∙ made-ok p t (fragment (p .m) (p .f) i) k h (length-fragment (p .m) (p .f) i l k)
 
 -- ---- a round after a reply, by the number of nodes heard
 module _ (p : Plan) (s : Session) (d : List ℕ) (n : ℕ) (c : n ≡ heardCount (s .marks)) where

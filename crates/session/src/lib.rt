@@ -1,8 +1,8 @@
 // The session of a client: document 01, "The client". A value handed in and handed back; its methods take a reply and return the next
 // session with its answer. opening.rt has the opening, owed.rt the request owed to a node, reader.rt a reply to a reader, writer.rt one to
 // a writer.
-mod opening;
-mod owed;
+pub mod opening;
+pub mod owed;
 mod reader;
 mod writer;
 

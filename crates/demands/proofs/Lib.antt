@@ -6,3 +6,7 @@ pub mod Kept
 pub mod Books
 pub mod Instances
 pub mod Edges
+pub mod RoundSwaps
+pub mod RoundReply
+pub mod RoundOrder
+pub mod Round

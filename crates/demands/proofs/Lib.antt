@@ -10,3 +10,4 @@ pub mod RoundSwaps
 pub mod RoundReply
 pub mod RoundOrder
 pub mod Round
+pub mod RoundInstances

@@ -26,10 +26,10 @@ use Rattle.session.specs.Session.{readRound, replies, Said, stillOpen}
 use Rattle.session.specs.Reply.{isHeard}
 use Rattle.session.proofs.Rules.{lengths-are}
 use Rattle.session.specs.Reader.{Outcome, acted, closed, settled, readReply}
-use Rattle.demands.specs.Round.{opened, ending, answers, openUntil, Opens, isRefused, Accepted, Acceptable, Each, OneANode, markFor, marked, slotted, allMarked, allSlotted, SameReplies}
+use Rattle.demands.specs.Round.{opened, ending, answers, openUntil, RoundOpens, isRefused, Accepted, Acceptable, Each, OneANode, markFor, marked, slotted, allMarked, allSlotted, SameReplies}
 use Rattle.demands.proofs.RoundSwaps.{Reordered, swaps, length-kept, each-kept, one-kept}
 use Rattle.demands.proofs.RoundOrder.{same-marks, same-slots}
-use Rattle.demands.proofs.RoundReply.{Fits, Ready, Taken, taken, accepts, settled-taken, low-16, count-marked, length-marked, heard-same, heard-other, fits-later, fits-before, next}
+use Rattle.demands.proofs.RoundReply.{Fits, Ready, Taken, taken, accepts, settled-taken, acceptable, low-16, count-marked, length-marked, heard-same, heard-other, fits-later, fits-before, next}
 
 each-map : (P Q : List ℕ → Type 0) → ((f : List ℕ) → P f → Q f) → (fs : List (List ℕ)) → Each P fs → Each Q fs
 each-map P Q g [] a = tt
@@ -176,7 +176,7 @@ all-accepted p i s d f fs h =
     (settled-taken p (allMarked p s (f ∷ fs)) (allSlotted p d (f ∷ fs)) i))
 
 -- ---- the theorems
-module _ (p : Plan) (s : Session) (d i : List ℕ) (open-so : Opens s) where
+module _ (p : Plan) (s : Session) (d i : List ℕ) (open-so : RoundOpens s) where
   marks-16 : length (s .marks) ≡ 16
   marks-16 = rw (open-so .marks)
 
@@ -192,13 +192,10 @@ module _ (p : Plan) (s : Session) (d i : List ℕ) (open-so : Opens s) where
   at-opening [] few a = (tt, tt)
   at-opening (f ∷ fs) few a =
       let h = hears f fs few a in (
-        each-map (λ (z : List ℕ). Fits p s z × (isHeard s (frameNode z) ≡ false)) (Acceptable p s d i) (λ z q. alone z (record { ready = h .ready; fits = q .0; fresh = q .1 }))
+        each-map (λ (z : List ℕ). Fits p s z × (isHeard s (frameNode z) ≡ false)) (Acceptable p s d i) (λ z q. acceptable p s z d i (record { ready = h .ready; fits = q .0; fresh = q .1 }))
             (f ∷ fs) (each-both (Fits p s) (Unheard p i s) (f ∷ fs) (h .fits) (h .fresh)),
         h .one,
       )
-    where
-      alone : (z : List ℕ) → Taken p s z d i → isRefused (readReply p s z d i .said) ≡ false
-      alone z k = ap (λ (o : Outcome). isRefused (o .said)) (accepts p s z d i k) ∙ settled-taken p (marked p s z) (slotted p d z) i
 
   -- And replies of different nodes, each of which would be accepted as the first, are accepted in their turn.
   pub in-turn : (fs : List (List ℕ)) → length fs ≤ replies p → Each (Acceptable p s d i) fs → OneANode fs → Accepted (answers p (opened s d i) fs)

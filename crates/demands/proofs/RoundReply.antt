@@ -45,7 +45,7 @@ use Rattle.session.specs.Reader.{Outcome, outcome, sound, decoded, repaired, fa
 use Rattle.session.proofs.Rules.{lengths-are}
 use Rattle.session.proofs.Made.{StandingIs, OpenIs, in-range-facts, open-in-range, rest-set}
 use Rattle.session.proofs.Readers.{record-long}
-use Rattle.demands.specs.Round.{isRefused, markFor, marked, slotted}
+use Rattle.demands.specs.Round.{isRefused, Acceptable, markFor, marked, slotted}
 use Rattle.demands.proofs.Order.{strict}
 use Rattle.demands.proofs.RoundOrder.{body-long, length-slotted}
 
@@ -205,6 +205,9 @@ module _ (p : Plan) (s : Session) (d i : List ℕ) where
       go : (t : Bool) → isRefused (cond t (outcome stillOpen s d i) (acted p s (closed p s d) d i) .said) ≡ false
       go true = refl
       go false = acted-taken (closed p s d .lead) (closed p s d)
+
+pub acceptable : (p : Plan) (s : Session) (f d i : List ℕ) → Taken p s f d i → Acceptable p s d i f
+acceptable p s f d i k = ap (λ (o : Outcome). isRefused (o .said)) (accepts p s f d i k) ∙ settled-taken p (marked p s f) (slotted p d f) i
 
 -- ---- marks
 bit-unheard : (s : Session) (k : ℕ) → isHeard s k ≡ false → bitOf (markOf (s .marks) k) ≡ 0

@@ -3,7 +3,7 @@
 -- come." The sheet buffer is document 01's item buffer.
 --   opened, ending, answers   a round as it opens; reply frames heard one after another: what the last call leaves, the answers in turn
 --   openUntil                 answers of which all but the last are "open"
---   Opens                     a read round that opens
+--   RoundOpens                a read round that opens
 --   Accepted                  no answer of a list is a refusal
 --   Acceptable                a reply is accepted where the round opens
 --   Each, OneANode            what holds of each reply of a list; no two of them are of one node
@@ -49,7 +49,7 @@ openUntil (suc n) a = stillOpen ∷ openUntil n a
 -- ---- a round that opens, and the replies that it accepts
 -- any round, bound, desk and item: that the plan is accepted, the session in its ranges and both buffers of their lengths is part of a
 -- reply's being accepted (refusals 1, 9 and 2)
-pub record Opens (s : Session) : Type 0 where
+pub record RoundOpens (s : Session) : Type 0 where
   pub round : readRound s ≡ true
   pub marks : s .marks ≡ unheards
 

@@ -7,7 +7,9 @@ pub mod Books
 pub mod Instances
 pub mod Edges
 pub mod RoundSwaps
-pub mod RoundReply
 pub mod RoundOrder
+pub mod RoundReply
+pub mod RoundKept
+pub mod RoundRun
 pub mod Round
 pub mod RoundInstances

@@ -46,7 +46,8 @@ module _ (p : Plan) (s : Session) (d i : List ℕ) (open-so : RoundOpens s) wher
   at-opening (f ∷ fs) few a =
       let h = hears f fs few a in (
         each-map (λ (z : List ℕ). Fits p s z × Unheard p i s z) (Acceptable p s d i)
-            (λ z q. acceptable p s z d i (record { ready = h .ready; fits = q .0; fresh = q .1 })) (f ∷ fs) (each-both (Fits p s) (Unheard p i s) (f ∷ fs) (h .fits) (h .fresh)),
+            (λ z q. acceptable p s z d i (record { ready = h .ready; fits = q .0; fresh = q .1 })) (f ∷ fs)
+            (each-both (Fits p s) (Unheard p i s) (f ∷ fs) (h .fits) (h .fresh)),
         h .one,
       )
 

@@ -208,7 +208,13 @@ pub accepted : Accepted (answers plan (opened session desk item) replies)
 unfolding replies
 accepted =
     theorems.in-turn plan session desk item opens replies (omega (arith, enough)) (first-none, (then-one, tt))
-    ((λ e. absurd (omega (arith, e, node-is 0 [] (omega arith) fits-none (omega arith), node-is 1 record-one (omega arith) fits-one (omega (arith, length-one)))), tt), (tt, tt))
+    ((apart, tt), (tt, tt))
+  where
+    apart : frameNode (reply 1 record-one) ≡ frameNode (reply 0 []) → ⊥
+    apart e =
+        let a = node-is 0 [] (omega arith) fits-none (omega arith) in
+        let b = node-is 1 record-one (omega arith) fits-one (omega (arith, length-one)) in
+        omega (arith, e, a, b)
 
 -- the third demand holds of them, and the round closes
 pub same-ending : ending plan (opened session desk item) turned ≡ ending plan (opened session desk item) replies

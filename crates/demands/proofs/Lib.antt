@@ -6,3 +6,7 @@ pub mod Kept
 pub mod Books
 pub mod Instances
 pub mod Edges
+pub mod Ladders
+pub mod Reading
+pub mod Writing
+pub mod Client

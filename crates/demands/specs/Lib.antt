@@ -1,3 +1,4 @@
 pub mod Deliver
 pub mod History
 pub mod Edges
+pub mod Endings

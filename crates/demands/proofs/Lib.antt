@@ -10,3 +10,4 @@ pub mod Ladders
 pub mod Reading
 pub mod Writing
 pub mod Client
+pub mod Endings

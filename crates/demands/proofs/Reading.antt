@@ -187,7 +187,7 @@ module _ (p : Plan) (s : Session) (f d i : List ℕ) where
     pub is-accepted : readReply p s f d i ≡ accepted p s f d i
     is-accepted = one-ladder ∙ ladders.is-passed (readLadder p s f d (length i)) refuse (accepted p s f d i) n
 
-    low-round : s .round ≤ p .w
+    pub low-round : s .round ≤ p .w
     low-round = in-range-is p s d true (sym (t .range)) refl .round-high
 
     -- the desk keeps its length, and the candidate's slot lies in it
@@ -217,7 +217,7 @@ module _ (p : Plan) (s : Session) (f d i : List ℕ) where
     unfolding accepted
     in-repair q = is-accepted ∙ rw q
 
-    waits-read : isStoring (s .stage) ≡ false → heardCount (u .marks) < replies p → readReply p s f d i ≡ outcome stillOpen u e i
+    pub waits-read : isStoring (s .stage) ≡ false → heardCount (u .marks) < replies p → readReply p s f d i ≡ outcome stillOpen u e i
     unfolding settled
     waits-read q h = in-read q ∙ rw (lt-ltb (heardCount (u .marks)) (replies p) h)
 
@@ -225,7 +225,7 @@ module _ (p : Plan) (s : Session) (f d i : List ℕ) where
     unfolding settled
     closes-read q h = in-read q ∙ rw (le-ltb (heardCount (u .marks)) (replies p) h)
 
-    waits-repair : isStoring (s .stage) ≡ true → heardCount (markedOf s (frameNode f) Record .marks) < replies p
+    pub waits-repair : isStoring (s .stage) ≡ true → heardCount (markedOf s (frameNode f) Record .marks) < replies p
         → readReply p s f d i ≡ outcome stillOpen (markedOf s (frameNode f) Record) d i
     unfolding stored
     waits-repair q h = in-repair q ∙ rw (lt-ltb (heardCount (markedOf s (frameNode f) Record .marks)) (replies p) h)

@@ -1,4 +1,5 @@
 -- When a reply call gives each of its answers. Document 01, "The client", "Endings", "Refusal numbers".
+--   Exactly                one thing exactly when another
 --   readLadder             all that a reply to a reader is refused for, in the order 1, 2, 9, 14, 4, 10, 11, 5, 6, 12
 --   after deskAfter        the session and the desk after an accepted reply of a read round
 --   Closes                 the reply is accepted in a read round, and is its N-t-th
@@ -32,6 +33,10 @@ use Rattle.session.specs.Session.{isStoring, replies, markedOf, Said, refused, 
 use Rattle.session.specs.Reply.{bears, replyLadder, recordLadder}
 use Rattle.session.specs.Reader.{headLength, closed, sound}
 use Rattle.session.specs.Writer.{timedOf}
+
+-- one thing exactly when another
+abbrev pub Exactly : Type 0 → Type 0 → Type 0
+Exactly A B = (A → B) × (B → A)
 
 -- ---- a read
 abbrev pub readLadder : Plan → Session → List ℕ → List ℕ → ℕ → List Rung

@@ -3,17 +3,15 @@
 --   opening-refused owed-refused write-refused read-refused   a refused call changes nothing; its condition holds, and none before it
 --   opening-refuses owed-refuses                       and so it answers wherever that is so; for replies so-write and so-read
 --   write-answers so-write read-answers so-read        each answer of a reply exactly when its condition holds (specs/Endings.antt)
-use Prim.{tt}
-use Prim.Native.Nat.{ℕ, _^_, _≤_, _<_}
+use Prim.Native.Nat.{ℕ, _^_, _<_}
 use mathlib.Core.Path.{_≡_, refl, sym, ap, _∙_, subst}
-use mathlib.Core.Bool.{Bool, true, false, cond}
+use mathlib.Core.Bool.{cond}
 use mathlib.Core.List.{List}
 use native.Mathlib.Omega.{arith}
 use borrow.Author.Tests.{eqb-true, eq-eqb}
 use lib.Dec.{eqb}
 use lib.ListN.{length}
 use Rattle.octets.specs.Bytes.{over}
-use Rattle.terms.specs.Ladder.{Rung, first}
 use Rattle.terms.specs.Stamp.{zeroStamp, stampNumber, hashNumber}
 use Rattle.terms.specs.Terms.{refusalNumber}
 use Rattle.terms.specs.declared.Ask.{Ask}
@@ -35,10 +33,10 @@ use Rattle.session.specs.declared.owed.Owed.{Owed}
 use Rattle.session.specs.declared.owed.Owed.the-variants as owing
 use Rattle.session.specs.Session.{Said, refused, stillOpen, done, neverWritten, aborted, roundsSpent, clockSpent, saidOf}
 use Rattle.session.specs.Opening.{OpenCall, Opens, opens, openingLadder, openingNumber, openWith, freshOf, noSession}
-use Rattle.session.specs.Owed.{OwedCall, Due, Dues, dues, dueOf, written, owedTo, owedLadder, requestOf}
+use Rattle.session.specs.Owed.{OwedCall, Dues, dues, dueOf, written, owedTo, owedLadder, requestOf}
 use Rattle.session.specs.Owed as owed
-use Rattle.session.specs.Reader.{ReadReplyCall, Outcome, readReply}
-use Rattle.session.specs.Writer.{WriteReplyCall, Leaves, writeReply}
+use Rattle.session.specs.Reader.{ReadReplyCall, Outcome}
+use Rattle.session.specs.Writer.{WriteReplyCall, Leaves}
 use Rattle.session.proofs.Openings.{opening-one}
 use Rattle.session.proofs.Oweds.{due-one}
 use Rattle.session.proofs.Checks.{refusal-low}
@@ -187,7 +185,7 @@ module _ (op : Operation) (p : Plan) (a : Ask) (r : Opened) (call : OpenCall op 
       ladders.by-ladder (λ (o : Opens). opens (openingNumber (r .answer)) (r .session) ≡ o → Given (openingLadder p (a .0)) (refusalNumber q) × (r .session ≡ noSession op))
       (openingLadder p (a .0)) none begun
       (λ k g z. let n : refusalNumber q ≡ k = ap openingNumber (sym e) ∙ ap (λ (o : Opens). o .number) z in
-          (subst (Given (openingLadder p (a .0))) (sym n) g, ap (λ (o : Opens). o .session) z))
+      (subst (Given (openingLadder p (a .0))) (sym n) g, ap (λ (o : Opens). o .session) z))
       (λ m z. let n : refusalNumber q ≡ 0 = ap openingNumber (sym e) ∙ ap (λ (o : Opens). o .number) z in absurd (omega (arith, refusal-low q)))
       (call .is)
 
@@ -212,10 +210,10 @@ module _ (p : Plan) (s : Session) (node : ℕ) (d q : List ℕ) (r : Owed) (q₂
       ladders.by-ladder (λ (o : Dues). dues (dueOf r) q₂ ≡ o → Given (owedLadder p s node d (length q)) (refusalNumber x) × (q₂ ≡ q))
       (owedLadder p s node d (length q)) stay give
       (λ k g z. let h : owed.refused (refusalNumber x) ≡ owed.refused k = ap dueOf (sym e) ∙ ap (λ (o : Dues). o .due) z in
-          let n : k ≡ refusalNumber x = cc in
-          (subst (Given (owedLadder p s node d (length q))) n g, ap (λ (o : Dues). o .request) z))
+      let n : k ≡ refusalNumber x = cc in
+      (subst (Given (owedLadder p s node d (length q))) n g, ap (λ (o : Dues). o .request) z))
       (λ m z. let h : owed.refused (refusalNumber x) ≡ written (length (requestOf p s node d)) = ap dueOf (sym e) ∙ ap (λ (o : Dues). o .due) z in
-          let n : _≡_ {A = ℕ} 0 1 = cc in absurd (omega arith))
+      let n : _≡_ {A = ℕ} 0 1 = cc in absurd (omega arith))
       (call .is)
 
   pub owed-refuses : (x : Refusal) → Given (owedLadder p s node d (length q)) (refusalNumber x) → r ≡ owing.Refused x

@@ -6,36 +6,32 @@
 --   decodes repairs        where it is decoded or repaired, the set has m nodes
 use Prim.{Unit, tt}
 use Prim.Native.Nat.{ℕ, zero, suc, _+_, _≤_, _<_}
-use mathlib.Core.Path.{_≡_, refl, sym, ap, _∙_, subst}
+use mathlib.Core.Path.{_≡_, refl, sym, _∙_, subst}
 use mathlib.Core.Bool.{Bool, true, false, cond}
 use mathlib.Core.List.{List, [], _∷_, _++_}
 use native.Mathlib.Omega.{arith}
-use lib.Dec.{ltb, leb}
+use lib.Dec.{ltb}
 use lib.ListN.{length}
 use Rattle.terms.specs.Ladder.{first}
-use Rattle.terms.specs.Terms.{planOk, recordLength, complete, incomplete}
+use Rattle.terms.specs.Terms.{recordLength, complete}
 use Rattle.terms.specs.declared.Plan.{Plan}
-use Rattle.terms.specs.declared.Timestamp.{Timestamp}
-use Rattle.terms.specs.declared.Verdict.{Verdict}
-use Rattle.terms.specs.declared.Verdict.the-variants as verdict
 use Rattle.terms.proofs.Facts.{facts}
 use Rattle.fragments.specs.Fragments.{All}
 use Rattle.frame.specs.Frame.{frameNode}
 use Rattle.rounds.specs.declared.Heard.{Heard}
 use Rattle.rounds.specs.declared.Heard.the-variants.{Unheard, First, Record}
 use Rattle.rounds.specs.declared.Mark.{Mark}
-use Rattle.rounds.specs.declared.Lead.{Lead}
-use Rattle.rounds.specs.declared.Lead.the-variants.{Nobody, Node}
-use Rattle.rounds.specs.Rounds.{bitOf, heardCount, markOf, joinsOf, setOf, Closed}
+use Rattle.rounds.specs.Rounds.{bitOf, heardCount, markOf, joinsOf, setOf}
 use Rattle.rounds.proofs.Closes.{Best, candidate, Members, members-are}
 use Rattle.session.specs.declared.Session.{Session}
 use Rattle.session.specs.declared.Took.{Took}
 use Rattle.session.specs.Session.{isStoring, replies, markedOf, Said, refused, stillOpen, done, neverWritten, aborted, roundsSpent, clockSpent, saidOf}
-use Rattle.session.specs.Reader.{ReadReplyCall, Outcome, outcome, headLength, sound, failing, actOn, actFor, acted, closed, settled, stored, accepted, readReply}
+use Rattle.session.specs.Reader.{ReadReplyCall, Outcome, outcome, headLength, closed, settled, stored, accepted}
 use Rattle.session.specs.Writer.{WriteReplyCall}
 use Rattle.demands.specs.Endings.{Exactly, readLadder, after, deskAfter, Candidate, size, WhenNever, WhenAborted, WhenSpent, WhenDone, WhenOpen, DoneByRead, RepairOpens, WriteDone, WriteClock, WriteOpen, ReadGives, WriteGives}
 use Rattle.demands.proofs.Ladders as ladders
 use Rattle.demands.proofs.Reading as reading
+use Rattle.demands.proofs.Shapes as shapes
 use Rattle.demands.proofs.Client as client
 
 -- ---- a read
@@ -97,39 +93,22 @@ module _ (i : List ℕ) where
   abbrev Stays : Outcome → Type 0
   Stays o = isDone (o .said) ≡ false → o .item ≡ i
 
-  pick : (b : Bool) (x y : Outcome) → Stays x → Stays y → Stays (cond b x y)
-  pick true x y h k = h
-  pick false x y h k = k
-
   wrong : {A : Type 0} → true ≡ false → A
   wrong e = let z : _≡_ {A = ℕ} 0 1 = cc in absurd (omega arith)
 
-  module _ (p : Plan) (s : Session) (d : List ℕ) where
-    failing-stays : (t : Timestamp) → Stays (failing p s t d i)
-    unfolding failing
-    failing-stays t = pick (leb (p .w) (s .round)) _ _ (λ e. refl) (λ e. refl)
-
-    on-stays : (v : Verdict) (c : Closed) (a : ℕ) → Stays (actOn v p s c a d i)
-    unfolding actOn
-    on-stays verdict.Complete c a = pick (sound p c a d) _ _ (λ e. wrong e) (failing-stays (c .stamp))
-    on-stays verdict.Repair c a = pick (sound p c a d) _ _ (λ e. refl) (failing-stays (c .stamp))
-    on-stays verdict.Aborted c a = λ e. refl
-    on-stays verdict.Incomplete c a = failing-stays (c .stamp)
-
-    for-stays : (l : Lead) (c : Closed) → Stays (actFor l p s c d i)
-    unfolding actFor
-    for-stays Nobody c = λ e. refl
-    for-stays (Node a) c = on-stays (c .verdict) c a
-
-    settled-stays : Stays (settled p s d i)
-    unfolding settled
-    settled-stays = pick (ltb (heardCount (s .marks)) (replies p)) _ _ (λ e. refl) (for-stays (closed p s d .lead) (closed p s d))
+  settled-stays : (p : Plan) (s : Session) (d : List ℕ) → Stays (settled p s d i)
+  unfolding settled
+  settled-stays p s d =
+      shapes.pick Stays (ltb (heardCount (s .marks)) (replies p)) (λ e. refl)
+      (shapes.each Stays p s d i
+      (record { ends = λ x y e. wrong e; never = λ e. refl; aborts = λ e. refl; spends = λ h e. refl; next = λ t h e. refl; mends = λ t y e. refl })
+      (closed p s d))
 
   accepted-stays : (p : Plan) (s : Session) (f d : List ℕ) → Stays (accepted p s f d i)
   unfolding accepted stored
   accepted-stays p s f d =
-      pick (isStoring (s .stage)) _ _
-      (pick (ltb (heardCount (markedOf s (frameNode f) Record .marks)) (replies p)) _ _ (λ e. refl) (λ e. wrong e))
+      shapes.pick Stays (isStoring (s .stage))
+      (shapes.pick Stays (ltb (heardCount (markedOf s (frameNode f) Record .marks)) (replies p)) (λ e. refl) (λ e. wrong e))
       (subst Stays (sym (reading.heard-settles p s f d i)) (settled-stays p (after p s f) (deskAfter p f d)))
 
 pub only-done-writes : (p : Plan) (s : Session) (f d i : List ℕ) (t : Took) (d₂ i₂ : List ℕ) → ReadReplyCall p s f d i t d₂ i₂
@@ -185,9 +164,10 @@ pub set-is : (p : Plan) (s : Session) (f d : List ℕ) (a : ℕ)
     → Rising (setOf (after p s f .marks) (deskAfter p f d) (recordLength p) (headLength p) a (p .n))
     × Members (deskAfter p f d) (recordLength p) (headLength p) a (p .n) (after p s f .marks)
     (setOf (after p s f .marks) (deskAfter p f d) (recordLength p) (headLength p) a (p .n))
-set-is p s f d a =
-    (set-rises (after p s f .marks) (deskAfter p f d) (recordLength p) (headLength p) a (p .n),
-    members-are (after p s f .marks) (deskAfter p f d) (recordLength p) (headLength p) a (p .n))
+set-is p s f d a = (
+  set-rises (after p s f .marks) (deskAfter p f d) (recordLength p) (headLength p) a (p .n),
+  members-are (after p s f .marks) (deskAfter p f d) (recordLength p) (headLength p) a (p .n),
+)
 
 -- where a set is decoded, and where it is repaired, it has m nodes
 pub decodes : (p : Plan) (s : Session) (f d : List ℕ) (item stamp n : ℕ) (w : DoneByRead p s f d item stamp n) → p .m ≤ size p s f d (w .node)

@@ -7,7 +7,9 @@ pub mod Books
 pub mod Instances
 pub mod Edges
 pub mod Ladders
+pub mod Shapes
 pub mod Reading
 pub mod Writing
 pub mod Client
 pub mod Endings
+pub mod Counting

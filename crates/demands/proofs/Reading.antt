@@ -1,8 +1,8 @@
 -- When a reply to a reader gives each of its answers: gives, and gives-so the other way. Assumes nothing.
-use Prim.Native.Nat.{ℕ, _+_, _*_, _≤_, _<_}
+use Prim.Native.Nat.{ℕ, _*_, _≤_, _<_}
 use mathlib.Core.Path.{_≡_, refl, sym, ap, _∙_, subst}
-use mathlib.Core.Bool.{Bool, true, false, cond, not}
-use mathlib.Core.List.{List, [], _++_}
+use mathlib.Core.Bool.{Bool, true, false, cond}
+use mathlib.Core.List.{List}
 use mathlib.Core.Logic.{_⊎_, inl, inr}
 use native.Mathlib.Omega.{arith}
 use borrow.Author.Tests.{ltb-true, ltb-false, lt-ltb, le-ltb, leb-true, leb-false, lt-leb, le-leb, not-false}
@@ -12,22 +12,22 @@ use Rattle.octets.specs.Bytes.{put}
 use Rattle.octets.proofs.Laws.{length-put}
 use Rattle.terms.specs.Ladder.{first, _and_}
 use Rattle.terms.specs.Stamp.{stampAt, stampNumber}
-use Rattle.terms.specs.Terms.{planOk, recordLength, complete, incomplete, classOf, decided}
+use Rattle.terms.specs.Terms.{planOk, recordLength, complete, incomplete, decided}
 use Rattle.terms.specs.declared.Plan.{Plan}
 use Rattle.terms.specs.declared.Member.{Member}
 use Rattle.terms.specs.declared.Member.the-variants.{Repairable, NonRepair}
 use Rattle.terms.specs.declared.Class.the-variants as class
 use Rattle.terms.specs.declared.Verdict.{Verdict}
 use Rattle.terms.specs.declared.Verdict.the-variants as verdict
-use Rattle.terms.proofs.Rungs.{None, Given, both}
-use Rattle.terms.proofs.Facts.{facts, is-complete, is-incomplete, is-unclassifiable, decided-is}
+use Rattle.terms.proofs.Rungs.{None, both}
+use Rattle.terms.proofs.Facts.{is-complete, is-incomplete, is-unclassifiable, decided-is}
 use Rattle.terms.proofs.Stamps.{stamp-at-number}
 use Rattle.frame.specs.Frame.{frameNode, bodyOf, goodReply}
 use Rattle.frame.proofs.Frames.{reply-is}
 use Rattle.rounds.specs.declared.Heard.the-variants.{First, Record}
 use Rattle.rounds.specs.declared.Lead.{Lead}
 use Rattle.rounds.specs.declared.Lead.the-variants.{Nobody, Node}
-use Rattle.rounds.specs.Rounds.{heardCount, markOf, leadOf, setOf, slotStamp, Closed, closeWith}
+use Rattle.rounds.specs.Rounds.{heardCount, markOf, leadOf, slotStamp, Closed, closeWith}
 use Rattle.rounds.proofs.Laws.{lead-room, slot-room}
 use Rattle.rounds.proofs.Closes.{candidate, no-candidate}
 use Rattle.session.specs.declared.Session.{Session}
@@ -35,10 +35,10 @@ use Rattle.session.specs.declared.Operation.the-variants.{Read}
 use Rattle.session.specs.Session.{isStoring, replies, markedOf, endedOf, nextOf, storingOf, Said, refused, stillOpen, done, neverWritten, aborted, roundsSpent, clockSpent}
 use Rattle.session.specs.Ranges.{inRange}
 use Rattle.session.specs.Reply.{bears, replyLadder, recordLadder, lengthsOk, sameOperation}
-use Rattle.session.specs.Reader.{Outcome, outcome, headLength, sound, decoded, collected, repaired, failing, actOn, actFor, acted, closed, settled, heard, stored, accepted, readReply}
+use Rattle.session.specs.Reader.{Outcome, outcome, headLength, decoded, collected, repaired, failing, acted, closed, settled, heard, stored, accepted, readReply}
 use Rattle.session.proofs.Rules.{lengths-are, in-range-is}
 use Rattle.session.proofs.Readers as readers
-use Rattle.demands.specs.Endings.{readLadder, heardAs, after, deskAfter, Closes, Candidate, size, valid, Fails, WhenNever, WhenAborted, WhenSpent, DoneByRead, DoneByRepair, Waits, NextOpens, RepairOpens, WhenDone, WhenOpen, ReadGives}
+use Rattle.demands.specs.Endings.{readLadder, after, deskAfter, Closes, Candidate, size, valid, Fails, ReadGives}
 use Rattle.demands.proofs.Ladders as ladders
 
 -- ---- a set, by its size: one of three
@@ -114,6 +114,10 @@ module _ (p : Plan) (s : Session) (f d i : List ℕ) where
 
   abbrev c : Closed
   c = closed p u e
+
+  -- what the round comes to if it closes with this reply
+  abbrev pub act-of : Outcome
+  act-of = acted p u c e i
 
   pub one-ladder : readReply p s f d i ≡ first (readLadder p s f d (length i)) refuse (accepted p s f d i)
   unfolding readReply

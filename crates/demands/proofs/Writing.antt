@@ -18,7 +18,7 @@ use Rattle.rounds.specs.Rounds.{heardCount}
 use Rattle.session.specs.declared.Session.{Session}
 use Rattle.session.specs.Session.{isStoring, replies, markedOf, endedOf, storingOf, Said, refused, stillOpen, done, neverWritten, aborted, roundsSpent, clockSpent}
 use Rattle.session.specs.Writer.{timedOf, newTime, stampFor, recordsFor, Leaves, leaves, timeEnd, timeTurn, writeTurn, acceptedWrite, writeReply}
-use Rattle.demands.specs.Endings.{writeLadder, wrote, WriteDone, WriteClock, WriteOpen, WriteGives}
+use Rattle.demands.specs.Endings.{writeLadder, WriteGives}
 use Rattle.demands.proofs.Ladders as ladders
 
 module _ (p : Plan) (s : Session) (f d i : List ℕ) where

@@ -2,3 +2,4 @@ pub mod Deliver
 pub mod History
 pub mod Edges
 pub mod Endings
+pub mod Turns

@@ -1,12 +1,12 @@
+pub mod Ladders
 pub mod Order
+pub mod Node
 pub mod One
 pub mod Run
-pub mod Node
 pub mod Kept
 pub mod Books
 pub mod Instances
 pub mod Edges
-pub mod Ladders
 pub mod Shapes
 pub mod Reading
 pub mod Writing

@@ -1,4 +1,6 @@
 pub mod Deliver
 pub mod History
 pub mod Edges
+pub mod Endings
+pub mod Turns
 pub mod Round

@@ -12,7 +12,6 @@ pub mod Reading
 pub mod Writing
 pub mod Client
 pub mod Endings
-pub mod Counting
 pub mod RoundSwaps
 pub mod RoundOrder
 pub mod RoundReply
@@ -20,3 +19,4 @@ pub mod RoundKept
 pub mod RoundRun
 pub mod Round
 pub mod RoundInstances
+pub mod Counting

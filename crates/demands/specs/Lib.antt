@@ -1,6 +1,6 @@
 pub mod Deliver
 pub mod History
 pub mod Edges
+pub mod Round
 pub mod Endings
 pub mod Turns
-pub mod Round

@@ -6,7 +6,7 @@
 --   filled-slot          slot k is as it was where k is a source, and else record k of the desk as it was
 --   filled-record        where the sources' heads are alike, slot k is record k of the desk as it was, for every k
 -- Assumes nothing.
-use mathlib.Core.Path.{_≡_, refl, sym, ap, ap₂, _∙_, subst}
+use mathlib.Core.Path.{_≡_, refl, sym, ap, ap₂, _∙_}
 use mathlib.Core.Bool.{Bool, true, false, cond}
 use mathlib.Core.List.{List, [], _∷_, _++_}
 use Prim.Native.Nat.{ℕ, zero, suc, _+_, _*_, _≤_, _<_}

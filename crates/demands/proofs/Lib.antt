@@ -6,3 +6,6 @@ pub mod Kept
 pub mod Books
 pub mod Instances
 pub mod Edges
+pub mod Repair
+pub mod Sessions
+pub mod RepairInstance

@@ -1,3 +1,5 @@
 pub mod Deliver
 pub mod History
 pub mod Edges
+pub mod Repair
+pub mod Sessions

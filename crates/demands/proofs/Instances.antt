@@ -86,11 +86,11 @@ pub made-so : FreshCall plan 0 (zeros 157) Fresh book
 unfolding freshened first book plan
 made-so = record { is = rw (accepted-plan, length-zeros 157) }
 
-small : List ℕ → Bool
+unfoldable pub small : List ℕ → Bool
 small [] = true
 small (x ∷ l) = cond (ltb x 256) (small l) false
 
-small-octets : (l : List ℕ) → small l ≡ true → Octets l
+pub small-octets : (l : List ℕ) → small l ≡ true → Octets l
 unfolding small
 small-octets [] e i = lit< tt
 small-octets (x ∷ l) e zero = ltb-true _ _ (both (ltb x 256) _ e .0)

@@ -20,3 +20,6 @@ pub mod RoundRun
 pub mod Round
 pub mod RoundInstances
 pub mod Counting
+pub mod Repair
+pub mod RepairInstance
+pub mod Sessions

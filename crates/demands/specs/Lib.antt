@@ -4,3 +4,5 @@ pub mod Edges
 pub mod Round
 pub mod Endings
 pub mod Turns
+pub mod Repair
+pub mod Sessions

@@ -1,5 +1,5 @@
 -- Every session that opening and writing make is in its ranges with the desk handed back: an accepted opening's (opened-kept), and what a
--- reply to a writer leaves of one that was (write-kept). Assumes nothing.
+-- reply to a writer leaves of one that was (write-kept). ReadKept.antt has the replies to a reader. Assumes nothing.
 use Prim.Native.Nat.{ℕ, _*_, _^_, _≤_, _<_}
 use mathlib.Core.Path.{_≡_, refl, sym, _∙_, subst}
 use mathlib.Core.Bool.{Bool, true, false, cond}
@@ -11,7 +11,7 @@ use lib.ListN.{length, set}
 use Rattle.octets.specs.Bytes.{part, num, Octets}
 use Rattle.octets.proofs.Laws.{length-part}
 use Rattle.octets.proofs.Meaning.{num-small, bytes-part, bytes-all}
-use Rattle.terms.specs.Ladder.{first, _and_, _or_}
+use Rattle.terms.specs.Ladder.{first}
 use Rattle.terms.specs.Terms.{recordLength}
 use Rattle.terms.specs.Stamp.{time, stampAt, stampNumber}
 use Rattle.terms.specs.declared.Plan.{Plan}
@@ -20,6 +20,7 @@ use Rattle.terms.specs.declared.Time.{Time}
 use Rattle.frame.specs.Frame.{frameNode, bodyOf}
 use Rattle.frame.proofs.Frames.{body-part}
 use Rattle.record.proofs.Desks.{time-made}
+use Rattle.rounds.specs.declared.Heard.{Heard}
 use Rattle.rounds.specs.declared.Heard.the-variants.{Record}
 use Rattle.rounds.specs.Rounds.{heardCount}
 use Rattle.session.specs.declared.Session.{Session}
@@ -29,7 +30,7 @@ use Rattle.session.specs.declared.opening.Opened.{Opened}
 use Rattle.session.specs.declared.opening.Opening.the-variants.{Accepted}
 use Rattle.session.specs.Opening.{OpenCall}
 use Rattle.session.specs.declared.Operation.the-variants.{Write}
-use Rattle.session.specs.Session.{isRead, isStoring, replies, markedOf, endedOf, storingOf, refused, stillOpen, done, clockSpent}
+use Rattle.session.specs.Session.{isStoring, readRound, replies, markedOf, endedOf, storingOf, refused, stillOpen, done, clockSpent}
 use Rattle.session.specs.Ranges.{inRange}
 use Rattle.session.specs.Reply.{replyLadder}
 use Rattle.session.specs.Writer.{laterOf, timedOf, newTime, crossFor, stampFor, recordsFor, leaves, Leaves, timeEnd, timeTurn, writeTurn, acceptedWrite, writeReply, WriteReplyCall}
@@ -68,9 +69,9 @@ stamp-low : (p : Plan) (t : ℕ) (i : List ℕ) → 1 ≤ t → t < 256 ^ 8 → 
 unfolding stampFor stampAt
 stamp-low p t i h k = rw (time-made t (crossFor p i) k) h
 
--- ---- a node heard in a time or write round
-abbrev heardOf : Session → ℕ → Time → Session
-heardOf s n g =
+-- ---- a node heard: in a time round it may give a later time
+abbrev pub heardOf : Session → ℕ → Heard → Time → Session
+heardOf s n m g =
     record {
       operation = s .operation;
       stage = s .stage;
@@ -79,30 +80,30 @@ heardOf s n g =
       opening = s .opening;
       greatest = g;
       stamp = s .stamp;
-      marks = set (s .marks) n (record { is = Record });
+      marks = set (s .marks) n (record { is = m });
     }
 
-module _ (p : Plan) (s : Session) (n : ℕ) (g : Time) (h : n < p .n) where
-  heard-stands : StandingIs p s → StandingIs p (heardOf s n g)
-  heard-stands q =
-      record {
-        low = q .low;
-        high = q .high;
-        counted = q .counted;
-        bounded = q .bounded;
-        rest = rest-set (s .marks) (p .n) n (record { is = Record }) h ∙ q .rest;
-        opening = q .opening;
-      }
+pub heard-stands : (p : Plan) (s : Session) (n : ℕ) (m : Heard) (g : Time) → n < p .n → StandingIs p s → StandingIs p (heardOf s n m g)
+heard-stands p s n m g h q =
+    record {
+      low = q .low;
+      high = q .high;
+      counted = q .counted;
+      bounded = q .bounded;
+      rest = rest-set (s .marks) (p .n) n (record { is = m }) h ∙ q .rest;
+      opening = q .opening;
+    }
 
-  heard-open : (d : List ℕ) → isRead (s .operation) ≡ false → OpenIs p s d → ltb (heardCount (heardOf s n g .marks)) (replies p) ≡ true
-      → OpenIs p (heardOf s n g) d
-  heard-open d w o e =
-      record {
-        stamped = o .stamped;
-        firsts = rw w (none-set (s .marks) n (rw w at (o .firsts)));
-        few = e;
-        slots = rw w;
-      }
+-- a time, write or repair round that stays open
+pub heard-open : (p : Plan) (s : Session) (n : ℕ) (g : Time) (d : List ℕ) → readRound s ≡ false → OpenIs p s d
+    → ltb (heardCount (heardOf s n Record g .marks)) (replies p) ≡ true → OpenIs p (heardOf s n Record g) d
+heard-open p s n g d w o e =
+    record {
+      stamped = o .stamped;
+      firsts = rw w (none-set (s .marks) n (rw w at (o .firsts)));
+      few = e;
+      slots = rw w;
+    }
 
 -- ---- the call
 module _ (p : Plan) (s : Session) (f d i : List ℕ) (o : Octets f) (k : Kept p s d) where
@@ -114,20 +115,23 @@ module _ (p : Plan) (s : Session) (f d i : List ℕ) (o : Octets f) (k : Kept p 
     q : Taking p s f d (length i)
     q = taking p s f d (length i) e
 
+    no-read : readRound s ≡ false
+    no-read = rw (q .writes)
+
     held : StandingIs p s × OpenIs p s d
     held = in-range-facts p s d (k .range) (none-applies (replyLadder Write p s f d (length i)) refl e .1 .1 .1 .0)
 
     module _ (g : Time) (small : g .0 < 256 ^ 8) where
       abbrev u : Session
-      u = heardOf s (frameNode f) g
+      u = heardOf s (frameNode f) Record g
 
       stands : StandingIs p u
-      stands = heard-stands p s (frameNode f) g (q .reply .node-low) (held .0)
+      stands = heard-stands p s (frameNode f) Record g (q .reply .node-low) (held .0)
 
       still : ltb (heardCount (u .marks)) (replies p) ≡ true → Kept p u d
       still c =
           record {
-            range = open-in-range p u d stands (heard-open p s (frameNode f) g (q .reply .node-low) d (q .writes) (held .1) c);
+            range = open-in-range p u d stands (heard-open p s (frameNode f) g d no-read (held .1) c);
             desk-is = k .desk-is;
             clock = small;
           }

@@ -3,6 +3,8 @@ pub mod Checks
 pub mod Made
 pub mod Openings
 pub mod Oweds
+pub mod Closings
 pub mod Readers
 pub mod Writers
 pub mod Kept
+pub mod ReadKept

@@ -1,8 +1,8 @@
 -- One law for each hard need of the reader's functions. Assumes nothing.
 use mathlib.Core.Path.{_≡_, refl, sym, ap, ap₂, _∙_}
 use mathlib.Core.Bool.{Bool, true, false}
-use mathlib.Core.List.{List, [], _∷_}
-use Prim.Native.Nat.{ℕ, zero, suc, _+_, _-_, _*_, _≤_, _<_}
+use mathlib.Core.List.{List}
+use Prim.Native.Nat.{ℕ, _+_, _-_, _*_, _≤_, _<_}
 use native.Mathlib.Omega.{arith}
 use borrow.Author.Tests.{lt-ltb, le-ltb, lt-leb, le-leb, eqb-true, not-false}
 use lib.Dec.{eqb}
@@ -11,7 +11,7 @@ use lib.Seq.{length-take-le, take-take, getD-take}
 use Rattle.octets.specs.Bytes.{part, put}
 use Rattle.terms.specs.Ladder.{first}
 use Rattle.terms.specs.declared.Refusal.{Refusal}
-use Rattle.terms.specs.Terms.{planOk, recordLength, complete, incomplete, decided, refusalNumber}
+use Rattle.terms.specs.Terms.{planOk, recordLength, complete, incomplete, refusalNumber}
 use Rattle.terms.specs.Stamp.{stamp, stampNumber}
 use Rattle.terms.specs.declared.Plan.{Plan}
 use Rattle.terms.specs.declared.Timestamp.{Timestamp}
@@ -21,18 +21,17 @@ use Rattle.terms.specs.declared.Verdict.the-variants.{Complete, Repair, Aborted
 use Rattle.terms.proofs.Rungs.{None, both}
 use Rattle.terms.proofs.Plans.{PlanIs, plan-is}
 use Rattle.terms.proofs.Facts.{facts}
-use Rattle.fragments.specs.Fragments.{All, from, laid, Sources}
+use Rattle.fragments.specs.Fragments.{from, laid, Sources}
 use Rattle.frame.specs.Frame.{kindOf, frameNode, bodyOf, goodReply}
 use Rattle.frame.proofs.Frames.{reply-is, body-is}
 use Rattle.rounds.specs.declared.Heard.the-variants.{First, Record}
-use Rattle.rounds.specs.declared.Lead.{Lead}
 use Rattle.rounds.specs.declared.Lead.the-variants.{Nobody, Node}
 use Rattle.rounds.specs.declared.Close.{Close}
 use Rattle.record.specs.Record.{hashesOk, timeZero}
-use Rattle.rounds.specs.Rounds.{underOf, heardCount, leadOf, setOf, listed, told, Closed, closeWith, closeOf}
-use Rattle.rounds.proofs.Laws.{lead-room, size-is, slot-room}
-use Rattle.rounds.proofs.Closes.{members-are, decided-complete, decided-repair}
+use Rattle.rounds.specs.Rounds.{underOf, heardCount, listed, told, Closed, closeOf}
+use Rattle.rounds.proofs.Laws.{size-is, slot-room}
 use Rattle.recover.specs.Recover.{validates, refilled}
+use Rattle.recover.proofs.Filled.{all-at}
 use Rattle.session.specs.declared.Session.{Session}
 use Rattle.session.specs.Session.{isStoring, replies, markedOf, endedOf, nextOf, storingOf, stillOpen, done, neverWritten, aborted, roundsSpent, refused}
 use Rattle.session.specs.declared.Check.{Check}
@@ -42,6 +41,7 @@ use Rattle.session.specs.declared.Operation.the-variants.{Read}
 use Rattle.session.specs.Reply.{bears, lengthsOk, replyLadder, recordLadder, checkNumber}
 use Rattle.session.proofs.Rules.{lengths-are}
 use Rattle.session.proofs.Checks.{none-applies, goes-on as ladder-goes-on, check-passed, check-failed}
+use Rattle.session.proofs.Closings.{Led, led, lead-low, nodes-below, sized, sized-whole}
 use Rattle.session.specs.Reader.{Outcome, outcome, headLength, lowest, sound, decoded, collected, repaired, failing, actOn, actFor, acted, closed, settled, heard, stored, accepted, readReply, Usable, Acting}
 
 -- ---- lengths
@@ -156,62 +156,37 @@ module _ (p : Plan) (s : Session) (c : Closed) (d i : List ℕ) where
   act-led a o k q = q ∙ rw k
 
 -- ---- a close that is this round's can be acted on
-all-at : (P : ℕ → Type 0) (l : List ℕ) → All P l → (k : ℕ) → k < length l → P (getD l k 0)
-all-at P [] h k u = absurd (omega arith)
-all-at P (x ∷ l) h zero u = h .0
-all-at P (x ∷ l) h (suc k) u = all-at P l (h .1) k (omega arith)
-
 module _ (p : Plan) (s : Session) (d : List ℕ) (c : Close) (ok : planOk p ≡ true) (l : length d ≡ p .n * recordLength p)
     (t : told c ≡ closed p s d) (len : length (c .set .nodes) ≡ 16) (few : c .set .size ≤ p .n) where
-  -- the lead of the close is the round's
-  with-lead : (x : Lead) → closeWith (s .marks) d (p .n) (headLength p) (recordLength p) (p .member) (complete p) (incomplete p) x .lead ≡ x
-  unfolding closeWith
-  with-lead Nobody = refl
-  with-lead (Node a) = refl
+  is-led : (a : ℕ) → c .lead ≡ Node a → Led p s d a
+  is-led a e = led p s d a (sym (ap (λ (x : Closed). x .lead) t) ∙ e)
 
-  leads : (a : ℕ) → c .lead ≡ Node a → leadOf (s .marks) d (recordLength p) (p .n) ≡ Node a
-  leads a e = sym (with-lead (leadOf (s .marks) d (recordLength p) (p .n))) ∙ sym (ap (λ (x : Closed). x .lead) t) ∙ e
-
-  pub record Set-is (a : ℕ) : Type 0 where
-    pub nodes : listed (c .set) ≡ setOf (s .marks) d (recordLength p) (headLength p) a (p .n)
-    pub verdict : c .verdict ≡ decided (p .member) (complete p) (incomplete p) (length (setOf (s .marks) d (recordLength p) (headLength p) a (p .n)))
-
-  set-is : (a : ℕ) → c .lead ≡ Node a → Set-is a
-  unfolding closeWith
-  set-is a e =
-      let q : told c ≡ closeWith (s .marks) d (p .n) (headLength p) (recordLength p) (p .member) (complete p) (incomplete p) (Node a) =
-      t ∙ ap (closeWith (s .marks) d (p .n) (headLength p) (recordLength p) (p .member) (complete p) (incomplete p)) (leads a e) in
-      record { nodes = ap (λ (x : Closed). x .nodes) q; verdict = ap (λ (x : Closed). x .verdict) q }
-
-  usable : (a : ℕ) (e : c .lead ≡ Node a) → p .m ≤ length (setOf (s .marks) d (recordLength p) (headLength p) a (p .n)) → Usable p c a d
+  usable : (a : ℕ) → c .lead ≡ Node a → p .m ≤ length (closed p s d .nodes) → Usable p c a d
   usable a e m =
-      let q = set-is a e in
-      let n16 = plan-is p ok .n-high in
-      let size : c .set .size ≡ length (setOf (s .marks) d (recordLength p) (headLength p) a (p .n)) = size-is (c .set) (setOf (s .marks) d (recordLength p) (headLength p) a (p .n)) len (omega arith) (q .nodes) in
-      let all = members-are (s .marks) d (recordLength p) (headLength p) a (p .n) .below in
+      let k = is-led a e in
+      let same : listed (c .set) ≡ closed p s d .nodes = ap (λ (x : Closed). x .nodes) t in
+      let size : c .set .size ≡ length (closed p s d .nodes) = size-is (c .set) (closed p s d .nodes) len (omega (arith, plan-is p ok .n-high)) same in
       record {
         plan = ok;
         desk = l;
-        lead = lead-room (s .marks) d (recordLength p) (p .n) a (leadOf (s .marks) d (recordLength p) (p .n)) refl (leads a e);
+        lead = lead-low p s d a k;
         nodes = len;
         size = omega arith;
-        below = λ k u.
-            let b : getD (setOf (s .marks) d (recordLength p) (headLength p) a (p .n)) k 0 < p .n = all-at (λ (y : ℕ). y < p .n) (setOf (s .marks) d (recordLength p) (headLength p) a (p .n)) all k (omega arith) in
-            let g : getD (c .set .nodes) k 0 ≡ getD (setOf (s .marks) d (recordLength p) (headLength p) a (p .n)) k 0 =
-            sym (getD-take (c .set .size) (c .set .nodes) k 0 (omega arith)) ∙ ap (λ (x : List ℕ). getD x k 0) (q .nodes) in
+        below = λ j u.
+            let b : getD (closed p s d .nodes) j 0 < p .n = all-at (λ (y : ℕ). y < p .n) (closed p s d .nodes) (nodes-below p s d a k) j (omega arith) in
+            let g : getD (c .set .nodes) j 0 ≡ getD (closed p s d .nodes) j 0 =
+            sym (getD-take (c .set .size) (c .set .nodes) j 0 (omega arith)) ∙ ap (λ (x : List ℕ). getD x j 0) same in
             omega (arith, b, g);
       }
 
   pub acting : (i : List ℕ) → length i ≡ p .m * p .f → Acting p c d i
   acting i li =
+      let verdict : c .verdict ≡ closed p s d .verdict = ap (λ (x : Closed). x .verdict) t in
       record {
         plan = ok;
         item = li;
-        whole = λ a e v. let f = facts p ok in usable a e (omega (arith, decided-complete (p .member) (complete p) (incomplete p) (length (setOf (s .marks) d (recordLength p) (headLength p) a (p .n))) (sym (set-is a e .verdict) ∙ v)));
-        half = λ a e v.
-            let f = facts p ok in
-            let g = decided-repair (p .member) (complete p) (incomplete p) (length (setOf (s .marks) d (recordLength p) (headLength p) a (p .n))) (sym (set-is a e .verdict) ∙ v) in
-            usable a e (omega (arith, g .0, f .low-decodes (g .1)));
+        whole = λ a e v. usable a e (sized-whole p s d a (is-led a e) ok (sym verdict ∙ v));
+        half = λ a e v. usable a e (sized p s d a (is-led a e) ok (sym verdict ∙ v));
       }
 
 -- ---- after a mark

@@ -1,0 +1,185 @@
+-- The desk after it was filled in place. Slots are written one after the other, each from the desk so far; a source's slot is never
+-- written, and a record is made of sources alone: so each record is the one of the desk as it was.
+--   all-at each-source   what holds of all of a list holds of the one at an index; of each among it, of all
+--   slot-stays           a record put into one slot leaves every other slot
+--   length-filled        the desk keeps its length
+--   filled-slot          slot k is as it was where k is a source, and else record k of the desk as it was
+--   filled-record        where the sources' heads are alike, slot k is record k of the desk as it was, for every k
+-- Assumes nothing.
+use mathlib.Core.Path.{_≡_, refl, sym, ap, ap₂, _∙_}
+use mathlib.Core.Bool.{Bool, true, false, cond}
+use mathlib.Core.List.{List, [], _∷_, _++_}
+use Prim.Native.Nat.{ℕ, zero, suc, _+_, _*_, _≤_, _<_}
+use native.Mathlib.Nat.{mul-le-mul-right, suc-mul}
+use native.Mathlib.Decide.{ℕ-discrete}
+use native.Mathlib.Omega.{arith}
+use borrow.Author.Tests.{ltb-true, ltb-false, eq-eqb}
+use lib.Dec.{eqb, ltb}
+use lib.ListN.{length, getD, length-append}
+use Rattle.octets.specs.Bytes.{part, put}
+use Rattle.octets.proofs.Laws.{length-part, length-put, part-part, part-put-same, part-put-before, part-put-after}
+use Rattle.octets.proofs.Meaning.{getD-part, part-add}
+use Rattle.fragments.specs.Fragments.{All, among, tabulate, value, regenerated, Sources}
+use Rattle.fragments.proofs.Lists.{tabulate-ext}
+use Rattle.fragments.proofs.Interp.{all-map, value-ext}
+use Rattle.fragments.proofs.Laws.{among-all, length-regenerated}
+use Rattle.recover.specs.Recover.{recordFrom, slotFilled, refilled}
+use Rattle.recover.proofs.Laws.{slot-room}
+
+-- ---- lists
+pub all-at : (P : ℕ → Type 0) (l : List ℕ) → All P l → (k : ℕ) → k < length l → P (getD l k 0)
+all-at P [] h k u = absurd (omega arith)
+all-at P (x ∷ l) h zero u = h .0
+all-at P (x ∷ l) h (suc k) u = all-at P l (h .1) k (omega arith)
+
+pub each-source : (P : ℕ → Type 0) (qs : List ℕ) → ((q : ℕ) → among q qs ≡ true → P q) → All P qs
+unfolding among
+each-source P [] g = tt
+each-source P (q ∷ qs) g = (g q (rw (eq-eqb q q refl)), each-source P qs (λ k s. g k (later k (eqb q k) s)))
+  where
+    later : (k : ℕ) (t : Bool) → among k qs ≡ true → cond t true (among k qs) ≡ true
+    later k true s = refl
+    later k false s = s
+
+-- ---- slots
+-- what lies in slot k, from its byte at on, is not touched by a record put into slot j
+pub slot-stays : (d x : List ℕ) (r j k : ℕ) → length x ≡ r → j * r + r ≤ length d → (k ≡ j → ⊥) → (at n : ℕ) → at + n ≤ r
+    → part (put d (j * r) x) (k * r + at) n ≡ part d (k * r + at) n
+slot-stays d x r j k lx fits ne at n u = side (ltb k j) refl
+  where
+    side : (t : Bool) → ltb k j ≡ t → part (put d (j * r) x) (k * r + at) n ≡ part d (k * r + at) n
+    side true w =
+        let q : suc k * r ≤ j * r = mul-le-mul-right r (ltb-true k j w) in
+        let z : suc k * r ≡ k * r + r = suc-mul k r in
+        part-put-before d (j * r) x (k * r + at) n (omega arith) (omega arith)
+    side false w =
+        let v : j ≤ k = ltb-false k j w in
+        let y : j < k = omega arith in
+        let q : suc j * r ≤ k * r = mul-le-mul-right r y in
+        let z : suc j * r ≡ j * r + r = suc-mul j r in
+        part-put-after d (j * r) x (k * r + at) n (omega arith) (omega arith)
+
+-- slots that are equal have equal parts
+slot-part : (d e : List ℕ) (r k at n y : ℕ) → y ≡ k * r + at → part e (k * r) r ≡ part d (k * r) r → at + n ≤ r → part e y n ≡ part d y n
+slot-part d e r k at n y w s u =
+    rw w (sym (part-part e (k * r) r at n u) ∙ ap (λ (l : List ℕ). part l at n) s ∙ part-part d (k * r) r at n u)
+
+module _ (d : List ℕ) (h r f : ℕ) (qs : List ℕ) (a n : ℕ) (sz : h + f ≡ r) (room : n * r ≤ length d) (below : All (λ (q : ℕ). q < n) qs)
+    (lead : among a qs ≡ true) where
+  source-low : (k : ℕ) → among k qs ≡ true → k < n
+  source-low k s = among-all (λ (q : ℕ). q < n) k qs (all-at (λ (q : ℕ). q < n) qs below) s
+
+  within : Sources d h r f qs
+  within k l = let y = slot-room (getD qs k 0) n r (length d) (all-at (λ (q : ℕ). q < n) qs below k l) room in omega (arith, y)
+
+  record-long : (k : ℕ) → length (recordFrom d h r f qs a k) ≡ r
+  record-long k =
+      let y = slot-room a n r (length d) (source-low a lead) room in
+      length-append (part d (a * r) h) (regenerated d h r f qs k)
+      ∙ ap₂ _+_ (length-part d (a * r) h (omega (arith, y))) (length-regenerated d h r f qs k within) ∙ sz
+
+  -- a record is made of the sources' slots alone
+  module _ (e : List ℕ) (kept : (q : ℕ) → among q qs ≡ true → part e (q * r) r ≡ part d (q * r) r) where
+    same-fragment : (k : ℕ) → regenerated e h r f qs k ≡ regenerated d h r f qs k
+    same-fragment k = unfold regenerated in go (among k qs) refl
+      where
+        byte : (i : ℕ) → i < f → (q : ℕ) → part e (q * r) r ≡ part d (q * r) r → getD e (h + q * r + i) 0 ≡ getD d (h + q * r + i) 0
+        byte i u q s =
+            let z : h + q * r + i ≡ q * r + (h + i) = omega arith in
+            rw z (sym (getD-part e (q * r) r (h + i) (omega arith)) ∙ ap (λ (l : List ℕ). getD l (h + i) 0) s ∙ getD-part d (q * r) r (h + i) (omega arith))
+
+        go : (t : Bool) → among k qs ≡ t
+            → cond t (part e (h + k * r) f) (tabulate f (λ i. value qs (λ p. getD e (h + p * r + i) 0) k))
+            ≡ cond t (part d (h + k * r) f) (tabulate f (λ i. value qs (λ p. getD d (h + p * r + i) 0) k))
+        go true s = slot-part d e r k h f (h + k * r) (omega arith) (kept k s) (omega arith)
+        go false s =
+            tabulate-ext f (λ i. value qs (λ p. getD e (h + p * r + i) 0) k) (λ i. value qs (λ p. getD d (h + p * r + i) 0) k)
+            (λ i u. value-ext qs (λ p. getD e (h + p * r + i) 0) (λ p. getD d (h + p * r + i) 0) k
+            (all-map (λ q z. byte i u q z) qs (each-source (λ (q : ℕ). part e (q * r) r ≡ part d (q * r) r) qs kept)))
+
+    same-record : (k : ℕ) → recordFrom e h r f qs a k ≡ recordFrom d h r f qs a k
+    same-record k = ap₂ _++_ (slot-part d e r a 0 h (a * r) (omega arith) (kept a lead) (omega arith)) (same-fragment k)
+
+  -- slot k as it is to be
+  abbrev made : ℕ → List ℕ
+  made k = cond (among k qs) (part d (k * r) r) (recordFrom d h r f qs a k)
+
+  -- the desk with j slots done: those below j as they are to be, the others as they were
+  record Upto (e : List ℕ) (j : ℕ) : Type 0 where
+    long : length e ≡ length d
+    slots-done : (k : ℕ) → k < j → part e (k * r) r ≡ made k
+    slots-left : (k : ℕ) → j ≤ k → k < n → part e (k * r) r ≡ part d (k * r) r
+
+  kept-so-far : (e : List ℕ) (j : ℕ) → Upto e j → (k : ℕ) → among k qs ≡ true → part e (k * r) r ≡ part d (k * r) r
+  kept-so-far e j u k s = side (ltb k j) refl
+    where
+      side : (t : Bool) → ltb k j ≡ t → part e (k * r) r ≡ part d (k * r) r
+      side true w = u .slots-done k (ltb-true k j w) ∙ rw s
+      side false w = u .slots-left k (ltb-false k j w) (source-low k s)
+
+  step : (e : List ℕ) (j : ℕ) → j < n → Upto e j → (t : Bool) → among j qs ≡ t → Upto (cond t e (put e (j * r) (recordFrom e h r f qs a j))) (suc j)
+  step e j jn u true s =
+      record {
+        long = u .long;
+        slots-done = λ k l. at k l (ℕ-discrete k j);
+        slots-left = λ k l kn. u .slots-left k (omega arith) kn;
+      }
+    where
+      at : (k : ℕ) → k < suc j → Dec (k ≡ j) → part e (k * r) r ≡ made k
+      at k l (yes q) = rw (q, s) (u .slots-left j (omega arith) jn)
+      at k l (no q) = u .slots-done k (omega arith)
+  step e j jn u false s =
+      record {
+        long = length-put e (j * r) x (omega (arith, u .long, lx, fits)) ∙ u .long;
+        slots-done = λ k l. at k l (ℕ-discrete k j);
+        slots-left = λ k l kn. other k (λ q. omega arith) ∙ u .slots-left k (omega arith) kn;
+      }
+    where
+      x : List ℕ
+      x = recordFrom e h r f qs a j
+
+      ex : x ≡ recordFrom d h r f qs a j
+      ex = same-record e (kept-so-far e j u) j
+
+      lx : length x ≡ r
+      lx = ap length ex ∙ record-long j
+
+      fits : j * r + r ≤ length e
+      fits = let y = slot-room j n r (length d) jn room in omega (arith, y, u .long)
+
+      other : (k : ℕ) → (k ≡ j → ⊥) → part (put e (j * r) x) (k * r) r ≡ part e (k * r) r
+      other k ne =
+          let z : k * r ≡ k * r + 0 = omega arith in
+          ap (λ (y : ℕ). part (put e (j * r) x) y r) z ∙ slot-stays e x r j k lx fits ne 0 r (omega arith) ∙ ap (λ (y : ℕ). part e y r) (sym z)
+
+      at : (k : ℕ) → k < suc j → Dec (k ≡ j) → part (put e (j * r) x) (k * r) r ≡ made k
+      at k l (yes q) = rw (q, s) (part-put-same e (j * r) x r lx (omega (arith, fits)) ∙ ex)
+      at k l (no q) = other k q ∙ u .slots-done k (omega arith)
+
+  upto : (j : ℕ) → j ≤ n → Upto (refilled d h r f qs a j) j
+  unfolding refilled slotFilled
+  upto zero l = record { long = refl; slots-done = λ k u. absurd (omega arith); slots-left = λ k u kn. refl }
+  upto (suc j) l = step (refilled d h r f qs a j) j l (upto j (omega arith)) (among j qs) refl
+
+  pub length-filled : length (refilled d h r f qs a n) ≡ length d
+  length-filled = upto n (omega arith) .long
+
+  pub filled-slot : (k : ℕ) → k < n
+      → part (refilled d h r f qs a n) (k * r) r ≡ cond (among k qs) (part d (k * r) r) (recordFrom d h r f qs a k)
+  filled-slot k l = upto n (omega arith) .slots-done k l
+
+  -- a source's slot is its record already, where its head is the lead's
+  pub filled-record : All (λ (q : ℕ). part d (q * r) h ≡ part d (a * r) h) qs → (k : ℕ) → k < n
+      → part (refilled d h r f qs a n) (k * r) r ≡ recordFrom d h r f qs a k
+  filled-record heads k l = filled-slot k l ∙ go (among k qs) refl
+    where
+      own : among k qs ≡ true → part d (k * r) r ≡ recordFrom d h r f qs a k
+      own s =
+          let z : k * r + h ≡ h + k * r = omega arith in
+          ap (part d (k * r)) (sym sz) ∙ part-add d (k * r) h f
+          ∙ ap₂ _++_ (among-all (λ (q : ℕ). part d (q * r) h ≡ part d (a * r) h) k qs (all-at (λ (q : ℕ). part d (q * r) h ≡ part d (a * r) h) qs heads) s)
+          (ap (λ (y : ℕ). part d y f) z ∙ unfold regenerated in rw s)
+
+      go : (t : Bool) → among k qs ≡ t → cond t (part d (k * r) r) (recordFrom d h r f qs a k) ≡ recordFrom d h r f qs a k
+      go true s = own s
+      go false s = refl

@@ -18,6 +18,7 @@ pub mod RoundReply
 pub mod RoundKept
 pub mod RoundRun
 pub mod Round
+pub mod RoundCalls
 pub mod RoundInstances
 pub mod Counting
 pub mod Repair

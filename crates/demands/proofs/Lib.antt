@@ -19,4 +19,5 @@ pub mod RoundReply
 pub mod RoundKept
 pub mod RoundRun
 pub mod Round
+pub mod RoundCalls
 pub mod RoundInstances

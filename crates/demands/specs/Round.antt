@@ -9,6 +9,7 @@
 --   Each, OneANode            what holds of each reply of a list; no two of them are of one node
 --   allMarked, allSlotted     the session and the desk after all of a list
 --   times, SameReplies        how often a reply comes; the same replies, in whichever order
+--   Lent, repliesOf, answersOf, leftBy   the calls themselves: the item that each is lent; replies, answers and last outcome
 -- Assumes nothing.
 use Prim.{Unit}
 use Prim.Native.Nat.{ℕ, zero, suc, _+_}
@@ -20,10 +21,10 @@ use Rattle.terms.specs.declared.Plan.{Plan}
 use Rattle.frame.specs.Frame.{frameNode}
 use Rattle.rounds.specs.Rounds.{unheards}
 use Rattle.session.specs.declared.Session.{Session}
-use Rattle.session.specs.Session.{readRound, Said, stillOpen}
+use Rattle.session.specs.Session.{readRound, Said, stillOpen, saidOf}
 use Rattle.session.specs.Reader.{Outcome, outcome, readReply}
 use Rattle.demands.specs.Endings.{after, deskAfter}
-use Rattle.demands.specs.Turns.{isRefused}
+use Rattle.demands.specs.Turns.{Turn, isRefused}
 
 -- ---- the calls, each on the session, the desk and the item that the last one handed back
 abbrev pub opened : Session → List ℕ → List ℕ → Outcome
@@ -84,3 +85,22 @@ times z (f ∷ fs) = cond (alike f z) 1 0 + times z fs
 -- every reply comes as often in the one list as in the other
 abbrev pub SameReplies : List (List ℕ) → List (List ℕ) → Type 0
 SameReplies fs gs = (z : List ℕ) → times z fs ≡ times z gs
+
+-- ---- the calls themselves, by what each was lent and left
+-- each was lent the item that the one before it left
+abbrev pub Lent : List ℕ → List Turn → Type 0
+Lent i [] = Unit {0}
+Lent i (t ∷ ts) = (t .item ≡ i) × Lent (t .itemLeft) ts
+
+abbrev pub repliesOf : List Turn → List (List ℕ)
+repliesOf [] = []
+repliesOf (t ∷ ts) = t .reply ∷ repliesOf ts
+
+abbrev pub answersOf : List Turn → List Said
+answersOf [] = []
+answersOf (t ∷ ts) = saidOf (t .took .answer) ∷ answersOf ts
+
+-- the answer, session, desk and item that the last of them left
+abbrev pub leftBy : Outcome → List Turn → Outcome
+leftBy o [] = o
+leftBy o (t ∷ ts) = leftBy (outcome (saidOf (t .took .answer)) (t .took .session) (t .deskLeft) (t .itemLeft)) ts

@@ -20,7 +20,7 @@ use Rattle.session.specs.declared.Stage.{Stage}
 use Rattle.session.specs.declared.Stage.the-variants.{Asking, Storing, Ended}
 use Rattle.session.specs.Session.{isRead, isAsking, isStoring, isEnded, readRound, replies, refused}
 use Rattle.session.specs.Ranges.{inRange}
-use Rattle.session.specs.Reply.{lengthsOk, awaited, isHeard, bears}
+use Rattle.session.specs.Reply.{lengthsOk, awaited, isHeard, bears, recordLadder}
 use Rattle.session.specs.Reader.{Outcome, outcome, closed, settled, accepted, readReply}
 use Rattle.session.proofs.Made.{StandingIs, OpenIs, in-range-facts, open-in-range}
 use Rattle.demands.specs.Endings.{readLadder, after, deskAfter}
@@ -108,25 +108,9 @@ module _ (p : Plan) (s : Session) (f d i : List ℕ) where
       let a = asks s (g .round) in
       let range : inRange p s d ≡ true = open-in-range p s d (g .standing) (g .slots) in
       let ranged : not (isRead (s .operation) and inRange p s d) ≡ false = rw (a .reads, range) in
-      reading.is-accepted p s f d i (
-        ap not (g .plan),
-        (
-          ap not (g .lengths),
-          (
-            ranged,
-            (
-              a .ended,
-              (
-                ap not (q .good),
-                (
-                  ap not (q .await),
-                  (k .fresh, (q .timed, (q .hashed, (q .under, tt)))),
-                ),
-              ),
-            ),
-          ),
-        ),
-      )
+      let late : None (recordLadder p s f) = (q .timed, (q .hashed, (q .under, tt))) in
+      reading.is-accepted p s f d i
+      (ap not (g .plan), (ap not (g .lengths), (ranged, (a .ended, (ap not (q .good), (ap not (q .await), (k .fresh, late)))))))
       ∙ rw (a .storing) (reading.heard-settles p s f d i)
 
 -- an accepted reply is not refused, whatever it comes to

@@ -1,14 +1,14 @@
 -- The rounds that a read reports are the rounds that it closed, and at most W. Assumes nothing.
 --   counted-rounds         from an opening on, whatever replies come
-use Prim.Native.Nat.{ℕ, zero, suc, _+_, _-_, _≤_, _<_}
+use Prim.Native.Nat.{ℕ, _+_, _-_, _≤_, _<_}
 use mathlib.Core.Path.{_≡_, refl, sym, ap, _∙_, subst}
 use mathlib.Core.Bool.{Bool, true, false, cond, not}
 use mathlib.Core.List.{List, [], _∷_}
 use native.Mathlib.Nat.{add-zero}
 use native.Mathlib.Omega.{arith}
-use borrow.Author.Tests.{lt-leb, le-leb, eqb-false, leb-true, leb-false, ltb-true, ltb-false}
-use lib.Dec.{eqb, leb, ltb}
-use lib.ListN.{length, set, length-set}
+use borrow.Author.Tests.{lt-leb, le-leb, leb-true, leb-false, ltb-true, ltb-false}
+use lib.Dec.{leb, ltb}
+use lib.ListN.{length, length-set}
 use Rattle.terms.specs.Ladder.{_and_}
 use Rattle.terms.specs.declared.Ask.{Ask}
 use Rattle.terms.specs.declared.Plan.{Plan}
@@ -16,9 +16,8 @@ use Rattle.terms.proofs.Rungs.{None, clash}
 use Rattle.terms.proofs.Plans.{plan-is}
 use Rattle.frame.specs.Frame.{frameNode}
 use Rattle.rounds.specs.declared.Heard.{Heard}
-use Rattle.rounds.specs.declared.Heard.the-variants.{Unheard, First, Record}
-use Rattle.rounds.specs.declared.Mark.{Mark}
-use Rattle.rounds.specs.Rounds.{bitOf, heardCount, markOf}
+use Rattle.rounds.specs.declared.Heard.the-variants.{Record}
+use Rattle.rounds.specs.Rounds.{heardCount}
 use Rattle.session.specs.declared.Session.{Session}
 use Rattle.session.specs.declared.Stage.{Stage}
 use Rattle.session.specs.declared.Stage.the-variants.{Asking, Storing, Ended}
@@ -27,34 +26,15 @@ use Rattle.session.specs.declared.opening.Opened.{Opened}
 use Rattle.session.specs.declared.opening.Opening.the-variants.{Accepted}
 use Rattle.session.specs.Session.{isAsking, isStoring, isEnded, replies, markedOf, endedOf, Said, refused, stillOpen, saidOf}
 use Rattle.session.specs.Opening.{OpenCall}
-use Rattle.session.specs.Reply.{bears, isHeard}
+use Rattle.session.specs.Reply.{isHeard}
 use Rattle.session.specs.Reader.{Outcome, outcome, readReply}
 use Rattle.session.proofs.Openings.{accepted-session}
 use Rattle.demands.specs.Endings.{readLadder, heardAs, after}
 use Rattle.demands.specs.Turns.{Turn, Turns, isRefused, closedRounds, Reports, lastSaid}
 use Rattle.demands.proofs.Ladders as ladders
 use Rattle.demands.proofs.Reading as reading
-use Rattle.demands.proofs.Shapes as shapes
-
--- ---- marks
--- one more is heard
-count-set : (ms : List Mark) (i : ℕ) (m : Mark) → i < length ms → bitOf (markOf ms i) ≡ 0 → bitOf (m .is) ≡ 1 → heardCount (set ms i m) ≡ heardCount ms + 1
-unfolding heardCount
-count-set [] i m h e g = absurd (omega arith)
-count-set (x ∷ ms) zero m h e g = omega (arith, e, g)
-count-set (x ∷ ms) (suc i) m h e g = let z = count-set ms i m (omega arith) e g in omega arith
-
-as-bit : (p : Plan) (f : List ℕ) → bitOf (heardAs p f) ≡ 1
-as-bit p f = go (bears p f)
-  where
-    go : (x : Bool) → bitOf (cond x Record First) ≡ 1
-    go true = refl
-    go false = refl
-
-bit-zero : (m : Heard) → eqb (bitOf m) 1 ≡ false → bitOf m ≡ 0
-bit-zero Unheard e = refl
-bit-zero First e = absurd (eqb-false 1 1 e refl)
-bit-zero Record e = absurd (eqb-false 1 1 e refl)
+use Rattle.session.proofs.Closings as shapes
+use Rattle.demands.proofs.RoundKept as kept
 
 -- ---- the rounds that a session has closed: those before the one that is open
 pub closedBy : Session → ℕ
@@ -113,10 +93,8 @@ module _ (p : Plan) (s : Session) (f d i : List ℕ) (k : ℕ) (a : At s k) wher
       asking = is-asking (s .stage) q ended-not
 
       count-is : heardCount (after p s f .marks) ≡ k + 1
-      unfolding isHeard
       count-is =
-          count-set (s .marks) (frameNode f) (record { is = heardAs p f }) (let l = a .marks in let h = in-marks in omega arith)
-          (bit-zero (markOf (s .marks) (frameNode f)) heard-not) (as-bit p f)
+          kept.count-marked p s f (a .marks) in-marks heard-not
           ∙ ap (λ (x : ℕ). x + 1) (a .heard asking)
 
       here : closedBy s ≡ s .round - 1
@@ -146,14 +124,14 @@ module _ (p : Plan) (s : Session) (f d i : List ℕ) (k : ℕ) (a : At s k) wher
       closing : Closing (reading.act-of p s f d i)
       unfolding closedBy heardCount
       closing =
-          shapes.each Closing p (after p s f) _ i
+          shapes.goes Closing p (after p s f) _ _ i
           (record {
-            ends = λ x y. (refl, ended _ refl (λ m h. h));
+            finds = λ x y. (refl, ended _ refl (λ m h. h));
             never = (refl, ended _ refl (λ m h. h));
             aborts = (refl, ended _ refl (λ m h. h));
             spends = λ g. (refl, ended _ refl (λ m h. h));
-            next = λ t g. (refl, record { at = record { marks = refl; heard = λ w. refl; low = omega arith }; more = (let v = one-more in omega arith); tells = λ m h. absurd h });
-            mends = λ t y. (
+            next = λ l q g. (refl, record { at = record { marks = refl; heard = λ w. refl; low = omega arith }; more = (let v = one-more in omega arith); tells = λ m h. absurd h });
+            repairs = λ l q v. (
               refl,
               record {
                 at = record { marks = refl; heard = λ w. (let y : _≡_ {A = ℕ} 0 1 = cc in absurd (omega arith)); low = a .low };
@@ -161,7 +139,7 @@ module _ (p : Plan) (s : Session) (f d i : List ℕ) (k : ℕ) (a : At s k) wher
                 tells = λ m h. absurd h;
               },
             );
-          }) _
+          })
 
       counts-it : (x : Said) → isRefused x ≡ false → (isAsking (s .stage) and not (isRefused x)) ≡ true
       counts-it x e = rw (asking, e)

@@ -31,7 +31,7 @@ use Rattle.session.specs.Writer.{WriteReplyCall}
 use Rattle.demands.specs.Endings.{Exactly, readLadder, after, deskAfter, Candidate, size, WhenNever, WhenAborted, WhenSpent, WhenDone, WhenOpen, DoneByRead, RepairOpens, WriteDone, WriteClock, WriteOpen, ReadGives, WriteGives}
 use Rattle.demands.proofs.Ladders as ladders
 use Rattle.demands.proofs.Reading as reading
-use Rattle.demands.proofs.Shapes as shapes
+use Rattle.session.proofs.Closings as shapes
 use Rattle.demands.proofs.Client as client
 
 -- ---- a read
@@ -100,9 +100,8 @@ module _ (i : List ℕ) where
   unfolding settled
   settled-stays p s d =
       shapes.pick Stays (ltb (heardCount (s .marks)) (replies p)) (λ e. refl)
-      (shapes.each Stays p s d i
-      (record { ends = λ x y e. wrong e; never = λ e. refl; aborts = λ e. refl; spends = λ h e. refl; next = λ t h e. refl; mends = λ t y e. refl })
-      (closed p s d))
+      (shapes.goes Stays p s (closed p s d) d i
+      (record { finds = λ x y e. wrong e; never = λ e. refl; aborts = λ e. refl; spends = λ h e. refl; next = λ a l h e. refl; repairs = λ a l v e. refl }))
 
   accepted-stays : (p : Plan) (s : Session) (f d : List ℕ) → Stays (accepted p s f d i)
   unfolding accepted stored

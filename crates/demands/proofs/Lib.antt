@@ -7,7 +7,6 @@ pub mod Kept
 pub mod Books
 pub mod Instances
 pub mod Edges
-pub mod Shapes
 pub mod Reading
 pub mod Writing
 pub mod Client

@@ -50,7 +50,8 @@ use Rattle.session.specs.Reader.{Outcome, outcome, headLength, lowest, decoded,
 use Rattle.session.proofs.Checks.{outcome-all}
 use Rattle.session.proofs.Closings.{Led, led, lead-low, Lowest, lowest-are, heads-alike, sized, goes}
 use Rattle.session.proofs.ReadKept.{Hearing, hearing, long-after}
-use Rattle.demands.specs.Repair.{Through, Holds, after, deskAfter}
+use Rattle.demands.specs.Endings.{after, deskAfter}
+use Rattle.demands.specs.Repair.{Through, Holds}
 
 -- ---- bytes, by index and one by one
 each-byte : (l : List ℕ) → Octets l → Bytes l
@@ -278,7 +279,10 @@ module _ (p : Plan) (u : Session) (e i : List ℕ) (ok : planOk p ≡ true) (lon
       go false =
           goes Full p u (closed p u e) e i
           (record {
-            ends = λ x y t. never t;
+            finds = λ x y t. never t;
+            never = λ t. never t;
+            aborts = λ t. never t;
+            spends = λ h t. never t;
             next = λ a l h t. never t;
             repairs = λ a l v t. repaired-holds p u e a ok long l (sized p u e a (led p u e a l) ok v) o;
           })

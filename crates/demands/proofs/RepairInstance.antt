@@ -37,7 +37,8 @@ use Rattle.session.specs.Opening.{freshOf, openWith, OpenCall}
 use Rattle.session.specs.declared.opening.Opened.{Opened}
 use Rattle.session.specs.declared.opening.Opening.the-variants.{Accepted}
 use Rattle.session.proofs.Kept.{Kept}
-use Rattle.demands.specs.Repair.{Holds, after, deskAfter}
+use Rattle.demands.specs.Endings.{after, deskAfter}
+use Rattle.demands.specs.Repair.{Holds}
 use Rattle.demands.specs.Sessions.{Reply}
 use Rattle.demands.proofs.Sessions.{every-session}
 use Rattle.demands.proofs.Instances.{small, small-octets}

@@ -27,7 +27,7 @@ use Rattle.demands.specs.Endings.{readLadder, after, deskAfter}
 use Rattle.demands.specs.Turns.{isRefused}
 use Rattle.demands.specs.Round.{Acceptable}
 use Rattle.demands.proofs.Ladders as ladders
-use Rattle.demands.proofs.Shapes as shapes
+use Rattle.session.proofs.Closings as shapes
 use Rattle.demands.proofs.Reading as reading
 
 -- ---- what it is to be accepted
@@ -118,8 +118,7 @@ pub settled-taken : (p : Plan) (s : Session) (d i : List ℕ) → isRefused (set
 unfolding settled
 settled-taken p s d i =
     shapes.pick Well (ltb (heardCount (s .marks)) (replies p)) refl
-    (shapes.each Well p s d i (record { ends = λ t x. refl; never = refl; aborts = refl; spends = λ g. refl; next = λ t g. refl; mends = λ t x. refl })
-    (closed p s d))
+    (shapes.goes Well p s (closed p s d) d i (record { finds = λ t x. refl; never = refl; aborts = refl; spends = λ g. refl; next = λ a l g. refl; repairs = λ a l v. refl }))
   where
     Well : Outcome → Type 0
     Well o = isRefused (o .said) ≡ false

@@ -4,26 +4,18 @@
 --   Through            a polynomial through the fragments of some nodes, as their slots hold them, at one byte position
 --   Value              x is the value of such a polynomial at point k
 --   Holds              a slot holds a set's timestamp and cross checksum, and fragment k of the polynomials through its m lowest
---   after deskAfter    the session and the desk once an accepted reply of a read round was heard
 -- Assumes nothing.
-use Prim.Native.Nat.{ℕ, _*_, _≤_, _<_}
+use Prim.Native.Nat.{ℕ, _≤_, _<_}
 use mathlib.Core.Path.{_≡_}
-use mathlib.Core.Bool.{cond}
 use mathlib.Core.List.{List}
 use lib.ListN.{length, getD}
-use Rattle.octets.specs.Bytes.{put, Octets}
-use Rattle.terms.specs.Terms.{recordLength}
+use Rattle.octets.specs.Bytes.{Octets}
 use Rattle.terms.specs.Stamp.{stamp, stampNumber}
 use Rattle.terms.specs.declared.Plan.{Plan}
 use Rattle.fragments.specs.Fragments.{All, eval}
-use Rattle.frame.specs.Frame.{frameNode, bodyOf}
 use Rattle.record.specs.Record.{stampOf, crossOf}
 use Rattle.record.specs.Desk.{slotOf, fragmentIn}
-use Rattle.rounds.specs.declared.Heard.the-variants.{First, Record}
 use Rattle.rounds.specs.Rounds.{Closed}
-use Rattle.session.specs.declared.Session.{Session}
-use Rattle.session.specs.Session.{markedOf}
-use Rattle.session.specs.Reply.{bears}
 use Rattle.session.specs.Reader.{lowest}
 
 -- degree below m, and at the point of each of the nodes byte i of the fragment that its slot of the desk d holds
@@ -43,10 +35,3 @@ pub record Holds (p : Plan) (c : Closed) (d e : List ℕ) (k : ℕ) : Type 0 whe
   pub timestamp : All (λ (q : ℕ). stampOf (slotOf p e k) ≡ stampOf (slotOf p d q)) (c .nodes)
   pub checksum : All (λ (q : ℕ). crossOf p (slotOf p e k) ≡ crossOf p (slotOf p d q)) (c .nodes)
   pub fragment : (i : ℕ) → i < p .f → Value p (lowest p c) d i k (getD (fragmentIn p e k) i 0)
-
--- ---- a reply of a read round that was heard: "one mark for each node"; "A first triple leaves its slot"
-abbrev pub after : Plan → Session → List ℕ → Session
-after p s f = markedOf s (frameNode f) (cond (bears p f) Record First)
-
-abbrev pub deskAfter : Plan → List ℕ → List ℕ → List ℕ
-deskAfter p f d = cond (bears p f) (put d (frameNode f * recordLength p) (bodyOf f)) d

@@ -39,7 +39,7 @@ use Rattle.session.specs.declared.opening.Opening.the-variants.{Accepted}
 use Rattle.session.proofs.Kept.{Kept}
 use Rattle.demands.specs.Endings.{after, deskAfter}
 use Rattle.demands.specs.Repair.{Holds}
-use Rattle.demands.specs.Sessions.{Reply}
+use Rattle.demands.specs.Turns.{Turn}
 use Rattle.demands.proofs.Sessions.{every-session}
 use Rattle.demands.proofs.Instances.{small, small-octets}
 use Rattle.demands.proofs.Repair.{repair-opens}
@@ -114,10 +114,10 @@ opened-so : OpenCall Read plan (record { 0 = 5 }) opened
 unfolding opened openWith first planOk tableOk columnOf all plan
 opened-so = record { is = refl }
 
-pub heard-one : Reply
+pub heard-one : Turn
 heard-one =
     record {
-      frame = frame;
+      reply = frame;
       item = item;
       took = record { answer = Open; session = markedOf (freshOf Read 1 Free (record { 0 = 5 })) 2 First };
       deskLeft = desk;

@@ -1,1 +1,5 @@
 pub mod Plans
+pub mod Lists
+pub mod Triples
+pub mod Latest
+pub mod Node

@@ -4,10 +4,13 @@
 --   Triple, null          ⟨logical time, data value, cross checksum⟩; the null value, ⊥
 --   Message               ⟨S, Response⟩: a triple from a storage-node, or to it
 --   those each MAX        {X : test, X ∈ set}; {f X : X ∈ set}; the greatest
+--   In Same               X ∈ set; two lists of one set
 --   listed strung         f 0, f 1, .., n of them; f 0 | f 1 | .., one string
 --   Family                the member of the family, the hash and the erasure code
 -- Assumes nothing.
 use Prim.Native.Nat.{ℕ, zero, suc}
+use mathlib.Core.Path.{_≡_}
+use mathlib.Core.Logic.{_⊎_}
 use mathlib.Core.Bool.{Bool, cond}
 use mathlib.Core.List.{List, [], _∷_, _++_}
 use lib.Dec.{ltb}
@@ -35,6 +38,13 @@ those test (x ∷ xs) = cond (test x) (x ∷ those test xs) (those test xs)
 unfoldable pub each : {A B : Type 0} → (A → B) → List A → List B
 each f [] = []
 each f (x ∷ xs) = f x ∷ each f xs
+
+abbrev pub In : {A : Type 0} → A → List A → Type 0
+In X [] = ⊥
+In X (Y ∷ set) = (X ≡ Y) ⊎ In X set
+
+abbrev pub Same : {A : Type 0} → List A → List A → Type 0
+Same {A} set other = (X : A) → (In X set → In X other) × (In X other → In X set)
 
 abbrev pub larger : ℕ → ℕ → ℕ
 larger a b = cond (ltb a b) b a

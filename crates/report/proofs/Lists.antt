@@ -1,0 +1,74 @@
+-- Laws of the sets of the figures: those, each, MAX, listed, strung. Assumes nothing.
+use Prim.Native.Nat.{ℕ, zero, suc, _+_, _-_, _≤_, _<_}
+use mathlib.Core.Path.{_≡_, refl, sym, ap, ap₂, _∙_}
+use mathlib.Core.Bool.{Bool, true, false, cond}
+use mathlib.Core.List.{List, [], _∷_, _++_}
+use native.Mathlib.Omega.{arith}
+use borrow.Author.Tests.{ltb-true, ltb-false}
+use lib.Dec.{ltb}
+use lib.ListN.{length}
+use Rattle.record.specs.Desk.{row}
+use Rattle.report.specs.Triple.{those, each, larger, MAX, listed, strung}
+
+-- ---- the greatest
+pub larger-is : (a b : ℕ) → larger a b ≡ a + (b - a)
+larger-is a b = go (ltb a b) refl
+  where
+    go : (t : Bool) → ltb a b ≡ t → cond t b a ≡ a + (b - a)
+    go true e = let h = ltb-true a b e in omega arith
+    go false e = let h = ltb-false a b e in omega arith
+
+pub larger-low : (a b : ℕ) → b ≤ a → larger a b ≡ a
+larger-low a b h = larger-is a b ∙ omega arith
+
+pub larger-high : (a b : ℕ) → a ≤ b → larger a b ≡ b
+larger-high a b h = larger-is a b ∙ omega arith
+
+larger-swap : (a b c : ℕ) → larger (larger a b) c ≡ larger (larger a c) b
+larger-swap a b c =
+    larger-is (larger a b) c ∙ ap (λ (x : ℕ). x + (c - x)) (larger-is a b) ∙ omega arith
+    ∙ sym (larger-is (larger a c) b ∙ ap (λ (x : ℕ). x + (b - x)) (larger-is a c))
+
+pub max-snoc : (l : List ℕ) (x : ℕ) → MAX (l ++ (x ∷ [])) ≡ larger (MAX l) x
+unfolding MAX
+max-snoc [] x = refl
+max-snoc (y ∷ l) x = ap (λ (m : ℕ). larger m y) (max-snoc l x) ∙ larger-swap (MAX l) x y
+
+-- ---- lists one after the other
+module _ {A : Type 0} where
+  pub those-append : (t : A → Bool) (l k : List A) → those t (l ++ k) ≡ those t l ++ those t k
+  unfolding those
+  those-append t [] k = refl
+  those-append t (x ∷ l) k = go (t x) (those-append t l k)
+    where
+      go : (b : Bool) → those t (l ++ k) ≡ those t l ++ those t k
+          → cond b (x ∷ those t (l ++ k)) (those t (l ++ k)) ≡ cond b (x ∷ those t l) (those t l) ++ those t k
+      go true e = ap (λ (z : List A). x ∷ z) e
+      go false e = e
+
+module _ {A B : Type 0} where
+  pub each-append : (f : A → B) (l k : List A) → each f (l ++ k) ≡ each f l ++ each f k
+  unfolding each
+  each-append f [] k = refl
+  each-append f (x ∷ l) k = ap (λ (z : List B). f x ∷ z) (each-append f l k)
+
+  pub length-each : (f : A → B) (l : List A) → length (each f l) ≡ length l
+  unfolding each
+  length-each f [] = refl
+  length-each f (x ∷ l) = ap suc (length-each f l)
+
+-- ---- one after the other
+pub strung-row : (f : ℕ → List ℕ) (n : ℕ) → strung f n ≡ row f n
+unfolding strung row
+strung-row f zero = refl
+strung-row f (suc n) = ap (λ (l : List ℕ). l ++ f n) (strung-row f n)
+
+pub strung-same : (f g : ℕ → List ℕ) (n : ℕ) → ((k : ℕ) → k < n → f k ≡ g k) → strung f n ≡ strung g n
+unfolding strung
+strung-same f g zero h = refl
+strung-same f g (suc n) h = ap₂ (λ (a b : List ℕ). a ++ b) (strung-same f g n (λ k i. h k (omega arith))) (h n (omega arith))
+
+pub listed-same : {A : Type 0} (f g : ℕ → A) (n : ℕ) → ((k : ℕ) → k < n → f k ≡ g k) → listed f n ≡ listed g n
+unfolding listed
+listed-same f g zero h = refl
+listed-same {A} f g (suc n) h = ap₂ (λ (l : List A) (x : A). l ++ (x ∷ [])) (listed-same f g n (λ k i. h k (omega arith))) (h n (omega arith))

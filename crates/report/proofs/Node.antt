@@ -10,7 +10,7 @@ use mathlib.Core.List.{List, [], _∷_}
 use mathlib.Core.Logic.{_⊎_, inl, inr}
 use native.Mathlib.Nat.{suc-mul}
 use native.Mathlib.Omega.{arith}
-use borrow.Author.Tests.{eq-eqb, eqb-false, not-false}
+use borrow.Author.Tests.{eq-eqb, eqb-false, not-false, leb-true, ltb-true}
 use lib.Dec.{leb, eqb}
 use lib.ListN.{length, length-drop}
 use lib.Seq.{getD-drop}
@@ -28,13 +28,16 @@ use Rattle.frame.specs.Frame.{kindOf, frameNode, askOf, bodyOf, frame, goodRequ
 use Rattle.frame.proofs.Frames.{request-is}
 use Rattle.record.specs.Record.{hashesOk, timeZero}
 use Rattle.record.proofs.Records.{record-length}
-use Rattle.book.specs.Records.{lastOf, lastBelow, holds, insertRecord, kept}
+use Rattle.book.specs.Records.{lastOf, lastBelow, holds, kept, timed, rising}
 use Rattle.book.specs.Book.{goodBook, nodeOf, recordsFrom, recordsOf, countOf, laidOut}
 use Rattle.book.proofs.Laid as laid
 use Rattle.book.proofs.Laws as books
 use Rattle.node.specs.declared.Answer.the-variants.{Refused, Replied}
 use Rattle.node.specs.declared.Answer.{Answer}
 use Rattle.node.specs.Node.{NodeCall, served, answered, replies, replyTo, bookAfter, said, replied, refused, Outcome, outcome, nodeLadder, writes, lengthsOk, zeroTime, hashFails, otherHeld, noRoom}
+use Rattle.node.specs.declared.Made.the-variants.{Fresh}
+use Rattle.node.specs.Fresh.{FreshCall, FreshOutcome, freshOutcome, made, freshened, freshLadder}
+use Rattle.node.specs.Fresh as fresh
 use Rattle.node.proofs.Laws as nodes
 use Rattle.demands.specs.Deliver.{Among}
 use Rattle.demands.proofs.Order as order
@@ -42,7 +45,7 @@ use Rattle.demands.proofs.One as one
 use Rattle.demands.proofs.Node as calls
 use Rattle.demands.proofs.Kept as keeps
 use Rattle.report.specs.Triple.{Triple, each, In, Same}
-use Rattle.report.specs.Figure1.{initial, RECEIVE-TIME-REQUEST, VALIDATE, with-it, RECEIVE-WRITE-REQUEST, RECEIVE-READ-LATEST, RECEIVE-READ-PREVIOUS}
+use Rattle.report.specs.Figure1.{initial, INITIALIZE, RECEIVE-TIME-REQUEST, VALIDATE, with-it, RECEIVE-WRITE-REQUEST, RECEIVE-READ-LATEST, RECEIVE-READ-PREVIOUS}
 use Rattle.report.specs.Ours.{family, tripleOf, history, timeIn}
 use Rattle.report.proofs.Triples.{octets-part, octets-drop, stamp-low, time-in, time-none, validate-is}
 use Rattle.report.proofs.Latest.{time-of, latest-of, previous-of}
@@ -235,3 +238,38 @@ module _ (p : Plan) (f b y : List ℕ) (ob : Octets b) (of : Octets f) where
       c .is
       ∙ one.first-none (nodeLadder p f b y) (λ (j : ℕ). outcome (refused j) b y) (answered p f b y)
       (ap not (h .plan), (ap not (h .lengths), (ap not (h .book), (ap not (h .request), (h .time, (sym (validates (h .request) k) ∙ ap not v, (h .other, (h .room, tt))))))))
+
+-- ---- a fresh book is INITIALIZE
+module _ (p : Plan) (node : ℕ) (b b₂ : List ℕ) (c : FreshCall p node b Fresh b₂) where
+  abbrev refuse : ℕ → FreshOutcome
+  refuse k = freshOutcome (fresh.refused k) b
+
+  abbrev done : FreshOutcome
+  done = freshOutcome made (over (laidOut p node []) b)
+
+  empty : recordsOf p b₂ ≡ []
+  unfolding freshened timed rising
+  empty = go (first (freshLadder p node b) rungs.refused rungs.passes) refl (c .is ∙ rungs.first-read (freshLadder p node b) refuse done)
+    where
+      go : (v : rungs.Verdict) → first (freshLadder p node b) rungs.refused rungs.passes ≡ v → freshOutcome made b₂ ≡ rungs.read v refuse done → recordsOf p b₂ ≡ []
+      go (rungs.refused k) e h =
+          absurd (let s : made ≡ fresh.refused k = ap (λ (o : FreshOutcome). o .answer) h in let z : _≡_ {A = ℕ} 0 1 = cc in omega arith)
+      go rungs.passes e h =
+          let n = rungs.passes-is (freshLadder p node b) e in
+          let l = both (leb 11 (length b)) (leb (length b) 65536) (not-false _ (n .1 .0)) in
+          let low : 11 ≤ length b = leb-true _ _ (l .0) in
+          let i : one.Laid p node b b₂ [] = record {
+            plan = not-false _ (n .0);
+            low = ltb-true _ _ (not-false _ (n .1 .1 .0));
+            high = leb-true _ _ (l .1);
+            bytes = ap (λ (o : FreshOutcome). o .book) h;
+            sizes = tt;
+            times = refl;
+            rise = refl;
+            fits = omega arith;
+          } in
+          one.is-records i
+
+  pub fresh-acts : history p b₂ ≡ INITIALIZE
+  unfolding each
+  fresh-acts = ap (λ (rs : List (List ℕ)). initial ∷ each (tripleOf p) rs) empty

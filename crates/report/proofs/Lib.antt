@@ -3,3 +3,5 @@ pub mod Lists
 pub mod Triples
 pub mod Latest
 pub mod Node
+pub mod Sets
+pub mod Refilled

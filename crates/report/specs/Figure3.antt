@@ -5,13 +5,13 @@
 --   VALIDATE-CANDIDATE-SET
 --   Decision LOOP READ    what lines 3 to 24 decide of one response set; the whole read
 -- Where document 01 closes a hole of the figure, (01) stands beside it. Assumes nothing.
-use Prim.Native.Nat.{ℕ, zero, suc}
+use Prim.Native.Nat.{ℕ}
 use mathlib.Core.Bool.{Bool, true, false, cond}
 use mathlib.Core.List.{List, [], _∷_}
 use lib.ListN.{length}
 use lib.Dec.{ltb, leb, eqb}
 use Rattle.octets.specs.Bytes.{alike}
-use Rattle.terms.specs.Ladder.{_and_, _or_}
+use Rattle.terms.specs.Ladder.{_or_}
 use Rattle.report.specs.Triple.{Triple, Message, null, those, each, MAX, Family}
 use Rattle.report.specs.Figure1 as node
 use Rattle.report.specs.Figure2.{MAKE-CROSS-CHECKSUM, DO-WRITE}
@@ -88,8 +88,8 @@ pub data Decision : Type 0 where
   reading : Command → Decision
 
 -- (01) "Repair uses the set's cross checksum (the report leaves it unset for crash clients)"; for Byzantine clients CC_valid is that
-abbrev pub repairs : Family → List Message → List Message
-repairs f cs = DO-WRITE f (f .GENERATE-FRAGMENTS cs) (ts-candidate cs) (CC-of cs)                               -- 14, 15
+abbrev pub repairs : Family → List Message → ℕ → List Message
+repairs f cs ts = DO-WRITE f (f .GENERATE-FRAGMENTS cs) ts (CC-of cs)                                           -- 14, 15
 
 abbrev pub choose : Family → List Message → ℕ → Decision
 choose f cs ts =
@@ -100,7 +100,7 @@ choose f cs ts =
     (cond (leb (f .INCOMPLETE) (length cs))                                                                     -- 10
     (cond (f .Repair)                                                                                           -- 12
     (cond (VALIDATE-CANDIDATE-SET f cs)                                                                         -- 13
-    (repaired (repairs f cs) ts (f .DECODE (repairs f cs)))                                                     -- 14 to 17
+    (repaired (repairs f cs ts) ts (f .DECODE (repairs f cs ts)))                                               -- 14 to 17
     (reading (READ-PREVIOUS ts)))                                                                               -- 24
     ABORT)                                                                                                      -- 20
     (reading (READ-PREVIOUS ts)))                                                                               -- 24

@@ -5,3 +5,5 @@ pub mod Latest
 pub mod Node
 pub mod Sets
 pub mod Refilled
+pub mod Erasure
+pub mod Round

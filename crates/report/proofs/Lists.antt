@@ -4,9 +4,10 @@ use mathlib.Core.Path.{_≡_, refl, sym, ap, ap₂, _∙_}
 use mathlib.Core.Bool.{Bool, true, false, cond}
 use mathlib.Core.List.{List, [], _∷_, _++_}
 use native.Mathlib.Omega.{arith}
-use borrow.Author.Tests.{ltb-true, ltb-false}
-use lib.Dec.{ltb}
-use lib.ListN.{length}
+use borrow.Author.Tests.{ltb-true, ltb-false, leb-true, leb-false}
+use lib.Dec.{ltb, leb}
+use lib.ListN.{length, take, length-append}
+use lib.Seq.{take-append-le, take-all}
 use Rattle.record.specs.Desk.{row}
 use Rattle.report.specs.Triple.{those, each, larger, MAX, listed, strung}
 
@@ -72,3 +73,31 @@ pub listed-same : {A : Type 0} (f g : ℕ → A) (n : ℕ) → ((k : ℕ) → k 
 unfolding listed
 listed-same f g zero h = refl
 listed-same {A} f g (suc n) h = ap₂ (λ (l : List A) (x : A). l ++ (x ∷ [])) (listed-same f g n (λ k i. h k (omega arith))) (h n (omega arith))
+
+-- ---- the first of a list
+module _ {A B : Type 0} where
+  pub take-each : (n : ℕ) (f : A → B) (l : List A) → take n (each f l) ≡ each f (take n l)
+  unfolding each
+  take-each zero f l = refl
+  take-each (suc n) f [] = refl
+  take-each (suc n) f (x ∷ l) = ap (λ (z : List B). f x ∷ z) (take-each n f l)
+
+module _ {A : Type 0} (f : ℕ → A) where
+  pub length-listed : (n : ℕ) → length (listed f n) ≡ n
+  unfolding listed
+  length-listed zero = refl
+  length-listed (suc n) = length-append (listed f n) (f n ∷ []) ∙ omega (arith, length-listed n)
+
+  pub take-listed : (m n : ℕ) → m ≤ n → take m (listed f n) ≡ listed f m
+  unfolding listed
+  take-listed m zero h = let z : m ≡ 0 = omega arith in rw z
+  take-listed m (suc n) h = go (leb m n) refl (λ l. take-listed m n l)
+    where
+      go : (t : Bool) → leb m n ≡ t → (m ≤ n → take m (listed f n) ≡ listed f m) → take m (listed f n ++ (f n ∷ [])) ≡ listed f m
+      go true e ih =
+          let l = leb-true m n e in
+          take-append-le m (listed f n) (f n ∷ []) (omega (arith, length-listed n)) ∙ ih l
+      go false e ih =
+          let l = leb-false m n e in
+          let z : m ≡ suc n = omega arith in
+          take-all m (listed f n ++ (f n ∷ [])) (omega (arith, length-append (listed f n) (f n ∷ []), length-listed n)) ∙ ap (listed f) (sym z)

@@ -7,3 +7,4 @@ pub mod Sets
 pub mod Refilled
 pub mod Erasure
 pub mod Round
+pub mod Marks

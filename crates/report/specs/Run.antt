@@ -2,15 +2,20 @@
 -- and what the figures are given from them.
 --   Answered             a call: the frame and the item lent, and what it left
 --   Reads closing closedOver     the calls of a read; the response sets of its closed rounds, the last one first
+--   Tells EachTells      what an answer says, and that Figure 3's READ says it of the rounds closed so far; the same of each call of a run
+--   Apart AllApart       (01) no two cross checksums of a response set share a hash; so of each closed set
 --   Writes timing timesOver      the calls of a write; the times of its time round, the last one first
 -- Assumes nothing.
 use Prim.{Unit}
 use Prim.Native.Nat.{ℕ, _*_}
+use mathlib.Core.Path.{_≡_}
+use mathlib.Core.Logic.{_⊎_}
 use mathlib.Core.Bool.{cond}
 use mathlib.Core.List.{List, [], _∷_}
 use lib.ListN.{length}
 use lib.Dec.{ltb}
 use Rattle.octets.specs.Bytes.{put, Octets}
+use Rattle.sha256.specs.Sha256.{sha256}
 use Rattle.terms.specs.Ladder.{first}
 use Rattle.terms.specs.Stamp.{time}
 use Rattle.terms.specs.Terms.{recordLength}
@@ -21,12 +26,13 @@ use Rattle.rounds.specs.Rounds.{heardCount}
 use Rattle.session.specs.declared.Session.{Session}
 use Rattle.session.specs.declared.Took.{Took}
 use Rattle.session.specs.declared.Operation.the-variants.{Write, Read}
-use Rattle.session.specs.Session.{isStoring, replies, markedOf}
+use Rattle.session.specs.Session.{isStoring, replies, markedOf, Said, refused, stillOpen, done, neverWritten, aborted, roundsSpent, clockSpent, saidOf}
 use Rattle.session.specs.Reply.{bears, replyLadder, recordLadder}
 use Rattle.session.specs.Reader.{ReadReplyCall}
 use Rattle.session.specs.Writer.{WriteReplyCall}
-use Rattle.report.specs.Triple.{Message}
-use Rattle.report.specs.Ours.{responses}
+use Rattle.report.specs.Triple.{Message, null, In}
+use Rattle.report.specs.Figure3.{READ-PREVIOUS, returned, repaired, ABORT, reading, READ}
+use Rattle.report.specs.Ours.{family, responses}
 
 pub record Answered : Type 0 where
   pub frame : List ℕ
@@ -59,6 +65,41 @@ abbrev pub closedOver : Plan → Session → List ℕ → List (List Message) �
 closedOver p s d before [] = before
 closedOver p s d before (c ∷ cs) =
     closedOver p (c .took .session) (c .desk) (closing p s (c .frame) d (length (c .item)) before) cs
+
+-- done with a timestamp and the item that was left; or done by repair, once DO_WRITE has its N-t responses
+pub record RepairedTo (p : Plan) (closed : List (List Message)) (ts : ℕ) (item : List ℕ) : Type 0 where
+  pub sent : List Message
+  pub is : READ (family p) closed ≡ repaired sent ts item
+
+-- (01) cut: line 24 of round W sends nothing more
+pub record Spent (p : Plan) (closed : List (List Message)) (rounds : ℕ) : Type 0 where
+  pub ts : ℕ
+  pub is : READ (family p) closed ≡ reading (READ-PREVIOUS ts)
+  pub cut : rounds ≡ p .w
+
+-- an answer, the item that was left, and the rounds closed so far; the rounds reported are their number
+abbrev pub Tells : Plan → Said → List ℕ → List (List Message) → Type 0
+Tells p (refused k) item closed = Unit {0}
+Tells p stillOpen item closed = Unit {0}
+Tells p (done ts rounds) item closed = ((READ (family p) closed ≡ returned ts item) ⊎ RepairedTo p closed ts item) × (rounds ≡ length closed)
+Tells p (neverWritten rounds) item closed = (READ (family p) closed ≡ returned 0 null) × (rounds ≡ length closed)
+Tells p (aborted rounds) item closed = (READ (family p) closed ≡ ABORT) × (rounds ≡ length closed)
+Tells p (roundsSpent rounds) item closed = Spent p closed rounds × (rounds ≡ length closed)
+Tells p clockSpent item closed = ⊥
+
+abbrev pub EachTells : Plan → Session → List ℕ → List (List Message) → List Answered → Type 0
+EachTells p s d before [] = Unit {0}
+EachTells p s d before (c ∷ cs) =
+    Tells p (saidOf (c .took .answer)) (c .left) (closing p s (c .frame) d (length (c .item)) before)
+    × EachTells p (c .took .session) (c .desk) (closing p s (c .frame) d (length (c .item)) before) cs
+
+-- of these strings, no two with one hash
+abbrev pub Apart : List Message → Type 0
+Apart set = (x y : Message) → In x set → In y set → sha256 (x .Response .CC) ≡ sha256 (y .Response .CC) → x .Response .CC ≡ y .Response .CC
+
+abbrev pub AllApart : List (List Message) → Type 0
+AllApart [] = Unit {0}
+AllApart (set ∷ sets) = Apart set × AllApart sets
 
 -- ---- writing
 abbrev pub Writes : Plan → Session → List ℕ → List Answered → Type 0

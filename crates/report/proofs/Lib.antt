@@ -8,3 +8,4 @@ pub mod Refilled
 pub mod Erasure
 pub mod Round
 pub mod Marks
+pub mod Run

@@ -8,7 +8,7 @@ use mathlib.Core.Logic.{_⊎_, inl, inr}
 use native.Mathlib.Omega.{arith}
 use borrow.Author.Tests.{ltb-true, ltb-false}
 use lib.Dec.{ltb}
-use lib.ListN.{length, set}
+use lib.ListN.{length, set, replicate}
 use Rattle.octets.specs.Bytes.{part, put, alike, Octets}
 use Rattle.octets.proofs.Laws.{length-part, part-put-same, part-put-before, part-put-after}
 use Rattle.octets.proofs.Meaning.{alike-is}
@@ -24,7 +24,7 @@ use Rattle.record.proofs.Desks.{slot-fits}
 use Rattle.rounds.specs.declared.Heard.{Heard}
 use Rattle.rounds.specs.declared.Heard.the-variants.{Unheard, First, Record}
 use Rattle.rounds.specs.declared.Mark.{Mark}
-use Rattle.rounds.specs.Rounds.{markOf}
+use Rattle.rounds.specs.Rounds.{markOf, unheard}
 use Rattle.report.specs.Triple.{Message, In}
 use Rattle.report.specs.Figure1.{initial}
 use Rattle.report.specs.Ours.{verifierIn, bearing, responseOf, responses}
@@ -33,6 +33,12 @@ use Rattle.report.specs.Run.{Apart}
 use Rattle.report.proofs.Triples.{octets-part, stamp-low, verifier-in}
 
 -- ---- marks
+-- among unheard marks none is record
+pub no-mark : (n j : ℕ) → markOf (replicate n unheard) j ≡ Record → ⊥
+no-mark zero j e = let z : _≡_ {A = ℕ} 0 1 = cc in omega arith
+no-mark (suc n) zero e = let z : _≡_ {A = ℕ} 0 1 = cc in omega arith
+no-mark (suc n) (suc j) e = no-mark n j e
+
 pub mark-own : (ms : List Mark) (i : ℕ) (m : Mark) → markOf (set ms i m) i ≡ Record → m .is ≡ Record
 mark-own [] i m e = absurd (let z : _≡_ {A = ℕ} 0 1 = cc in omega arith)
 mark-own (x ∷ ms) zero m e = e

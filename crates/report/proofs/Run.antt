@@ -10,7 +10,7 @@ use native.Mathlib.Decide.{ℕ-discrete}
 use native.Mathlib.Omega.{arith}
 use borrow.Author.Tests.{ltb-false, leb-true, leb-false, eqb-true, eqb-false, lt-ltb, not-false}
 use lib.Dec.{ltb, leb, eqb}
-use lib.ListN.{length, set, length-drop, replicate}
+use lib.ListN.{length, set, length-drop}
 use Rattle.octets.specs.Bytes.{part, put, Octets}
 use Rattle.octets.proofs.Laws.{length-put}
 use Rattle.terms.specs.Ladder.{first, _and_, _or_}
@@ -21,17 +21,18 @@ use Rattle.terms.specs.declared.Ask.{Ask}
 use Rattle.terms.proofs.Rungs.{None, both, clash}
 use Rattle.terms.proofs.Facts.{facts}
 use Rattle.fragments.specs.Fragments.{among, from, regenerated, laid, Sources}
-use Rattle.fragments.proofs.Laws.{among-from, length-from, getD-from, length-regenerated}
+use Rattle.fragments.proofs.Laws.{among-from, length-from, getD-from, itself, length-regenerated}
 use Rattle.frame.specs.Frame.{kindOf, frameNode, bodyOf, goodReply}
 use Rattle.frame.proofs.Frames.{reply-is}
 use Rattle.record.specs.Record.{hashesOk, timeZero}
 use Rattle.record.specs.Desk.{slotOf, fragmentIn}
+use Rattle.record.proofs.Records.{record-length}
 use Rattle.record.proofs.Desks.{slot-fits}
 use Rattle.rounds.specs.declared.Heard.{Heard}
 use Rattle.rounds.specs.declared.Heard.the-variants.{Unheard, First, Record}
 use Rattle.rounds.specs.declared.Mark.{Mark}
 use Rattle.rounds.specs.declared.Bound.the-variants.{Free, Under}
-use Rattle.rounds.specs.Rounds.{heardCount, markOf, unheard, unheards, restUnheard}
+use Rattle.rounds.specs.Rounds.{heardCount, markOf, restUnheard}
 use Rattle.session.specs.declared.Session.{Session}
 use Rattle.session.specs.declared.Stage.{Stage}
 use Rattle.session.specs.declared.Stage.the-variants.{Asking, Storing, Ended}
@@ -42,7 +43,11 @@ use Rattle.session.specs.Reply.{bears, lengthsOk, replyLadder, recordLadder}
 use Rattle.session.specs.Reader.{Outcome, outcome, headLength, collected, acted, closed, settled, heard, stored, accepted, readReply, ReadReplyCall}
 use Rattle.session.proofs.Checks.{none-applies, outcome-all, first-map}
 use Rattle.session.proofs.Made.{StandingIs, in-range-facts, rest-set}
-use Rattle.session.proofs.Rules.{lengths-are}
+use Rattle.session.proofs.Rules.{Lengths, lengths-are}
+use Rattle.session.proofs.Openings.{accepted-session}
+use Rattle.session.specs.declared.opening.Opened.{Opened}
+use Rattle.session.specs.declared.opening.Opening.the-variants.{Accepted}
+use Rattle.session.specs.Opening.{OpenCall, freshOf}
 use Rattle.session.proofs.Readers.{bears-is}
 use Rattle.report.specs.Triple.{Message, null, strung}
 use Rattle.report.specs.Figure3.{READ-LATEST, READ-PREVIOUS, Decision, returned, repaired, ABORT, reading, LOOP, READ, goes-on}
@@ -54,7 +59,7 @@ use Rattle.report.proofs.Lists.{strung-same}
 use Rattle.report.proofs.Triples.{octets-drop, octets-put}
 use Rattle.report.proofs.Erasure.{fragment-place, laid-is}
 use Rattle.report.proofs.Round.{Full, round-decides}
-use Rattle.report.proofs.Marks.{mark-own, mark-other, slot-own, slot-other, Passed, one-cross}
+use Rattle.report.proofs.Marks.{no-mark, mark-own, mark-other, slot-own, slot-other, Passed, one-cross}
 
 -- ---- what is known between two calls: by the stage, of the session, its desk and the rounds closed so far
 -- in a read round: READ is to send what the bound says
@@ -117,14 +122,6 @@ module _ (p : Plan) (s : Session) (d i : List ℕ) (sets : List (List Message)) 
     counted : s .round ≡ length (set-now ∷ sets)
     counted = k .rounds
 
-    no-mark : (j : ℕ) → markOf unheards j ≡ Record → ⊥
-    no-mark j e = go 16 j e
-      where
-        go : (n j : ℕ) → markOf (replicate n unheard) j ≡ Record → ⊥
-        go zero j e = let z : _≡_ {A = ℕ} 0 1 = cc in omega arith
-        go (suc n) zero e = let z : _≡_ {A = ℕ} 0 1 = cc in omega arith
-        go (suc n) (suc j) e = go n j e
-
     by-decision : (o : Outcome) (x : Decision) → READ (family p) (set-now ∷ sets) ≡ x → Decides p s d i o x → Leaves p o (set-now ∷ sets)
     by-decision o (returned ts Data) e c = go (eqb ts 0) refl
       where
@@ -174,7 +171,7 @@ module _ (p : Plan) (s : Session) (d i : List ℕ) (sets : List (List Message)) 
                     rounds = omega (arith, counted);
                     desk = k .desk;
                     octets = k .octets;
-                    passed = λ j h m. absurd (no-mark j m);
+                    passed = λ j h m. absurd (no-mark 16 j m);
                   };
               tells = tt;
             })
@@ -190,3 +187,284 @@ module _ (p : Plan) (s : Session) (d i : List ℕ) (sets : List (List Message)) 
           → Leaves p (cond t (outcome stillOpen s d i) (acted p s (closed p s d) d i)) (cond t sets (set-now ∷ sets))
       go true e a = still
       go false e a = closes (ltb-false (heardCount (s .marks)) (replies p) e) a
+
+-- ---- a repair round
+positive : (x : ℕ) → eqb x 0 ≡ false → 1 ≤ x
+positive zero h = absurd (eqb-false 0 0 h refl)
+positive (suc x) h = omega arith
+
+module _ (p : Plan) (d i : List ℕ) (ok : planOk p ≡ true) (ld : length d ≡ p .n * recordLength p) (li : length i ≡ p .m * p .f) where
+  abbrev head : ℕ
+  head = 40 + 32 * p .n
+
+  src : Sources d head (recordLength p) (p .f) (from 0 (p .m))
+  src k l =
+      let f = facts p ok in
+      let h : k < p .m = omega (arith, length-from 0 (p .m)) in
+      rw (getD-from 0 (p .m) k h) (omega (arith, slot-fits k (p .n) (recordLength p) (omega arith), ld, record-length p))
+
+  -- "after a repair round the item is read from the desk's first m slots"
+  collected-is : collected p d i ≡ strung (fragmentIn p d) (p .m)
+  unfolding collected
+  collected-is =
+      laid-is d head (recordLength p) (p .f) (from 0 (p .m)) (λ k. length-regenerated d head (recordLength p) (p .f) (from 0 (p .m)) k src) (p .m) i li
+      ∙ strung-same (regenerated d head (recordLength p) (p .f) (from 0 (p .m))) (fragmentIn p d) (p .m) own
+    where
+      own : (k : ℕ) → k < p .m → regenerated d head (recordLength p) (p .f) (from 0 (p .m)) k ≡ fragmentIn p d k
+      own k h = sym (itself d head (recordLength p) (p .f) (from 0 (p .m)) k (sym (among-from k (p .m) ∙ lt-ltb k (p .m) h))) ∙ sym (fragment-place p d k)
+
+  stores : (s : Session) (f : List ℕ) (sets : List (List Message)) → s .stage ≡ Storing → Stores p s d sets → Leaves p (stored p s f d i) sets
+  unfolding stored
+  stores s f sets st k = go (ltb (heardCount (markedOf s (frameNode f) Record .marks)) (replies p))
+    where
+      go : (t : Bool) → Leaves p (cond t (outcome stillOpen (markedOf s (frameNode f) Record) d i)
+          (outcome (done (stampNumber (s .stamp)) (s .round)) (endedOf (markedOf s (frameNode f) Record)) d (collected p d i))) sets
+      go true =
+          record {
+            keeps = subst (λ (x : Stage). KeepsAt x p (markedOf s (frameNode f) Record) d sets) (sym st)
+                (record { sent = k .sent; Data = k .Data; decision = k .decision; sends = k .sends; holds = k .holds; rounds = k .rounds });
+            tells = tt;
+          }
+      go false =
+          record {
+            keeps = tt;
+            tells = (
+              inr (record { sent = k .sent; is = k .decision ∙ ap (repaired (k .sent) (stampNumber (s .stamp))) (sym (k .holds) ∙ sym collected-is) }),
+              k .rounds,
+            );
+          }
+
+-- ---- an accepted reply
+module _ (p : Plan) (s : Session) (f d i : List ℕ) (sets : List (List Message)) (of : Octets f) (keep : Keeps p s d sets)
+    (e₁ : first (replyLadder Read p s f d (length i)) (λ (j : ℕ). j) 0 ≡ 0) (e₂ : first (recordLadder p s f) (λ (j : ℕ). j) 0 ≡ 0) where
+  abbrev node : ℕ
+  node = frameNode f
+
+  n₁ : None (replyLadder Read p s f d (length i))
+  n₁ = none-applies (replyLadder Read p s f d (length i)) refl e₁
+
+  n₂ : None (recordLadder p s f)
+  n₂ = none-applies (recordLadder p s f) refl e₂
+
+  plan-ok : planOk p ≡ true
+  plan-ok = not-false (planOk p) (n₁ .0)
+
+  lengths : Lengths p (length d) (length i)
+  lengths = lengths-are p (length d) (length i) (not-false (lengthsOk p (length d) (length i)) (n₁ .1 .0))
+
+  standing : StandingIs p s
+  standing =
+      in-range-facts p s d (both (isRead (s .operation)) (inRange p s d) (not-false (isRead (s .operation) and inRange p s d) (n₁ .1 .1 .0)) .1) (n₁ .1 .1 .1 .0) .0
+
+  node-low : node < p .n
+  node-low = reply-is p f (not-false (goodReply p f) (n₁ .1 .1 .1 .1 .0)) .node-low
+
+  rest-after : (m : Mark) → restUnheard (set (s .marks) node m) (p .n) ≡ true
+  rest-after m = rest-set (s .marks) (p .n) node m node-low ∙ standing .rest
+
+  -- a first triple
+  first-asks : Asks p s d sets → Asks p (markedOf s node First) d sets
+  first-asks k =
+      record {
+        decision = k .decision;
+        rounds = k .rounds;
+        desk = k .desk;
+        octets = k .octets;
+        passed = λ j h m. go j h m (ℕ-discrete j node);
+      }
+    where
+      go : (j : ℕ) → j < p .n → markOf (set (s .marks) node (record { is = First })) j ≡ Record → Dec (j ≡ node) → Passed p j (slotOf p d j)
+      go j h m (yes q) =
+          let w : First ≡ Record = mark-own (s .marks) node (record { is = First }) (rw q at m) in
+          let z : _≡_ {A = ℕ} 0 1 = cc in
+          absurd (omega arith)
+      go j h m (no q) = k .passed j h (sym (mark-other (s .marks) node j (record { is = First }) q) ∙ m)
+
+  -- a record
+  module _ (b : bears p f ≡ true) where
+    abbrev body : List ℕ
+    body = bodyOf f
+
+    body-length : length body ≡ recordLength p
+    body-length = let l = bears-is p f true (sym b) refl .1 in simp length-drop (omega arith)
+
+    body-passed : Passed p node body
+    unfolding timeZero
+    body-passed =
+        record {
+          timed = positive (time body) (rw b at (n₂ .0));
+          hashes = not-false (hashesOk p node body) (rw b at (n₂ .1 .0));
+        }
+
+    abbrev desk-after : List ℕ
+    desk-after = put d (node * recordLength p) body
+
+    record-asks : Asks p s d sets → Asks p (markedOf s node Record) desk-after sets
+    record-asks k =
+        record {
+          decision = k .decision;
+          rounds = k .rounds;
+          desk = length-put d (node * recordLength p) body (omega (arith, body-length, slot-fits node (p .n) (recordLength p) node-low, k .desk)) ∙ k .desk;
+          octets = octets-put d (node * recordLength p) body (k .octets) (octets-drop f 15 of);
+          passed = λ j h m. go j h m (ℕ-discrete j node);
+        }
+      where
+        go : (j : ℕ) → j < p .n → markOf (set (s .marks) node (record { is = Record })) j ≡ Record → Dec (j ≡ node) → Passed p j (slotOf p desk-after j)
+        go j h m (yes q) =
+            subst (λ (x : ℕ). Passed p x (slotOf p desk-after x)) (sym q)
+            (subst (Passed p node) (sym (slot-own d body (recordLength p) (p .n) node (k .desk) body-length node-low)) body-passed)
+        go j h m (no q) =
+            subst (Passed p j) (sym (slot-other d body (recordLength p) (p .n) node (k .desk) body-length node-low j q))
+            (k .passed j h (sym (mark-other (s .marks) node j (record { is = Record }) q) ∙ m))
+
+  round-high : s .round ≤ p .w
+  round-high = leb-true (s .round) (p .w) (standing .high)
+
+  asks-leaves : s .stage ≡ Asking → (t : Bool) → bears p f ≡ t
+      → AllApart (cond t (closedBy p (markedOf s node Record) (put d (node * recordLength p) (bodyOf f)) sets) (closedBy p (markedOf s node First) d sets))
+      → Leaves p (cond t (settled p (markedOf s node Record) (put d (node * recordLength p) (bodyOf f)) i) (settled p (markedOf s node First) d i))
+      (cond t (closedBy p (markedOf s node Record) (put d (node * recordLength p) (bodyOf f)) sets) (closedBy p (markedOf s node First) d sets))
+  asks-leaves st true b a =
+      settles p (markedOf s node Record) (put d (node * recordLength p) (bodyOf f)) i sets st (record-asks b (subst (λ (x : Stage). KeepsAt x p s d sets) st keep))
+      plan-ok (lengths .item-is) (rest-after (record { is = Record })) round-high a
+  asks-leaves st false b a =
+      settles p (markedOf s node First) d i sets st (first-asks (subst (λ (x : Stage). KeepsAt x p s d sets) st keep))
+      plan-ok (lengths .item-is) (rest-after (record { is = First })) round-high a
+
+-- the outcome of a call, and the rounds closed after it
+pub record Turn : Type 0 where
+  pub now : Outcome
+  pub sets : List (List Message)
+
+abbrev turn : Outcome → List (List Message) → Turn
+turn o l = record { now = o; sets = l }
+
+module _ (p : Plan) (s : Session) (f d i : List ℕ) (sets : List (List Message)) where
+  abbrev refuse : ℕ → Turn
+  refuse j = turn (outcome (refused j) s d i) sets
+
+  abbrev heardRecord : Turn
+  heardRecord =
+      turn (settled p (markedOf s (frameNode f) Record) (put d (frameNode f * recordLength p) (bodyOf f)) i)
+      (closedBy p (markedOf s (frameNode f) Record) (put d (frameNode f * recordLength p) (bodyOf f)) sets)
+
+  abbrev heardFirst : Turn
+  heardFirst = turn (settled p (markedOf s (frameNode f) First) d i) (closedBy p (markedOf s (frameNode f) First) d sets)
+
+  abbrev taken : Turn
+  taken = cond (isStoring (s .stage)) (turn (stored p s f d i) sets) (cond (bears p f) heardRecord heardFirst)
+
+  abbrev turned : Turn
+  turned = first (replyLadder Read p s f d (length i)) refuse (first (recordLadder p s f) refuse taken)
+
+  taken-now : taken .now ≡ accepted p s f d i
+  unfolding accepted heard
+  taken-now = go (isStoring (s .stage)) (bears p f)
+    where
+      go : (t v : Bool) → cond t (turn (stored p s f d i) sets) (cond v heardRecord heardFirst) .now
+          ≡ cond t (stored p s f d i) (cond v (heardRecord .now) (heardFirst .now))
+      go true v = refl
+      go false true = refl
+      go false false = refl
+
+  taken-sets : taken .sets ≡ cond (isStoring (s .stage)) sets (cond (bears p f) (heardRecord .sets) (heardFirst .sets))
+  taken-sets = go (isStoring (s .stage)) (bears p f)
+    where
+      go : (t v : Bool) → cond t (turn (stored p s f d i) sets) (cond v heardRecord heardFirst) .sets ≡ cond t sets (cond v (heardRecord .sets) (heardFirst .sets))
+      go true v = refl
+      go false true = refl
+      go false false = refl
+
+  turned-now : turned .now ≡ readReply p s f d i
+  unfolding readReply
+  turned-now =
+      first-map (λ (t : Turn). t .now) (replyLadder Read p s f d (length i)) refuse (first (recordLadder p s f) refuse taken)
+      ∙ ap (first (replyLadder Read p s f d (length i)) (λ (j : ℕ). outcome (refused j) s d i))
+      (first-map (λ (t : Turn). t .now) (recordLadder p s f) refuse taken ∙ ap (first (recordLadder p s f) (λ (j : ℕ). outcome (refused j) s d i)) taken-now)
+
+  turned-sets : turned .sets ≡ closing p s f d (length i) sets
+  unfolding closing
+  turned-sets =
+      first-map (λ (t : Turn). t .sets) (replyLadder Read p s f d (length i)) refuse (first (recordLadder p s f) refuse taken)
+      ∙ ap (first (replyLadder Read p s f d (length i)) (λ (j : ℕ). sets))
+      (first-map (λ (t : Turn). t .sets) (recordLadder p s f) refuse taken ∙ ap (first (recordLadder p s f) (λ (j : ℕ). sets)) taken-sets)
+
+  abbrev Right : Turn → Type 0
+  Right t = AllApart (t .sets) → Leaves p (t .now) (t .sets)
+
+  module _ (of : Octets f) (keep : Keeps p s d sets) where
+    taken-right : first (replyLadder Read p s f d (length i)) (λ (j : ℕ). j) 0 ≡ 0 → first (recordLadder p s f) (λ (j : ℕ). j) 0 ≡ 0 → Right taken
+    taken-right e₁ e₂ = go (s .stage) refl
+      where
+        go : (x : Stage) → s .stage ≡ x → Right (cond (isStoring x) (turn (stored p s f d i) sets) (cond (bears p f) heardRecord heardFirst))
+        go Asking st = part (bears p f) refl
+          where
+            part : (t : Bool) → bears p f ≡ t → Right (cond t heardRecord heardFirst)
+            part true b a = asks-leaves p s f d i sets of keep e₁ e₂ st true b a
+            part false b a = asks-leaves p s f d i sets of keep e₁ e₂ st false b a
+        go Storing st = λ a.
+            stores p d i (plan-ok p s f d i sets of keep e₁ e₂) (lengths p s f d i sets of keep e₁ e₂ .desk-is) (lengths p s f d i sets of keep e₁ e₂ .item-is)
+            s f sets st (subst (λ (x : Stage). KeepsAt x p s d sets) st keep)
+        go Ended st = λ a. absurd (clash (sym (ap isEnded st) ∙ n₁ p s f d i sets of keep e₁ e₂ .1 .1 .1 .0))
+
+    call-leaves : AllApart (closing p s f d (length i) sets) → Leaves p (readReply p s f d i) (closing p s f d (length i) sets)
+    call-leaves a =
+        subst (λ (o : Outcome). Leaves p o (closing p s f d (length i) sets)) turned-now
+        (subst (λ (l : List (List Message)). Leaves p (turned .now) l) turned-sets
+        (outcome-all Right (replyLadder Read p s f d (length i)) refuse (first (recordLadder p s f) refuse taken) (λ j b. record { keeps = keep; tells = tt })
+        (λ e₁. outcome-all Right (recordLadder p s f) refuse taken (λ j b. record { keeps = keep; tells = tt }) (λ e₂. taken-right e₁ e₂))
+        (subst AllApart (sym turned-sets) a)))
+
+  -- the closed rounds are added to
+  fewer : AllApart (closing p s f d (length i) sets) → AllApart sets
+  fewer a =
+      outcome-all (λ (t : Turn). AllApart (t .sets) → AllApart sets) (replyLadder Read p s f d (length i)) refuse (first (recordLadder p s f) refuse taken) (λ j b. b)
+      (λ e₁. outcome-all (λ (t : Turn). AllApart (t .sets) → AllApart sets) (recordLadder p s f) refuse taken (λ j b. b) (λ e₂. go (isStoring (s .stage)) (bears p f)))
+      (subst AllApart (sym turned-sets) a)
+    where
+      one : (x : Session) (y : List ℕ) → AllApart (closedBy p x y sets) → AllApart sets
+      one x y b = pick (ltb (heardCount (x .marks)) (replies p)) b
+        where
+          pick : (t : Bool) → AllApart (cond t sets (responses p (x .marks) y (p .n) ∷ sets)) → AllApart sets
+          pick true c = c
+          pick false c = c .1
+
+      go : (t v : Bool) → AllApart (cond t (turn (stored p s f d i) sets) (cond v heardRecord heardFirst) .sets) → AllApart sets
+      go true v b = b
+      go false true b = one (markedOf s (frameNode f) Record) (put d (frameNode f * recordLength p) (bodyOf f)) b
+      go false false b = one (markedOf s (frameNode f) First) d b
+
+-- ---- the run
+runs-fewer : (p : Plan) (s : Session) (d : List ℕ) (sets : List (List Message)) (cs : List Answered) → AllApart (closedOver p s d sets cs) → AllApart sets
+runs-fewer p s d sets [] a = a
+runs-fewer p s d sets (c ∷ cs) a =
+    fewer p s (c .frame) d (c .item) sets (runs-fewer p (c .took .session) (c .desk) (closing p s (c .frame) d (length (c .item)) sets) cs a)
+
+-- EACH CALL OF A READ TELLS WHAT FIGURE 3'S READ DECIDES OF THE RESPONSE SETS OF THE ROUNDS CLOSED SO FAR, cut at W
+pub read-run : (p : Plan) (s : Session) (d : List ℕ) (sets : List (List Message)) (cs : List Answered) → Keeps p s d sets → run.Reads p s d cs
+    → AllApart (closedOver p s d sets cs) → EachTells p s d sets cs
+read-run p s d sets [] k r a = tt
+read-run p s d sets (c ∷ cs) k r a =
+    let q : Leaves p (outcome (saidOf (c .took .answer)) (c .took .session) (c .desk) (c .left)) (closing p s (c .frame) d (length (c .item)) sets) =
+    subst (λ (o : Outcome). Leaves p o (closing p s (c .frame) d (length (c .item)) sets)) (sym (r .1 .is))
+    (call-leaves p s (c .frame) d (c .item) sets (r .0) k (runs-fewer p (c .took .session) (c .desk) (closing p s (c .frame) d (length (c .item)) sets) cs a)) in
+    (q .tells, read-run p (c .took .session) (c .desk) (closing p s (c .frame) d (length (c .item)) sets) cs (q .keeps) (r .2) a)
+
+-- FROM OPENING: no round is closed yet
+pub opened-read : (p : Plan) (a : Ask) (r : Opened) (d : List ℕ) (cs : List Answered) → OpenCall Read p a r → r .answer ≡ Accepted
+    → length d ≡ p .n * recordLength p → Octets d → run.Reads p (r .session) d cs
+    → AllApart (closedOver p (r .session) d [] cs) → EachTells p (r .session) d [] cs
+opened-read p a r d cs call e ld od h apart = read-run p (r .session) d [] cs start h apart
+  where
+    fresh : Keeps p (freshOf Read 1 Free a) d []
+    fresh =
+        record {
+          decision = unfold READ in refl;
+          rounds = refl;
+          desk = ld;
+          octets = od;
+          passed = λ j l m. absurd (no-mark 16 j m);
+        }
+
+    start : Keeps p (r .session) d []
+    start = subst (λ (s : Session). Keeps p s d []) (sym (accepted-session Read p a r call e)) fresh

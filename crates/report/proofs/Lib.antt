@@ -9,3 +9,4 @@ pub mod Erasure
 pub mod Round
 pub mod Marks
 pub mod Run
+pub mod Write

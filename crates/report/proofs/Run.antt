@@ -54,7 +54,7 @@ use Rattle.report.specs.Figure3.{READ-LATEST, READ-PREVIOUS, Decision, r
 use Rattle.report.specs.Ours.{family, responses, sending, commandOf}
 use Rattle.report.specs.Decides.{Returns, Repairs, Reads, Decides}
 use Rattle.report.specs.Run as run
-use Rattle.report.specs.Run.{Answered, closedBy, closing, closedOver, RepairedTo, Spent, Tells, EachTells, AllApart}
+use Rattle.report.specs.Run.{Answered, closedBy, closing, closedOver, RepairedTo, Spent, Tells, Repairing, EachTells, AllApart}
 use Rattle.report.proofs.Lists.{strung-same}
 use Rattle.report.proofs.Triples.{octets-drop, octets-put}
 use Rattle.report.proofs.Erasure.{fragment-place, laid-is}
@@ -440,6 +440,11 @@ runs-fewer p s d sets [] a = a
 runs-fewer p s d sets (c ∷ cs) a =
     fewer p s (c .frame) d (c .item) sets (runs-fewer p (c .took .session) (c .desk) (closing p s (c .frame) d (length (c .item)) sets) cs a)
 
+repairing : (p : Plan) (s : Session) (d : List ℕ) (sets : List (List Message)) → s .stage ≡ Storing → Keeps p s d sets → Repairing p s d sets
+repairing p s d sets e k =
+    let q : Stores p s d sets = subst (λ (x : Stage). KeepsAt x p s d sets) e k in
+    record { Data = q .Data; is = q .decision ∙ ap (λ (l : List Message). repaired l (stampNumber (s .stamp)) (q .Data)) (sym (q .sends)) }
+
 -- EACH CALL OF A READ TELLS WHAT FIGURE 3'S READ DECIDES OF THE RESPONSE SETS OF THE ROUNDS CLOSED SO FAR, cut at W
 pub read-run : (p : Plan) (s : Session) (d : List ℕ) (sets : List (List Message)) (cs : List Answered) → Keeps p s d sets → run.Reads p s d cs
     → AllApart (closedOver p s d sets cs) → EachTells p s d sets cs
@@ -448,7 +453,7 @@ read-run p s d sets (c ∷ cs) k r a =
     let q : Leaves p (outcome (saidOf (c .took .answer)) (c .took .session) (c .desk) (c .left)) (closing p s (c .frame) d (length (c .item)) sets) =
     subst (λ (o : Outcome). Leaves p o (closing p s (c .frame) d (length (c .item)) sets)) (sym (r .1 .is))
     (call-leaves p s (c .frame) d (c .item) sets (r .0) k (runs-fewer p (c .took .session) (c .desk) (closing p s (c .frame) d (length (c .item)) sets) cs a)) in
-    (q .tells, read-run p (c .took .session) (c .desk) (closing p s (c .frame) d (length (c .item)) sets) cs (q .keeps) (r .2) a)
+    (q .tells, (λ e. repairing p (c .took .session) (c .desk) (closing p s (c .frame) d (length (c .item)) sets) e (q .keeps)), read-run p (c .took .session) (c .desk) (closing p s (c .frame) d (length (c .item)) sets) cs (q .keeps) (r .2) a)
 
 -- FROM OPENING: no round is closed yet
 pub opened-read : (p : Plan) (a : Ask) (r : Opened) (d : List ℕ) (cs : List Answered) → OpenCall Read p a r → r .answer ≡ Accepted

@@ -24,7 +24,7 @@ use Rattle.record.proofs.Desks.{slot-fits}
 use Rattle.rounds.specs.declared.Heard.{Heard}
 use Rattle.rounds.specs.declared.Heard.the-variants.{Unheard, First, Record}
 use Rattle.rounds.specs.declared.Mark.{Mark}
-use Rattle.rounds.specs.Rounds.{markOf, unheard}
+use Rattle.rounds.specs.Rounds.{bitOf, heardCount, markOf, unheard}
 use Rattle.report.specs.Triple.{Message, In}
 use Rattle.report.specs.Figure1.{initial}
 use Rattle.report.specs.Ours.{verifierIn, bearing, responseOf, responses}
@@ -50,6 +50,13 @@ mark-other (x ∷ ms) zero zero m h = absurd (h refl)
 mark-other (x ∷ ms) zero (suc k) m h = refl
 mark-other (x ∷ ms) (suc i) zero m h = refl
 mark-other (x ∷ ms) (suc i) (suc k) m h = mark-other ms i k m (λ e. h (ap suc e))
+
+-- one more is heard
+pub count-set : (ms : List Mark) (i : ℕ) → i < length ms → bitOf (markOf ms i) ≡ 0 → heardCount (set ms i (record { is = Record })) ≡ suc (heardCount ms)
+unfolding heardCount
+count-set [] i h e = absurd (omega arith)
+count-set (m ∷ ms) zero h e = let z : bitOf (m .is) ≡ 0 = e in omega (arith, z)
+count-set (m ∷ ms) (suc i) h e = ap (λ (n : ℕ). bitOf (m .is) + n) (count-set ms i (omega arith) e) ∙ omega arith
 
 -- ---- slots of r bytes
 module _ (d x : List ℕ) (r n i : ℕ) (ld : length d ≡ n * r) (lx : length x ≡ r) (hi : i < n) where

@@ -8,5 +8,6 @@ pub mod Refilled
 pub mod Erasure
 pub mod Round
 pub mod Marks
+pub mod Hears
 pub mod Run
 pub mod Write

@@ -1,15 +1,16 @@
--- Laws of the sets of the figures: those, each, MAX, listed, strung. Assumes nothing.
+-- Laws of the sets of the figures: MAX, those, each, strung, listed, In. Assumes nothing.
 use Prim.Native.Nat.{ℕ, zero, suc, _+_, _-_, _≤_, _<_}
 use mathlib.Core.Path.{_≡_, refl, sym, ap, ap₂, _∙_}
 use mathlib.Core.Bool.{Bool, true, false, cond}
 use mathlib.Core.List.{List, [], _∷_, _++_}
+use mathlib.Core.Logic.{_⊎_, inl, inr}
 use native.Mathlib.Omega.{arith}
 use borrow.Author.Tests.{ltb-true, ltb-false, leb-true, leb-false}
 use lib.Dec.{ltb, leb}
 use lib.ListN.{length, take, length-append}
 use lib.Seq.{take-append-le, take-all}
 use Rattle.record.specs.Desk.{row}
-use Rattle.report.specs.Triple.{those, each, larger, MAX, listed, strung}
+use Rattle.report.specs.Triple.{those, each, In, larger, MAX, listed, strung}
 
 -- ---- the greatest
 pub larger-is : (a b : ℕ) → larger a b ≡ a + (b - a)
@@ -101,3 +102,21 @@ module _ {A : Type 0} (f : ℕ → A) where
           let l = leb-false m n e in
           let z : m ≡ suc n = omega arith in
           take-all m (listed f n ++ (f n ∷ [])) (omega (arith, length-append (listed f n) (f n ∷ []), length-listed n)) ∙ ap (listed f) (sym z)
+
+-- ---- members
+module _ {A : Type 0} where
+  pub in-append : (x : A) (l m : List A) → In x l ⊎ In x m → In x (l ++ m)
+  in-append x [] m (inl h) = absurd h
+  in-append x [] m (inr h) = h
+  in-append x (y ∷ l) m (inl (inl e)) = inl e
+  in-append x (y ∷ l) m (inl (inr h)) = inr (in-append x l m (inl h))
+  in-append x (y ∷ l) m (inr h) = inr (in-append x l m (inr h))
+
+  pub in-split : (x : A) (l m : List A) → In x (l ++ m) → In x l ⊎ In x m
+  in-split x [] m h = inr h
+  in-split x (y ∷ l) m (inl e) = inl (inl e)
+  in-split x (y ∷ l) m (inr h) = go (in-split x l m h)
+    where
+      go : In x l ⊎ In x m → In x (y ∷ l) ⊎ In x m
+      go (inl k) = inl (inr k)
+      go (inr k) = inr k

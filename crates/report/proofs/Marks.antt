@@ -30,6 +30,7 @@ use Rattle.report.specs.Figure1.{initial}
 use Rattle.report.specs.Ours.{verifierIn, bearing, responseOf, responses}
 use Rattle.report.specs.Decides.{OneCross}
 use Rattle.report.specs.Run.{Apart}
+use Rattle.report.proofs.Lists.{in-split}
 use Rattle.report.proofs.Triples.{octets-part, stamp-low, verifier-in}
 
 -- ---- marks
@@ -82,15 +83,6 @@ pub record Passed (p : Plan) (k : ℕ) (x : List ℕ) : Type 0 where
   pub hashes : hashesOk p k x ≡ true
 
 module _ (p : Plan) (ms : List Mark) (d : List ℕ) where
-  in-split : (x : Message) (l m : List Message) → In x (l ++ m) → In x l ⊎ In x m
-  in-split x [] m h = inr h
-  in-split x (y ∷ l) m (inl e) = inl (inl e)
-  in-split x (y ∷ l) m (inr h) = go (in-split x l m h)
-    where
-      go : In x l ⊎ In x m → In x (y ∷ l) ⊎ In x m
-      go (inl k) = inl (inr k)
-      go (inr k) = inr k
-
   -- either the first triple, or the slot of a node that is marked record
   pub data Member (x : Message) (n : ℕ) : Type 0 where
     of-first : x .Response ≡ initial → Member x n

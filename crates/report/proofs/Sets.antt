@@ -4,7 +4,7 @@ use Prim.Native.Nat.{ℕ, zero, suc, _+_, _*_, _≤_, _<_}
 use mathlib.Core.Path.{_≡_, refl, sym, ap, ap₂, _∙_, subst}
 use mathlib.Core.Bool.{Bool, true, false, cond}
 use mathlib.Core.List.{List, [], _∷_, _++_, append-nil}
-use mathlib.Core.Logic.{_⊎_, inl, inr}
+use mathlib.Core.Logic.{inl, inr}
 use native.Mathlib.Nat.{add-zero}
 use native.Mathlib.Decide.{ℕ-discrete}
 use native.Mathlib.Omega.{arith}
@@ -31,7 +31,7 @@ use Rattle.rounds.proofs.Laws.{slot-room}
 use Rattle.report.specs.Triple.{Message, those, each, larger, MAX, In}
 use Rattle.report.specs.Figure3.{of-first-triple}
 use Rattle.report.specs.Ours.{bearing, responseOf, responses}
-use Rattle.report.proofs.Lists.{larger-low, larger-high, max-snoc, those-append, each-append}
+use Rattle.report.proofs.Lists.{larger-low, larger-high, max-snoc, those-append, each-append, in-append}
 
 -- ---- its size
 count-more : (ms : List Mark) (i : ℕ) → heardCount (take (suc i) ms) ≡ heardCount (take i ms) + bitOf (markOf ms i)
@@ -142,13 +142,6 @@ module _ (p : Plan) (ms : List Mark) (d : List ℕ) where
       go false e k ih = ih k
 
   -- ---- the candidate's set
-  in-append : (x : Message) (l k : List Message) → In x l ⊎ In x k → In x (l ++ k)
-  in-append x [] k (inl h) = absurd h
-  in-append x [] k (inr h) = h
-  in-append x (y ∷ l) k (inl (inl e)) = inl e
-  in-append x (y ∷ l) k (inl (inr h)) = inr (in-append x l k (inl h))
-  in-append x (y ∷ l) k (inr h) = inr (in-append x l k (inr h))
-
   in-one : (n : ℕ) (h : Heard) → h ≡ Record → In (bearing p d n) (responseOf p d n h)
   unfolding responseOf
   in-one n Unheard e = absurd (let z : _≡_ {A = ℕ} 0 1 = cc in omega arith)

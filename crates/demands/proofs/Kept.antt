@@ -90,7 +90,7 @@ module _ (p : Plan) (f b y : List ℕ) (g : goodBook p b ≡ true) (o : Octets b
   passed =
       one.pass-back p (nodeOf b) f (record { frame = n .request; kind = w; time = n .time; hash = n .hash })
 
-  executed : one.Laid p (nodeOf b) b (served p f b y .book) (kept (bodyOf f) (recordsOf p b))
+  pub executed : one.Laid p (nodeOf b) b (served p f b y .book) (kept (bodyOf f) (recordsOf p b))
   executed = one.deliver-one start f y (nodes.lengths-are p (length b) (length y) (n .lengths) .room) passed own-it room
 
   pub written : After p b (served p f b y .book) × Among (bodyOf f) (recordsOf p (served p f b y .book))

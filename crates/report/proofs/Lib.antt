@@ -1,0 +1,13 @@
+pub mod Plans
+pub mod Lists
+pub mod Triples
+pub mod Latest
+pub mod Node
+pub mod Sets
+pub mod Refilled
+pub mod Erasure
+pub mod Round
+pub mod Marks
+pub mod Hears
+pub mod Run
+pub mod Write

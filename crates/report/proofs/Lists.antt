@@ -1,0 +1,122 @@
+-- Laws of the sets of the figures: MAX, those, each, strung, listed, In. Assumes nothing.
+use Prim.Native.Nat.{ℕ, zero, suc, _+_, _-_, _≤_, _<_}
+use mathlib.Core.Path.{_≡_, refl, sym, ap, ap₂, _∙_}
+use mathlib.Core.Bool.{Bool, true, false, cond}
+use mathlib.Core.List.{List, [], _∷_, _++_}
+use mathlib.Core.Logic.{_⊎_, inl, inr}
+use native.Mathlib.Omega.{arith}
+use borrow.Author.Tests.{ltb-true, ltb-false, leb-true, leb-false}
+use lib.Dec.{ltb, leb}
+use lib.ListN.{length, take, length-append}
+use lib.Seq.{take-append-le, take-all}
+use Rattle.record.specs.Desk.{row}
+use Rattle.report.specs.Triple.{those, each, In, larger, MAX, listed, strung}
+
+-- ---- the greatest
+pub larger-is : (a b : ℕ) → larger a b ≡ a + (b - a)
+larger-is a b = go (ltb a b) refl
+  where
+    go : (t : Bool) → ltb a b ≡ t → cond t b a ≡ a + (b - a)
+    go true e = let h = ltb-true a b e in omega arith
+    go false e = let h = ltb-false a b e in omega arith
+
+pub larger-low : (a b : ℕ) → b ≤ a → larger a b ≡ a
+larger-low a b h = larger-is a b ∙ omega arith
+
+pub larger-high : (a b : ℕ) → a ≤ b → larger a b ≡ b
+larger-high a b h = larger-is a b ∙ omega arith
+
+larger-swap : (a b c : ℕ) → larger (larger a b) c ≡ larger (larger a c) b
+larger-swap a b c =
+    larger-is (larger a b) c ∙ ap (λ (x : ℕ). x + (c - x)) (larger-is a b) ∙ omega arith
+    ∙ sym (larger-is (larger a c) b ∙ ap (λ (x : ℕ). x + (b - x)) (larger-is a c))
+
+pub max-snoc : (l : List ℕ) (x : ℕ) → MAX (l ++ (x ∷ [])) ≡ larger (MAX l) x
+unfolding MAX
+max-snoc [] x = refl
+max-snoc (y ∷ l) x = ap (λ (m : ℕ). larger m y) (max-snoc l x) ∙ larger-swap (MAX l) x y
+
+-- ---- lists one after the other
+module _ {A : Type 0} where
+  pub those-append : (t : A → Bool) (l k : List A) → those t (l ++ k) ≡ those t l ++ those t k
+  unfolding those
+  those-append t [] k = refl
+  those-append t (x ∷ l) k = go (t x) (those-append t l k)
+    where
+      go : (b : Bool) → those t (l ++ k) ≡ those t l ++ those t k
+          → cond b (x ∷ those t (l ++ k)) (those t (l ++ k)) ≡ cond b (x ∷ those t l) (those t l) ++ those t k
+      go true e = ap (λ (z : List A). x ∷ z) e
+      go false e = e
+
+module _ {A B : Type 0} where
+  pub each-append : (f : A → B) (l k : List A) → each f (l ++ k) ≡ each f l ++ each f k
+  unfolding each
+  each-append f [] k = refl
+  each-append f (x ∷ l) k = ap (λ (z : List B). f x ∷ z) (each-append f l k)
+
+  pub length-each : (f : A → B) (l : List A) → length (each f l) ≡ length l
+  unfolding each
+  length-each f [] = refl
+  length-each f (x ∷ l) = ap suc (length-each f l)
+
+-- ---- one after the other
+pub strung-row : (f : ℕ → List ℕ) (n : ℕ) → strung f n ≡ row f n
+unfolding strung row
+strung-row f zero = refl
+strung-row f (suc n) = ap (λ (l : List ℕ). l ++ f n) (strung-row f n)
+
+pub strung-same : (f g : ℕ → List ℕ) (n : ℕ) → ((k : ℕ) → k < n → f k ≡ g k) → strung f n ≡ strung g n
+unfolding strung
+strung-same f g zero h = refl
+strung-same f g (suc n) h = ap₂ (λ (a b : List ℕ). a ++ b) (strung-same f g n (λ k i. h k (omega arith))) (h n (omega arith))
+
+pub listed-same : {A : Type 0} (f g : ℕ → A) (n : ℕ) → ((k : ℕ) → k < n → f k ≡ g k) → listed f n ≡ listed g n
+unfolding listed
+listed-same f g zero h = refl
+listed-same {A} f g (suc n) h = ap₂ (λ (l : List A) (x : A). l ++ (x ∷ [])) (listed-same f g n (λ k i. h k (omega arith))) (h n (omega arith))
+
+-- ---- the first of a list
+module _ {A B : Type 0} where
+  pub take-each : (n : ℕ) (f : A → B) (l : List A) → take n (each f l) ≡ each f (take n l)
+  unfolding each
+  take-each zero f l = refl
+  take-each (suc n) f [] = refl
+  take-each (suc n) f (x ∷ l) = ap (λ (z : List B). f x ∷ z) (take-each n f l)
+
+module _ {A : Type 0} (f : ℕ → A) where
+  pub length-listed : (n : ℕ) → length (listed f n) ≡ n
+  unfolding listed
+  length-listed zero = refl
+  length-listed (suc n) = length-append (listed f n) (f n ∷ []) ∙ omega (arith, length-listed n)
+
+  pub take-listed : (m n : ℕ) → m ≤ n → take m (listed f n) ≡ listed f m
+  unfolding listed
+  take-listed m zero h = let z : m ≡ 0 = omega arith in rw z
+  take-listed m (suc n) h = go (leb m n) refl (λ l. take-listed m n l)
+    where
+      go : (t : Bool) → leb m n ≡ t → (m ≤ n → take m (listed f n) ≡ listed f m) → take m (listed f n ++ (f n ∷ [])) ≡ listed f m
+      go true e ih =
+          let l = leb-true m n e in
+          take-append-le m (listed f n) (f n ∷ []) (omega (arith, length-listed n)) ∙ ih l
+      go false e ih =
+          let l = leb-false m n e in
+          let z : m ≡ suc n = omega arith in
+          take-all m (listed f n ++ (f n ∷ [])) (omega (arith, length-append (listed f n) (f n ∷ []), length-listed n)) ∙ ap (listed f) (sym z)
+
+-- ---- members
+module _ {A : Type 0} where
+  pub in-append : (x : A) (l m : List A) → In x l ⊎ In x m → In x (l ++ m)
+  in-append x [] m (inl h) = absurd h
+  in-append x [] m (inr h) = h
+  in-append x (y ∷ l) m (inl (inl e)) = inl e
+  in-append x (y ∷ l) m (inl (inr h)) = inr (in-append x l m (inl h))
+  in-append x (y ∷ l) m (inr h) = inr (in-append x l m (inr h))
+
+  pub in-split : (x : A) (l m : List A) → In x (l ++ m) → In x l ⊎ In x m
+  in-split x [] m h = inr h
+  in-split x (y ∷ l) m (inl e) = inl (inl e)
+  in-split x (y ∷ l) m (inr h) = go (in-split x l m h)
+    where
+      go : In x l ⊎ In x m → In x (y ∷ l) ⊎ In x m
+      go (inl k) = inl (inr k)
+      go (inr k) = inr k

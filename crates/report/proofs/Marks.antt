@@ -1,0 +1,141 @@
+-- A mark that is set and a slot that is put: what the others keep (mark-other, slot-put); and that in a response set of records that passed
+-- their checks, and no two cross checksums with one hash, one timestamp is one cross checksum (one-cross). Assumes nothing.
+use Prim.Native.Nat.{ℕ, zero, suc, _+_, _*_, _≤_, _<_}
+use mathlib.Core.Path.{_≡_, refl, sym, ap, _∙_, subst}
+use mathlib.Core.Bool.{Bool, true, false}
+use mathlib.Core.List.{List, [], _∷_, _++_}
+use mathlib.Core.Logic.{_⊎_, inl, inr}
+use native.Mathlib.Omega.{arith}
+use borrow.Author.Tests.{ltb-true, ltb-false}
+use lib.Dec.{ltb}
+use lib.ListN.{length, set, replicate}
+use Rattle.octets.specs.Bytes.{part, put, alike, Octets}
+use Rattle.octets.proofs.Laws.{length-part, part-put-same, part-put-before, part-put-after}
+use Rattle.octets.proofs.Meaning.{alike-is}
+use Rattle.sha256.specs.Sha256.{sha256}
+use Rattle.terms.proofs.Rungs.{both}
+use Rattle.terms.specs.Stamp.{stamp, time}
+use Rattle.terms.specs.Terms.{recordLength}
+use Rattle.terms.specs.declared.Plan.{Plan}
+use Rattle.record.specs.Record.{crossOf, verifierOf, hashesOk}
+use Rattle.record.specs.Desk.{slotOf}
+use Rattle.record.proofs.Records.{record-length}
+use Rattle.record.proofs.Desks.{slot-fits}
+use Rattle.rounds.specs.declared.Heard.{Heard}
+use Rattle.rounds.specs.declared.Heard.the-variants.{Unheard, First, Record}
+use Rattle.rounds.specs.declared.Mark.{Mark}
+use Rattle.rounds.specs.Rounds.{bitOf, heardCount, markOf, unheard}
+use Rattle.report.specs.Triple.{Message, In}
+use Rattle.report.specs.Figure1.{initial}
+use Rattle.report.specs.Ours.{verifierIn, bearing, responseOf, responses}
+use Rattle.report.specs.Decides.{OneCross}
+use Rattle.report.specs.Run.{Apart}
+use Rattle.report.proofs.Lists.{in-split}
+use Rattle.report.proofs.Triples.{octets-part, stamp-low, verifier-in}
+
+-- ---- marks
+-- among unheard marks none is record
+pub no-mark : (n j : ℕ) → markOf (replicate n unheard) j ≡ Record → ⊥
+no-mark zero j e = let z : _≡_ {A = ℕ} 0 1 = cc in omega arith
+no-mark (suc n) zero e = let z : _≡_ {A = ℕ} 0 1 = cc in omega arith
+no-mark (suc n) (suc j) e = no-mark n j e
+
+pub mark-own : (ms : List Mark) (i : ℕ) (m : Mark) → markOf (set ms i m) i ≡ Record → m .is ≡ Record
+mark-own [] i m e = absurd (let z : _≡_ {A = ℕ} 0 1 = cc in omega arith)
+mark-own (x ∷ ms) zero m e = e
+mark-own (x ∷ ms) (suc i) m e = mark-own ms i m e
+
+pub mark-other : (ms : List Mark) (i k : ℕ) (m : Mark) → (k ≡ i → ⊥) → markOf (set ms i m) k ≡ markOf ms k
+mark-other [] i k m h = refl
+mark-other (x ∷ ms) zero zero m h = absurd (h refl)
+mark-other (x ∷ ms) zero (suc k) m h = refl
+mark-other (x ∷ ms) (suc i) zero m h = refl
+mark-other (x ∷ ms) (suc i) (suc k) m h = mark-other ms i k m (λ e. h (ap suc e))
+
+-- one more is heard
+pub count-set : (ms : List Mark) (i : ℕ) → i < length ms → bitOf (markOf ms i) ≡ 0 → heardCount (set ms i (record { is = Record })) ≡ suc (heardCount ms)
+unfolding heardCount
+count-set [] i h e = absurd (omega arith)
+count-set (m ∷ ms) zero h e = let z : bitOf (m .is) ≡ 0 = e in omega (arith, z)
+count-set (m ∷ ms) (suc i) h e = ap (λ (n : ℕ). bitOf (m .is) + n) (count-set ms i (omega arith) e) ∙ omega arith
+
+-- ---- slots of r bytes
+module _ (d x : List ℕ) (r n i : ℕ) (ld : length d ≡ n * r) (lx : length x ≡ r) (hi : i < n) where
+  fits : i * r + r ≤ length d
+  fits = omega (arith, slot-fits i n r hi, ld)
+
+  pub slot-own : part (put d (i * r) x) (i * r) r ≡ x
+  slot-own = part-put-same d (i * r) x r lx (omega (arith, fits))
+
+  pub slot-other : (k : ℕ) → (k ≡ i → ⊥) → part (put d (i * r) x) (k * r) r ≡ part d (k * r) r
+  slot-other k h = go (ltb k i) refl
+    where
+      go : (t : Bool) → ltb k i ≡ t → part (put d (i * r) x) (k * r) r ≡ part d (k * r) r
+      go true e = part-put-before d (i * r) x (k * r) r (slot-fits k i r (ltb-true k i e)) (omega (arith, fits))
+      go false e =
+          let l : i < k = omega (arith, ltb-false k i e) in
+          part-put-after d (i * r) x (k * r) r (omega (arith, lx, slot-fits i k r l)) (omega (arith, lx, fits))
+
+-- ---- the members of a response set
+-- a record that passed the checks of an accepted reply
+pub record Passed (p : Plan) (k : ℕ) (x : List ℕ) : Type 0 where
+  pub timed : 1 ≤ time x
+  pub hashes : hashesOk p k x ≡ true
+
+module _ (p : Plan) (ms : List Mark) (d : List ℕ) where
+  -- either the first triple, or the slot of a node that is marked record
+  pub data Member (x : Message) (n : ℕ) : Type 0 where
+    of-first : x .Response ≡ initial → Member x n
+    of-slot : (k : ℕ) → k < n → markOf ms k ≡ Record → x ≡ bearing p d k → Member x n
+
+  member-more : (x : Message) (n : ℕ) → Member x n → Member x (suc n)
+  member-more x n (of-first e) = of-first e
+  member-more x n (of-slot k h m e) = of-slot k (omega arith) m e
+
+  member-one : (x : Message) (n : ℕ) (h : Heard) → markOf ms n ≡ h → In x (responseOf p d n h) → Member x (suc n)
+  unfolding responseOf
+  member-one x n Unheard m q = absurd q
+  member-one x n First m (inl e) = of-first (ap (λ (y : Message). y .Response) e)
+  member-one x n First m (inr q) = absurd q
+  member-one x n Record m (inl e) = of-slot n (omega arith) m e
+  member-one x n Record m (inr q) = absurd q
+
+  pub member-is : (x : Message) (n : ℕ) → In x (responses p ms d n) → Member x n
+  unfolding responses
+  member-is x zero h = absurd h
+  member-is x (suc n) h = go (in-split x (responses p ms d n) (responseOf p d n (markOf ms n)) h) (member-is x n)
+    where
+      go : In x (responses p ms d n) ⊎ In x (responseOf p d n (markOf ms n)) → (In x (responses p ms d n) → Member x n) → Member x (suc n)
+      go (inl q) ih = member-more x n (ih q)
+      go (inr q) ih = member-one x n (markOf ms n) refl q
+
+  module _ (ld : length d ≡ p .n * recordLength p) (od : Octets d)
+      (ok : (k : ℕ) → k < p .n → markOf ms k ≡ Record → Passed p k (slotOf p d k)) where
+    abbrev slot : ℕ → List ℕ
+    slot k = slotOf p d k
+
+    -- the hash of its cross checksum is the verifier of its timestamp
+    hash-is : (k : ℕ) → k < p .n → markOf ms k ≡ Record → sha256 (crossOf p (slot k)) ≡ verifierIn (stamp (slot k))
+    unfolding hashesOk
+    hash-is k h m =
+        let l : 40 ≤ length (slot k) = omega (arith, length-part d (k * recordLength p) (recordLength p) (omega (arith, slot-fits k (p .n) (recordLength p) h, ld)), record-length p) in
+        alike-is _ _ (both (alike (sha256 (crossOf p (slot k))) (verifierOf (slot k))) _ (ok k h m .hashes) .0)
+        ∙ sym (verifier-in (slot k) l (octets-part d (k * recordLength p) (recordLength p) od))
+
+    pub one-cross : Apart (responses p ms d (p .n)) → OneCross (responses p ms d (p .n))
+    one-cross apart x y hx hy e = go (member-is x (p .n) hx) (member-is y (p .n) hy)
+      where
+        low : (k : ℕ) → k < p .n → markOf ms k ≡ Record → 1 ≤ stamp (slot k)
+        low k h m = stamp-low (slot k) (ok k h m .timed)
+
+        go : Member x (p .n) → Member y (p .n) → x .Response .CC ≡ y .Response .CC
+        go (of-first a) (of-first b) = ap (λ t. t .CC) (a ∙ sym b)
+        go (of-first a) (of-slot k h m b) =
+            absurd (let z : 0 ≡ stamp (slot k) = ap (λ t. t .ts) (sym a) ∙ e ∙ ap (λ t. t .Response .ts) b in omega (arith, z, low k h m))
+        go (of-slot k h m a) (of-first b) =
+            absurd (let z : stamp (slot k) ≡ 0 = ap (λ t. t .Response .ts) (sym a) ∙ e ∙ ap (λ t. t .ts) b in omega (arith, z, low k h m))
+        go (of-slot k h m a) (of-slot j i w b) =
+            apart x y hx hy
+            (ap (λ t. sha256 (t .Response .CC)) a ∙ hash-is k h m
+            ∙ ap verifierIn (ap (λ t. t .Response .ts) (sym a) ∙ e ∙ ap (λ t. t .Response .ts) b)
+            ∙ sym (hash-is j i w) ∙ ap (λ t. sha256 (t .Response .CC)) (sym b))

@@ -1,0 +1,275 @@
+-- WE ACT AS FIGURE 1. A fresh book is INITIALIZE (fresh-acts). The reply to each request is Figure 1's on the node's History (time-acts,
+-- latest-acts, previous-acts, write-acts), and the History after a write is Figure 1's. A refused request leaves the History and sends
+-- nothing (refused-acts); what VALIDATE turns away is refused (invalid-acts), and what it lets through is executed unless one of the
+-- conditions that document 01 adds stands against it (valid-acts). Assumes nothing.
+use Prim.Native.Nat.{ℕ, zero, suc, _+_, _*_, _≤_, _<_}
+use Prim.{tt}
+use mathlib.Core.Path.{_≡_, refl, sym, ap, _∙_, subst}
+use mathlib.Core.Bool.{Bool, true, false, cond, not}
+use mathlib.Core.List.{List, [], _∷_}
+use mathlib.Core.Logic.{_⊎_, inl, inr}
+use native.Mathlib.Nat.{suc-mul}
+use native.Mathlib.Omega.{arith}
+use borrow.Author.Tests.{eq-eqb, eqb-false, not-false, leb-true, ltb-true}
+use lib.Dec.{leb, eqb}
+use lib.ListN.{length, length-drop}
+use lib.Seq.{getD-drop}
+use Rattle.octets.specs.Bytes.{part, be, over, Octets}
+use Rattle.octets.proofs.Laws.{length-part}
+use Rattle.octets.proofs.Meaning.{getD-part}
+use Rattle.terms.proofs.Rungs as rungs
+use Rattle.terms.proofs.Rungs.{both, clash}
+use Rattle.terms.specs.Ladder.{first}
+use Rattle.terms.specs.Stamp.{stamp, time}
+use Rattle.terms.specs.Terms.{planOk, recordLength, refusalNumber}
+use Rattle.terms.specs.declared.Plan.{Plan}
+use Rattle.terms.specs.declared.Refusal.{Refusal}
+use Rattle.frame.specs.Frame.{kindOf, frameNode, askOf, bodyOf, frame, goodRequest}
+use Rattle.frame.proofs.Frames.{request-is}
+use Rattle.record.specs.Record.{hashesOk, timeZero}
+use Rattle.record.proofs.Records.{record-length}
+use Rattle.book.specs.Records.{lastOf, lastBelow, holds, kept, timed, rising}
+use Rattle.book.specs.Book.{goodBook, nodeOf, recordsFrom, recordsOf, countOf, laidOut}
+use Rattle.book.proofs.Laid as laid
+use Rattle.book.proofs.Laws as books
+use Rattle.node.specs.declared.Answer.the-variants.{Refused, Replied}
+use Rattle.node.specs.declared.Answer.{Answer}
+use Rattle.node.specs.Node.{NodeCall, served, answered, replies, replyTo, bookAfter, said, replied, refused, Outcome, outcome, nodeLadder, writes, lengthsOk, zeroTime, hashFails, otherHeld, noRoom}
+use Rattle.node.specs.declared.Made.the-variants.{Fresh}
+use Rattle.node.specs.Fresh.{FreshCall, FreshOutcome, freshOutcome, made, freshened, freshLadder}
+use Rattle.node.specs.Fresh as fresh
+use Rattle.node.proofs.Laws as nodes
+use Rattle.demands.specs.Deliver.{Among}
+use Rattle.demands.proofs.Order as order
+use Rattle.demands.proofs.One as one
+use Rattle.demands.proofs.Node as calls
+use Rattle.demands.proofs.Kept as keeps
+use Rattle.report.specs.Triple.{Triple, each, In, Same}
+use Rattle.report.specs.Figure1.{initial, INITIALIZE, RECEIVE-TIME-REQUEST, VALIDATE, with-it, RECEIVE-WRITE-REQUEST, RECEIVE-READ-LATEST, RECEIVE-READ-PREVIOUS}
+use Rattle.report.specs.Ours.{family, tripleOf, history, timeIn}
+use Rattle.report.proofs.Triples.{octets-part, octets-drop, stamp-low, time-in, time-none, validate-is}
+use Rattle.report.proofs.Latest.{time-of, latest-of, previous-of}
+
+-- ---- the records of a book
+-- what holds of every part of R bytes, and of none, holds of the last record
+last-all : (P : List ℕ → Type 0) (b : List ℕ) (r : ℕ) → ((at : ℕ) → at + r ≤ length b → P (part b at r)) → P []
+    → (m at : ℕ) → at + m * r ≤ length b → P (lastOf (recordsFrom b r m at))
+unfolding recordsFrom lastOf
+last-all P b r h z zero at l = z
+last-all P b r h z (suc zero) at l = h at (omega (arith, suc-mul 0 r))
+last-all P b r h z (suc (suc m)) at l = last-all P b r h z (suc m) (at + r) (omega (arith, suc-mul (suc m) r))
+
+-- ---- sets of triples
+module _ (p : Plan) where
+  in-triples : (z : List ℕ) (rs : List (List ℕ)) → Among z rs → In (tripleOf p z) (each (tripleOf p) rs)
+  unfolding each
+  in-triples z [] h = absurd (order.among-none z h)
+  in-triples z (x ∷ rs) h = go (order.among-case x z rs h) (in-triples z rs)
+    where
+      go : (x ≡ z) ⊎ Among z rs → (Among z rs → In (tripleOf p z) (each (tripleOf p) rs)) → In (tripleOf p z) (tripleOf p x ∷ each (tripleOf p) rs)
+      go (inl e) ih = inl (ap (tripleOf p) (sym e))
+      go (inr k) ih = inr (ih k)
+
+  of-triples : (C : Type 0) (X : Triple) (rs : List (List ℕ)) → In X (each (tripleOf p) rs) → ((z : List ℕ) → Among z rs → X ≡ tripleOf p z → C) → C
+  unfolding each
+  of-triples C X [] h k = absurd h
+  of-triples C X (x ∷ rs) (inl e) k = k x (order.among-first x x rs refl) e
+  of-triples C X (x ∷ rs) (inr h) k = of-triples C X rs h (λ z m e. k z (order.among-later x z rs m) e)
+
+  -- a record that was put among others
+  kept-only : (rec z : List ℕ) (rs : List (List ℕ)) → Among z (kept rec rs) → (rec ≡ z) ⊎ Among z rs
+  kept-only rec z rs h = go (holds rec rs) refl
+    where
+      go : (t : Bool) → holds rec rs ≡ t → (rec ≡ z) ⊎ Among z rs
+      go true e = inr (subst (Among z) (order.kept-held rec rs e) h)
+      go false e = order.insert-only rec z rs (subst (Among z) (order.kept-new rec rs e) h)
+
+  with-record : (rec : List ℕ) (rs ks : List (List ℕ)) → Among rec ks → ((z : List ℕ) → Among z rs → Among z ks)
+      → ((z : List ℕ) → Among z ks → (rec ≡ z) ⊎ Among z rs)
+      → Same (initial ∷ each (tripleOf p) ks) (with-it (tripleOf p rec) (initial ∷ each (tripleOf p) rs))
+  with-record rec rs ks has more only X = (there, back)
+    where
+      new : (z : List ℕ) → X ≡ tripleOf p z → (rec ≡ z) ⊎ Among z rs → In X (with-it (tripleOf p rec) (initial ∷ each (tripleOf p) rs))
+      new z e (inl r) = inl (e ∙ ap (tripleOf p) (sym r))
+      new z e (inr m) = inr (inr (subst (λ (Y : Triple). In Y (each (tripleOf p) rs)) (sym e) (in-triples z rs m)))
+
+      there : In X (initial ∷ each (tripleOf p) ks) → In X (with-it (tripleOf p rec) (initial ∷ each (tripleOf p) rs))
+      there (inl e) = inr (inl e)
+      there (inr h) = of-triples (In X (with-it (tripleOf p rec) (initial ∷ each (tripleOf p) rs))) X ks h (λ z m e. new z e (only z m))
+
+      held : (z : List ℕ) → Among z ks → X ≡ tripleOf p z → In X (initial ∷ each (tripleOf p) ks)
+      held z m e = inr (subst (λ (Y : Triple). In Y (each (tripleOf p) ks)) (sym e) (in-triples z ks m))
+
+      back : In X (with-it (tripleOf p rec) (initial ∷ each (tripleOf p) rs)) → In X (initial ∷ each (tripleOf p) ks)
+      back (inl e) = held rec has e
+      back (inr (inl e)) = inl e
+      back (inr (inr h)) = of-triples (In X (initial ∷ each (tripleOf p) ks)) X rs h (λ z m e. held z (more z m) e)
+
+-- ---- the call
+-- a read reply that bears the only triple of a set
+pub record Sends (p : Plan) (f y y₂ : List ℕ) (set : List Triple) : Type 0 where
+  pub body : List ℕ
+  pub sent : y₂ ≡ over (frame 7 (frameNode f) (askOf f) body) y
+  pub is : set ≡ tripleOf p body ∷ []
+
+-- a write that was executed: WRITE_RESPONSE is sent, which here bears the timestamp, and the History is Figure 1's
+pub record Executes (p : Plan) (f b y b₂ y₂ : List ℕ) : Type 0 where
+  pub valid : RECEIVE-WRITE-REQUEST (family p) (nodeOf b) (history p b) (tripleOf p (bodyOf f)) .sent ≡ true
+  pub set : Same (history p b₂) (RECEIVE-WRITE-REQUEST (family p) (nodeOf b) (history p b) (tripleOf p (bodyOf f)) .History)
+  pub sent : y₂ ≡ over (frame 4 (frameNode f) (askOf f) (part (bodyOf f) 0 40)) y
+
+module _ (p : Plan) (f b y : List ℕ) (ob : Octets b) (of : Octets f) where
+  -- a request to write: VALIDATE is the condition of refusal 6
+  write-body : goodRequest p (nodeOf b) f ≡ true → kindOf f ≡ 3 → 40 ≤ length (bodyOf f)
+  write-body r k = let l = nodes.write-length p (nodeOf b) f r k in simp length-drop (omega (arith, record-length p))
+
+  validates : goodRequest p (nodeOf b) f ≡ true → kindOf f ≡ 3 → not (VALIDATE (family p) (nodeOf b) (tripleOf p (bodyOf f))) ≡ hashFails p f
+  unfolding hashFails
+  validates r k =
+      let n : frameNode f ≡ nodeOf b = request-is p (nodeOf b) f r .node-is in
+      ap not (validate-is p (nodeOf b) (bodyOf f) (write-body r k) (octets-drop f 15 of) ∙ ap (λ (S : ℕ). hashesOk p S (bodyOf f)) (sym n))
+      ∙ rw (eq-eqb (kindOf f) 3 k)
+
+  module _ (n : ℕ) (b₂ y₂ : List ℕ) (c : NodeCall p f b y (Replied n) b₂ y₂) where
+    told : rungs.None (nodeLadder p f b y) × (outcome (replied n) b₂ y₂ ≡ answered p f b y)
+    told = calls.replied-is p f b y n b₂ y₂ c
+
+    clear : calls.Clear p f b y
+    clear = calls.clear p f b y (told .0)
+
+    good : laid.BookIs 1 11 p b
+    good = books.good-is p b (clear .good)
+
+    bytes : y₂ ≡ over (frame (replyTo (kindOf f) (bodyOf f) (recordsOf p b) .kind) (frameNode f) (askOf f) (replyTo (kindOf f) (bodyOf f) (recordsOf p b) .body)) y
+    unfolding answered replies
+    bytes = ap (λ (o : Outcome). o .reply) (told .1)
+
+    left : writes f ≡ false → b₂ ≡ b
+    left w = ap (λ (o : Outcome). o .book) (told .1) ∙ one.answered-book p f b y ∙ one.after-other p f b w
+
+    read-only : (k : ℕ) → kindOf f ≡ k → eqb k 3 ≡ false → b₂ ≡ b
+    read-only k e h = left (ap (λ (j : ℕ). eqb j 3) e ∙ h)
+
+    -- RECEIVE_TIME_REQUEST; of the timestamp the reply bears the time only
+    pub time-acts : kindOf f ≡ 1 → (y₂ ≡ over (frame 2 (frameNode f) (askOf f) (be 8 (timeIn (RECEIVE-TIME-REQUEST (history p b))))) y) × (b₂ ≡ b)
+    unfolding replyTo
+    time-acts k = (
+      rw k at bytes ∙ ap (λ (t : ℕ). over (frame 2 (frameNode f) (askOf f) (be 8 t)) y)
+          (sym (ap timeIn (time-of p (recordsOf p b) (good .fill .rise) (good .fill .times)) ∙ last-time)),
+      read-only 1 k refl,
+    )
+      where
+        last-time : timeIn (stamp (lastOf (recordsOf p b))) ≡ time (lastOf (recordsOf p b))
+        last-time =
+            last-all (λ (x : List ℕ). timeIn (stamp x) ≡ time x) b (recordLength p)
+            (λ at l. time-in (part b at (recordLength p)) (omega (arith, length-part b at (recordLength p) l, record-length p)) (octets-part b at (recordLength p) ob))
+            time-none (countOf b) 11 (good .fill .inside)
+
+    -- RECEIVE_READ_LATEST
+    pub latest-acts : kindOf f ≡ 5 → Sends p f y y₂ (RECEIVE-READ-LATEST (history p b)) × (b₂ ≡ b)
+    unfolding replyTo
+    latest-acts k = (
+      record { body = lastOf (recordsOf p b); sent = rw k at bytes; is = latest-of p (recordsOf p b) (good .fill .rise) (good .fill .times) },
+      read-only 5 k refl,
+    )
+
+    -- RECEIVE_READ_PREVIOUS
+    pub previous-acts : kindOf f ≡ 6 → Sends p f y y₂ (RECEIVE-READ-PREVIOUS (history p b) (stamp (bodyOf f))) × (b₂ ≡ b)
+    unfolding replyTo zeroTime timeZero
+    previous-acts k = (
+      record {
+        body = lastBelow (stamp (bodyOf f)) (recordsOf p b);
+        sent = rw k at bytes;
+        is = previous-of p (recordsOf p b) (good .fill .rise) (good .fill .times) (stamp (bodyOf f)) (stamp-low (bodyOf f) low);
+      },
+      read-only 6 k refl,
+    )
+      where
+        low : 1 ≤ time (bodyOf f)
+        low =
+            let z : eqb (time (bodyOf f)) 0 ≡ false = rw k at (clear .time) in
+            order.strict 0 (time (bodyOf f)) (omega arith) (λ e. eqb-false (time (bodyOf f)) 0 z (sym e))
+
+    -- RECEIVE_WRITE_REQUEST
+    pub write-acts : kindOf f ≡ 3 → Executes p f b y b₂ y₂
+    unfolding replyTo RECEIVE-WRITE-REQUEST
+    write-acts k =
+        let w : writes f ≡ true = eq-eqb (kindOf f) 3 k in
+        let v : VALIDATE (family p) (nodeOf b) (tripleOf p (bodyOf f)) ≡ true = not-false _ (validates (clear .request) k ∙ clear .hash) in
+        let e : recordsOf p b₂ ≡ kept (bodyOf f) (recordsOf p b) =
+        ap (λ (x : List ℕ). recordsOf p x) (ap (λ (o : Outcome). o .book) (c .is)) ∙ one.is-records (keeps.executed p f b y (clear .good) ob clear w) in
+        let q = keeps.call-keeps p f b y (clear .good) ob (Replied n) b₂ y₂ c in
+        let h = keeps.call-stores p f b y (clear .good) ob n b₂ y₂ c w in
+        record {
+          valid = rw v;
+          set = rw v (with-record p (bodyOf f) (recordsOf p b) (recordsOf p b₂) h (q .keeps)
+              (λ z m. kept-only p (bodyOf f) z (recordsOf p b) (subst (Among z) e m)));
+          sent = rw k at bytes;
+        }
+
+  -- a refused request: no message is sent, and the History stays
+  pub refused-acts : (r : Refusal) (b₂ y₂ : List ℕ) → NodeCall p f b y (Refused r) b₂ y₂ → (history p b₂ ≡ history p b) × (y₂ ≡ y)
+  refused-acts r b₂ y₂ c =
+      let q = calls.refused-is p f b y r b₂ y₂ c in
+      (ap (history p) (q .1), q .2)
+
+  -- a write request that VALIDATE turns away is refused
+  pub invalid-acts : goodRequest p (nodeOf b) f ≡ true → kindOf f ≡ 3 → VALIDATE (family p) (nodeOf b) (tripleOf p (bodyOf f)) ≡ false
+      → (n : ℕ) (b₂ y₂ : List ℕ) → NodeCall p f b y (Replied n) b₂ y₂ → ⊥
+  invalid-acts r k v n b₂ y₂ c =
+      let q = calls.clear p f b y (calls.replied-is p f b y n b₂ y₂ c .0) in
+      clash (sym (ap not v) ∙ validates r k ∙ q .hash)
+
+  -- one that it lets through is executed, where none of the conditions that document 01 adds stands against it: 1 to 4 of plan, lengths, book and
+  -- frame; 5, a time of 0; 7, other bytes held at this timestamp; 8, no room
+  pub record Added : Type 0 where
+    pub plan : planOk p ≡ true
+    pub lengths : lengthsOk p (length b) (length y) ≡ true
+    pub book : goodBook p b ≡ true
+    pub request : goodRequest p (nodeOf b) f ≡ true
+    pub time : zeroTime f ≡ false
+    pub other : otherHeld p f b ≡ false
+    pub room : noRoom p f b ≡ false
+
+  pub valid-acts : Added → kindOf f ≡ 3 → VALIDATE (family p) (nodeOf b) (tripleOf p (bodyOf f)) ≡ true
+      → (a : Answer) (b₂ y₂ : List ℕ) → NodeCall p f b y a b₂ y₂ → outcome (said a) b₂ y₂ ≡ answered p f b y
+  unfolding served
+  valid-acts h k v a b₂ y₂ c =
+      c .is
+      ∙ one.first-none (nodeLadder p f b y) (λ (j : ℕ). outcome (refused j) b y) (answered p f b y)
+      (ap not (h .plan), (ap not (h .lengths), (ap not (h .book), (ap not (h .request), (h .time, (sym (validates (h .request) k) ∙ ap not v, (h .other, (h .room, tt))))))))
+
+-- ---- a fresh book is INITIALIZE
+module _ (p : Plan) (node : ℕ) (b b₂ : List ℕ) (c : FreshCall p node b Fresh b₂) where
+  abbrev refuse : ℕ → FreshOutcome
+  refuse k = freshOutcome (fresh.refused k) b
+
+  abbrev done : FreshOutcome
+  done = freshOutcome made (over (laidOut p node []) b)
+
+  empty : recordsOf p b₂ ≡ []
+  unfolding freshened timed rising
+  empty = go (first (freshLadder p node b) rungs.refused rungs.passes) refl (c .is ∙ rungs.first-read (freshLadder p node b) refuse done)
+    where
+      go : (v : rungs.Verdict) → first (freshLadder p node b) rungs.refused rungs.passes ≡ v → freshOutcome made b₂ ≡ rungs.read v refuse done → recordsOf p b₂ ≡ []
+      go (rungs.refused k) e h =
+          absurd (let s : made ≡ fresh.refused k = ap (λ (o : FreshOutcome). o .answer) h in let z : _≡_ {A = ℕ} 0 1 = cc in omega arith)
+      go rungs.passes e h =
+          let n = rungs.passes-is (freshLadder p node b) e in
+          let l = both (leb 11 (length b)) (leb (length b) 65536) (not-false _ (n .1 .0)) in
+          let low : 11 ≤ length b = leb-true _ _ (l .0) in
+          let i : one.Laid p node b b₂ [] = record {
+            plan = not-false _ (n .0);
+            low = ltb-true _ _ (not-false _ (n .1 .1 .0));
+            high = leb-true _ _ (l .1);
+            bytes = ap (λ (o : FreshOutcome). o .book) h;
+            sizes = tt;
+            times = refl;
+            rise = refl;
+            fits = omega arith;
+          } in
+          one.is-records i
+
+  pub fresh-acts : history p b₂ ≡ INITIALIZE
+  unfolding each
+  fresh-acts = ap (λ (rs : List (List ℕ)). initial ∷ each (tripleOf p) rs) empty

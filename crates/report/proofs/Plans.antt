@@ -1,0 +1,62 @@
+-- Table 2 and equations (2) and (3): a plan is accepted exactly when it is within document 01's ranges and Table 2 holds of it
+-- (accepted-is, accepted-back), and the two thresholds are the report's (equation-2, equation-3). Assumes nothing.
+use Prim.Native.Nat.{ℕ, _+_, _-_, _*_, _≤_, _<_}
+use mathlib.Core.Path.{_≡_, sym}
+use mathlib.Core.Bool.{true}
+use native.Mathlib.Omega.{arith}
+use Rattle.terms.specs.Terms.{planOk, tableOk, complete, incomplete}
+use Rattle.terms.specs.declared.Plan.{Plan}
+use Rattle.terms.specs.declared.Member.{Member}
+use Rattle.terms.specs.declared.Member.the-variants.{Repairable, NonRepair}
+use Rattle.terms.proofs.Plans.{Column, column-back, plan-is, plan-last}
+use Rattle.terms.proofs.Facts.{facts}
+use Rattle.report.specs.Table2.{Table2, surely-complete, surely-incomplete}
+
+-- what document 01 adds to the table: N up to 16, b ≤ t, and the ranges of F and W
+pub record Ranges (p : Plan) : Type 0 where
+  pub n-low : 1 ≤ p .n
+  pub n-high : p .n ≤ 16
+  pub b-t : p .b ≤ p .t
+  pub f-low : 1 ≤ p .f
+  pub f-high : p .f ≤ 1024
+  pub w-low : 1 ≤ p .w
+  pub w-high : p .w ≤ 65535
+
+table : (k : Member) (n t b q m : ℕ) → Column k n t b q m → Table2 k n t b q m
+table Repairable n t b q m c =
+    record { row-N = omega arith; row-Q-low = omega arith; row-Q-high = omega arith; row-m-low = omega arith; row-m-high = omega arith }
+table NonRepair n t b q m c =
+    record { row-N = omega arith; row-Q-low = omega arith; row-Q-high = omega arith; row-m-low = omega arith; row-m-high = omega arith }
+
+column : (k : Member) (n t b q m : ℕ) → Table2 k n t b q m → Column k n t b q m
+column Repairable n t b q m c = (omega arith, omega arith, omega arith, omega arith)
+column NonRepair n t b q m c = (omega arith, omega arith, omega arith, omega arith)
+
+abbrev pub Table2-of : Plan → Type 0
+Table2-of p = Table2 (p .member) (p .n) (p .t) (p .b) (p .q) (p .m)
+
+-- AN ACCEPTED PLAN IS WITHIN ITS RANGES, AND TABLE 2 HOLDS OF IT
+pub accepted-is : (p : Plan) → planOk p ≡ true → Ranges p × Table2-of p
+accepted-is p e =
+    let q = plan-is p e in
+    (
+      record { n-low = q .n-low; n-high = q .n-high; b-t = q .b-t; f-low = q .f-low; f-high = q .f-high; w-low = q .w-low; w-high = q .w-high },
+      table (p .member) (p .n) (p .t) (p .b) (p .q) (p .m) (q .column),
+    )
+
+-- AND EVERY SUCH PLAN IS ACCEPTED
+pub accepted-back : (p : Plan) → Ranges p → Table2-of p → planOk p ≡ true
+unfolding tableOk
+accepted-back p r c =
+    sym (plan-last p true (r .n-low) (r .n-high) (r .b-t) (r .f-low) (r .f-high) (r .w-low) (r .w-high)
+    (sym (column-back (p .member) (p .n) (p .t) (p .b) (p .q) (p .m) (column (p .member) (p .n) (p .t) (p .b) (p .q) (p .m) c))))
+
+-- EQUATION (2): a candidate set of COMPLETE or more has |CandidateSet| - b ≥ Q, and no other has
+pub equation-2 : (p : Plan) → planOk p ≡ true → (size : ℕ)
+    → (complete p ≤ size → surely-complete (p .q) (p .b) size) × (surely-complete (p .q) (p .b) size → complete p ≤ size)
+equation-2 p e size = let f = facts p e in ((λ h. omega arith), (λ h. omega arith))
+
+-- EQUATION (3): one below INCOMPLETE has |CandidateSet| + t < Q, and no other has
+pub equation-3 : (p : Plan) → planOk p ≡ true → (size : ℕ)
+    → (size < incomplete p → surely-incomplete (p .q) (p .t) size) × (surely-incomplete (p .q) (p .t) size → size < incomplete p)
+equation-3 p e size = let f = facts p e in ((λ h. omega arith), (λ h. omega arith))

@@ -1,0 +1,102 @@
+-- A record as a triple: its bytes, the first triple, its timestamp's parts, its validation. Assumes nothing.
+use Prim.{tt}
+use Prim.Native.Nat.{ℕ, zero, suc, _+_, _*_, _^_, _≤_, _<_}
+use mathlib.Core.Path.{_≡_, refl, ap, _∙_}
+use mathlib.Core.Bool.{Bool, true, false, cond, not}
+use mathlib.Core.List.{List, [], _∷_, _++_}
+use native.Mathlib.Nat.{mul-le-mul-right, one-le-pow}
+use native.Mathlib.Omega.{arith}
+use lib.Dec.{lit<}
+use lib.ListN.{length, take, drop}
+use lib.Seq.{take-nil, drop-nil, take-take, getD-drop}
+use Rattle.octets.specs.Bytes.{part, put, num, numFrom, be, beOnto, alike, Octets}
+use Rattle.octets.proofs.Laws.{length-part, part-part}
+use Rattle.octets.proofs.Meaning.{Bytes, bytes-part, bytes-all, num-append, part-add, be-part}
+use Rattle.sha256.specs.Sha256.{sha256}
+use Rattle.terms.specs.Ladder.{_and_, _or_}
+use Rattle.terms.specs.Stamp.{stamp, time}
+use Rattle.terms.specs.declared.Plan.{Plan}
+use Rattle.frame.proofs.Frames.{body-is}
+use Rattle.record.specs.Record.{crossOf, fragmentOf, verifierOf, entryOf, fragmentHash, hashesOk}
+use Rattle.report.specs.Figure1.{initial, VALIDATE}
+use Rattle.report.specs.Ours.{family, tripleOf, timeIn, verifierIn}
+
+-- ---- a part of bytes is bytes
+bytes-octets : (l : List ℕ) → Bytes l → Octets l
+bytes-octets [] b i = lit< tt
+bytes-octets (x ∷ l) b zero = b .0
+bytes-octets (x ∷ l) b (suc i) = bytes-octets l (b .1) i
+
+pub octets-part : (l : List ℕ) (at n : ℕ) → Octets l → Octets (part l at n)
+octets-part l at n o = bytes-octets (part l at n) (bytes-part l at n (bytes-all l o))
+
+pub octets-drop : (l : List ℕ) (at : ℕ) → Octets l → Octets (drop at l)
+octets-drop l at o i = rw getD-drop (o (at + i))
+
+octets-take : (n : ℕ) (l : List ℕ) → Octets l → Octets (take n l)
+octets-take zero l o i = lit< tt
+octets-take (suc n) [] o i = lit< tt
+octets-take (suc n) (x ∷ l) o zero = o 0
+octets-take (suc n) (x ∷ l) o (suc i) = octets-take n l (λ j. o (suc j)) i
+
+octets-append : (l m : List ℕ) → Octets l → Octets m → Octets (l ++ m)
+octets-append [] m o q i = q i
+octets-append (x ∷ l) m o q zero = o 0
+octets-append (x ∷ l) m o q (suc i) = octets-append l m (λ j. o (suc j)) q i
+
+pub octets-put : (l : List ℕ) (at : ℕ) (x : List ℕ) → Octets l → Octets x → Octets (put l at x)
+unfolding put
+octets-put l at x o q =
+    octets-append (take at l) (x ++ drop (at + length x) l) (octets-take at l o) (octets-append x (drop (at + length x) l) q (octets-drop l (at + length x) o))
+
+-- ---- the first triple is the record of no bytes
+part-none : (at n : ℕ) → part [] at n ≡ []
+unfolding part
+part-none at n = ap (take n) (drop-nil at) ∙ take-nil n
+
+pub stamp-none : stamp [] ≡ 0
+unfolding num numFrom
+stamp-none = ap num (part-none 0 40)
+
+pub none-is : (p : Plan) → tripleOf p [] ≡ initial
+none-is p = λ i. record { ts = stamp-none i; D = part-none (40 + 32 * p .n) (p .f) i; CC = part-none 40 (32 * p .n) i }
+
+-- ---- a record's timestamp
+-- a time of 1 or more makes a timestamp of 1 or more
+pub stamp-low : (x : List ℕ) → 1 ≤ time x → 1 ≤ stamp x
+stamp-low x h =
+    let q : List ℕ = part x 8 32 in
+    let e : stamp x ≡ time x * 256 ^ length q + num q = ap num (part-add x 0 8 32) ∙ num-append (part x 0 8) q in
+    let k : 1 ≤ 256 ^ length q = one-le-pow (length q) 256 (omega arith) in
+    let m : 1 * 256 ^ length q ≤ time x * 256 ^ length q = mul-le-mul-right (256 ^ length q) h in
+    omega (arith, e, k, m)
+
+module _ (x : List ℕ) (l : 40 ≤ length x) (o : Octets x) where
+  pub bytes-back : be 40 (stamp x) ≡ part x 0 40
+  bytes-back = be-part x 0 40 (omega arith) o
+
+  pub time-in : timeIn (stamp x) ≡ time x
+  unfolding timeIn part
+  time-in = ap (λ (z : List ℕ). num (take 8 z)) bytes-back ∙ ap num (take-take 8 40 (drop 0 x) (omega arith))
+
+  pub verifier-in : verifierIn (stamp x) ≡ verifierOf x
+  unfolding verifierIn
+  verifier-in =
+      ap (drop 8) bytes-back ∙ body-is 8 (part x 0 40) 32 (length-part x 0 40 (omega arith)) ∙ part-part x 0 40 8 32 (omega arith)
+
+pub time-none : timeIn (stamp []) ≡ time []
+unfolding timeIn be beOnto num numFrom part
+time-none = refl
+
+-- ---- VALIDATE is the two hash checks
+pub validate-is : (p : Plan) (S : ℕ) (x : List ℕ) → 40 ≤ length x → Octets x → VALIDATE (family p) S (tripleOf p x) ≡ hashesOk p S x
+unfolding VALIDATE hashesOk fragmentHash
+validate-is p S x l o =
+    ap (λ (v : List ℕ). cond (not (alike (sha256 (crossOf p x)) v) or not (alike (sha256 (fragmentOf p x)) (entryOf S (crossOf p x)))) false true)
+    (verifier-in x l o)
+    ∙ go (alike (sha256 (crossOf p x)) (verifierOf x)) (alike (sha256 (fragmentOf p x)) (entryOf S (crossOf p x)))
+  where
+    go : (a b : Bool) → cond (not a or not b) false true ≡ (a and b)
+    go true true = refl
+    go true false = refl
+    go false b = refl

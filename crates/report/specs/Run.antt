@@ -1,0 +1,153 @@
+-- Whole reads and writes of ours, from opening: calls one after another, each on the session and the desk that the one before it handed back,
+-- and what the figures are given from them.
+--   Answered             a call: the frame and the item lent, and what it left
+--   Reads closing closedOver     the calls of a read; the response sets of its closed rounds, the last one first
+--   Tells EachTells      what an answer says, and that Figure 3's READ says it of the rounds closed so far; the same of each call of a run
+--   Apart AllApart       (01) no two cross checksums of a response set share a hash; so of each closed set
+--   Writes timing        the calls of a write; the times of its time round and the item
+--   Wrote EachWrites     what an answer says, and that Figure 2's WRITE says it; what is sent in a write round; so of each call of a run
+-- Assumes nothing.
+use Prim.{Unit}
+use Prim.Native.Nat.{ℕ, _*_}
+use mathlib.Core.Path.{_≡_}
+use mathlib.Core.Logic.{_⊎_}
+use mathlib.Core.Bool.{cond}
+use mathlib.Core.List.{List, [], _∷_}
+use lib.ListN.{length}
+use lib.Dec.{ltb}
+use Rattle.octets.specs.Bytes.{put, Octets}
+use Rattle.sha256.specs.Sha256.{sha256}
+use Rattle.terms.specs.Ladder.{first}
+use Rattle.terms.specs.Stamp.{time, stampNumber}
+use Rattle.terms.specs.Terms.{recordLength}
+use Rattle.terms.specs.declared.Plan.{Plan}
+use Rattle.frame.specs.Frame.{frameNode, bodyOf}
+use Rattle.rounds.specs.declared.Heard.the-variants.{First, Record}
+use Rattle.rounds.specs.Rounds.{heardCount}
+use Rattle.session.specs.declared.Session.{Session}
+use Rattle.session.specs.declared.Took.{Took}
+use Rattle.session.specs.declared.Stage.the-variants.{Storing}
+use Rattle.session.specs.declared.Operation.the-variants.{Write, Read}
+use Rattle.session.specs.Session.{isStoring, replies, markedOf, Said, refused, stillOpen, done, neverWritten, aborted, roundsSpent, clockSpent, saidOf}
+use Rattle.session.specs.Reply.{bears, replyLadder, recordLadder}
+use Rattle.session.specs.Reader.{ReadReplyCall}
+use Rattle.session.specs.Writer.{WriteReplyCall}
+use Rattle.report.specs.Triple.{Message, null, In, MAX}
+use Rattle.report.specs.Figure2.{enough, ts-written, WRITE}
+use Rattle.report.specs.Figure3.{READ-PREVIOUS, returned, repaired, ABORT, reading, READ}
+use Rattle.report.specs.Ours.{family, responses, sending}
+
+pub record Answered : Type 0 where
+  pub frame : List ℕ
+  pub item : List ℕ
+  pub took : Took
+  pub desk : List ℕ
+  pub left : List ℕ
+
+-- ---- reading
+-- each call met its contract; a frame is bytes
+abbrev pub Reads : Plan → Session → List ℕ → List Answered → Type 0
+Reads p s d [] = Unit {0}
+Reads p s d (c ∷ cs) =
+    Octets (c .frame) × ReadReplyCall p s (c .frame) d (c .item) (c .took) (c .desk) (c .left) × Reads p (c .took .session) (c .desk) cs
+
+-- a round that has N-t replies is closed
+abbrev pub closedBy : Plan → Session → List ℕ → List (List Message) → List (List Message)
+closedBy p s d before = cond (ltb (heardCount (s .marks)) (replies p)) before (responses p (s .marks) d (p .n) ∷ before)
+
+-- the closed rounds after a reply: a refused one, and one of a repair round, closes none
+unfoldable pub closing : Plan → Session → List ℕ → List ℕ → ℕ → List (List Message) → List (List Message)
+closing p s f d item before =
+    first (replyLadder Read p s f d item) (λ (k : ℕ). before)
+    (first (recordLadder p s f) (λ (k : ℕ). before)
+    (cond (isStoring (s .stage)) before
+    (cond (bears p f) (closedBy p (markedOf s (frameNode f) Record) (put d (frameNode f * recordLength p) (bodyOf f)) before)
+    (closedBy p (markedOf s (frameNode f) First) d before))))
+
+abbrev pub closedOver : Plan → Session → List ℕ → List (List Message) → List Answered → List (List Message)
+closedOver p s d before [] = before
+closedOver p s d before (c ∷ cs) =
+    closedOver p (c .took .session) (c .desk) (closing p s (c .frame) d (length (c .item)) before) cs
+
+-- done with a timestamp and the item that was left; or done by repair, once DO_WRITE has its N-t responses
+pub record RepairedTo (p : Plan) (closed : List (List Message)) (ts : ℕ) (item : List ℕ) : Type 0 where
+  pub sent : List Message
+  pub is : READ (family p) closed ≡ repaired sent ts item
+
+-- (01) cut: line 24 of round W sends nothing more
+pub record Spent (p : Plan) (closed : List (List Message)) (rounds : ℕ) : Type 0 where
+  pub ts : ℕ
+  pub is : READ (family p) closed ≡ reading (READ-PREVIOUS ts)
+  pub cut : rounds ≡ p .w
+
+-- an answer, the item that was left, and the rounds closed so far; the rounds reported are their number
+abbrev pub Tells : Plan → Said → List ℕ → List (List Message) → Type 0
+Tells p (refused k) item closed = Unit {0}
+Tells p stillOpen item closed = Unit {0}
+Tells p (done ts rounds) item closed = ((READ (family p) closed ≡ returned ts item) ⊎ RepairedTo p closed ts item) × (rounds ≡ length closed)
+Tells p (neverWritten rounds) item closed = (READ (family p) closed ≡ returned 0 null) × (rounds ≡ length closed)
+Tells p (aborted rounds) item closed = (READ (family p) closed ≡ ABORT) × (rounds ≡ length closed)
+Tells p (roundsSpent rounds) item closed = Spent p closed rounds × (rounds ≡ length closed)
+Tells p clockSpent item closed = ⊥
+
+-- in a repair round: READ is at line 15, and the desk holds what DO_WRITE sends
+pub record Repairing (p : Plan) (s : Session) (d : List ℕ) (closed : List (List Message)) : Type 0 where
+  pub Data : List ℕ
+  pub is : READ (family p) closed ≡ repaired (sending p d) (stampNumber (s .stamp)) Data
+
+abbrev pub EachTells : Plan → Session → List ℕ → List (List Message) → List Answered → Type 0
+EachTells p s d before [] = Unit {0}
+EachTells p s d before (c ∷ cs) =
+    Tells p (saidOf (c .took .answer)) (c .left) (closing p s (c .frame) d (length (c .item)) before)
+    × (c .took .session .stage ≡ Storing → Repairing p (c .took .session) (c .desk) (closing p s (c .frame) d (length (c .item)) before))
+    × EachTells p (c .took .session) (c .desk) (closing p s (c .frame) d (length (c .item)) before) cs
+
+-- of these strings, no two with one hash
+abbrev pub Apart : List Message → Type 0
+Apart set = (x y : Message) → In x set → In y set → sha256 (x .Response .CC) ≡ sha256 (y .Response .CC) → x .Response .CC ≡ y .Response .CC
+
+abbrev pub AllApart : List (List Message) → Type 0
+AllApart [] = Unit {0}
+AllApart (set ∷ sets) = Apart set × AllApart sets
+
+-- ---- writing
+abbrev pub Writes : Plan → Session → List ℕ → List Answered → Type 0
+Writes p s d [] = Unit {0}
+Writes p s d (c ∷ cs) =
+    Octets (c .frame) × WriteReplyCall p s (c .frame) d (c .item) (c .took) (c .desk) × Writes p (c .took .session) (c .desk) cs
+
+-- the times of the time replies that were accepted, the last one first, and the item that was lent with it
+pub record Timed : Type 0 where
+  pub Times : List ℕ
+  pub Data : List ℕ
+
+abbrev pub untimed : Timed
+untimed = record { Times = []; Data = null }
+
+unfoldable pub timing : Plan → Session → List ℕ → List ℕ → List ℕ → Timed → Timed
+timing p s f d item before =
+    first (replyLadder Write p s f d (length item)) (λ (k : ℕ). before)
+    (cond (isStoring (s .stage)) before (record { Times = time (bodyOf f) ∷ before .Times; Data = item }))
+
+-- done is WRITE's timestamp; clock spent (01) is a greatest time of 2^64-1, whose next time has no 8 bytes; a write has no other ending
+abbrev pub Wrote : Plan → Said → Timed → Type 0
+Wrote p (refused k) w = Unit {0}
+Wrote p stillOpen w = Unit {0}
+Wrote p (done ts rounds) w = ts ≡ ts-written (family p) (w .Data) (w .Times)
+Wrote p (neverWritten rounds) w = ⊥
+Wrote p (aborted rounds) w = ⊥
+Wrote p (roundsSpent rounds) w = ⊥
+Wrote p clockSpent w = MAX (w .Times) ≡ 18446744073709551615
+
+-- in a write round: the time round had N-t replies, and the desk holds what DO_WRITE sends
+pub record Sending (p : Plan) (s : Session) (d : List ℕ) (w : Timed) : Type 0 where
+  pub times : length (w .Times) ≡ enough (family p)
+  pub stamp : stampNumber (s .stamp) ≡ ts-written (family p) (w .Data) (w .Times)
+  pub sends : sending p d ≡ WRITE (family p) (w .Data) (w .Times)
+
+abbrev pub EachWrites : Plan → Session → List ℕ → Timed → List Answered → Type 0
+EachWrites p s d before [] = Unit {0}
+EachWrites p s d before (c ∷ cs) =
+    Wrote p (saidOf (c .took .answer)) (timing p s (c .frame) d (c .item) before)
+    × (c .took .session .stage ≡ Storing → Sending p (c .took .session) (c .desk) (timing p s (c .frame) d (c .item) before))
+    × EachWrites p (c .took .session) (c .desk) (timing p s (c .frame) d (c .item) before) cs

@@ -44,6 +44,7 @@ use Rattle.demands.proofs.Order as order
 use Rattle.demands.proofs.One as one
 use Rattle.demands.proofs.Node as calls
 use Rattle.demands.proofs.Kept as keeps
+use Rattle.demands.proofs.Ladders as ladders
 use Rattle.report.specs.Triple.{Triple, each, In, Same}
 use Rattle.report.specs.Figure1.{initial, INITIALIZE, RECEIVE-TIME-REQUEST, VALIDATE, with-it, RECEIVE-WRITE-REQUEST, RECEIVE-READ-LATEST, RECEIVE-READ-PREVIOUS}
 use Rattle.report.specs.Ours.{family, tripleOf, history, timeIn}
@@ -236,7 +237,7 @@ module _ (p : Plan) (f b y : List ℕ) (ob : Octets b) (of : Octets f) where
   unfolding served
   valid-acts h k v a b₂ y₂ c =
       c .is
-      ∙ one.first-none (nodeLadder p f b y) (λ (j : ℕ). outcome (refused j) b y) (answered p f b y)
+      ∙ ladders.is-passed (nodeLadder p f b y) (λ (j : ℕ). outcome (refused j) b y) (answered p f b y)
       (ap not (h .plan), (ap not (h .lengths), (ap not (h .book), (ap not (h .request), (h .time, (sym (validates (h .request) k) ∙ ap not v, (h .other, (h .room, tt))))))))
 
 -- ---- a fresh book is INITIALIZE
@@ -249,13 +250,10 @@ module _ (p : Plan) (node : ℕ) (b b₂ : List ℕ) (c : FreshCall p node b Fre
 
   empty : recordsOf p b₂ ≡ []
   unfolding freshened timed rising
-  empty = go (first (freshLadder p node b) rungs.refused rungs.passes) refl (c .is ∙ rungs.first-read (freshLadder p node b) refuse done)
-    where
-      go : (v : rungs.Verdict) → first (freshLadder p node b) rungs.refused rungs.passes ≡ v → freshOutcome made b₂ ≡ rungs.read v refuse done → recordsOf p b₂ ≡ []
-      go (rungs.refused k) e h =
-          absurd (let s : made ≡ fresh.refused k = ap (λ (o : FreshOutcome). o .answer) h in let z : _≡_ {A = ℕ} 0 1 = cc in omega arith)
-      go rungs.passes e h =
-          let n = rungs.passes-is (freshLadder p node b) e in
+  empty =
+      ladders.by-ladder (λ (o : FreshOutcome). freshOutcome made b₂ ≡ o → recordsOf p b₂ ≡ []) (freshLadder p node b) refuse done
+      (λ k g h. absurd (let s : made ≡ fresh.refused k = ap (λ (o : FreshOutcome). o .answer) h in let z : _≡_ {A = ℕ} 0 1 = cc in omega arith))
+      (λ n h.
           let l = both (leb 11 (length b)) (leb (length b) 65536) (not-false _ (n .1 .0)) in
           let low : 11 ≤ length b = leb-true _ _ (l .0) in
           let i : one.Laid p node b b₂ [] = record {
@@ -268,7 +266,8 @@ module _ (p : Plan) (node : ℕ) (b b₂ : List ℕ) (c : FreshCall p node b Fre
             rise = refl;
             fits = omega arith;
           } in
-          one.is-records i
+          one.is-records i)
+      (c .is)
 
   pub fresh-acts : history p b₂ ≡ INITIALIZE
   unfolding each

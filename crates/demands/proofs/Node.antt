@@ -7,7 +7,7 @@ use native.Mathlib.Omega.{arith}
 use lib.ListN.{length}
 use borrow.Author.Tests.{not-false}
 use Rattle.octets.specs.Bytes.{over}
-use Rattle.terms.specs.Ladder.{Rung, on, first}
+use Rattle.terms.specs.Ladder.{on, first}
 use Rattle.terms.specs.Terms.{planOk, recordLength, refusalNumber}
 use Rattle.terms.specs.declared.Plan.{Plan}
 use Rattle.terms.specs.declared.Member.the-variants.{Repairable}
@@ -25,6 +25,7 @@ use Rattle.node.specs.declared.Made.the-variants as make
 use Rattle.node.specs.Node.{NodeCall, served, answered, replies, bookAfter, said, Said, refused, replied, Outcome, outcome, nodeLadder, lengthsOk, zeroTime, hashFails, otherHeld, noRoom}
 use Rattle.node.specs.Fresh.{FreshCall, FreshOutcome, made, freshOutcome, saidMade, freshened, freshLadder}
 use Rattle.node.specs.Fresh as fresh
+use Rattle.demands.proofs.Ladders as ladders
 
 -- ---- the paper's terms determine the answer
 pub said-one : (a b : Answer) → said a ≡ said b → a ≡ b
@@ -60,13 +61,7 @@ module _ (p : Plan) (f b y : List ℕ) where
   abbrev refuse : ℕ → Outcome
   refuse k = outcome (refused k) b y
 
-  verdict : rungs.Verdict
-  verdict = first (nodeLadder p f b y) rungs.refused rungs.passes
-
-  by-verdict : served p f b y ≡ rungs.read verdict refuse (answered p f b y)
-  unfolding served verdict
-  by-verdict = rungs.first-read (nodeLadder p f b y) refuse (answered p f b y)
-
+  -- what a call answers where nothing refuses is a reply
   abbrev IsReply : Said → Type 0
   IsReply (refused k) = ⊥
   IsReply (replied n) = _≡_ {A = ℕ} 0 0
@@ -78,36 +73,32 @@ module _ (p : Plan) (f b y : List ℕ) where
   -- A call that answers refusal k changes no byte of the book or the reply buffer; its condition holds, and none before it in the order 1 to 8.
   pub refused-is : (r : Refusal) (b₂ y₂ : List ℕ) → NodeCall p f b y (Refused r) b₂ y₂
       → rungs.Given (nodeLadder p f b y) (refusalNumber r) × (b₂ ≡ b) × (y₂ ≡ y)
-  unfolding verdict
-  refused-is r b₂ y₂ c = go verdict refl (c .is ∙ by-verdict)
-    where
-      go : (v : rungs.Verdict) → verdict ≡ v → outcome (refused (refusalNumber r)) b₂ y₂ ≡ rungs.read v refuse (answered p f b y)
-          → rungs.Given (nodeLadder p f b y) (refusalNumber r) × (b₂ ≡ b) × (y₂ ≡ y)
-      go (rungs.refused k) e h =
-          let s : refused (refusalNumber r) ≡ refused k = ap (λ (o : Outcome). o .answer) h in
-          let n : k ≡ refusalNumber r = cc in
-          (rungs.given (nodeLadder p f b y) (refusalNumber r) (e ∙ ap rungs.refused n), ap (λ (o : Outcome). o .book) h, ap (λ (o : Outcome). o .reply) h)
-      go rungs.passes e h = absurd (subst IsReply (sym (ap (λ (o : Outcome). o .answer) h)) replies-so)
+  unfolding served
+  refused-is r b₂ y₂ c =
+      ladders.by-ladder
+      (λ (o : Outcome). outcome (refused (refusalNumber r)) b₂ y₂ ≡ o → rungs.Given (nodeLadder p f b y) (refusalNumber r) × (b₂ ≡ b) × (y₂ ≡ y))
+      (nodeLadder p f b y) refuse (answered p f b y)
+      (λ k g h. let s : refused (refusalNumber r) ≡ refused k = ap (λ (o : Outcome). o .answer) h in
+      let n : k ≡ refusalNumber r = cc in
+      (subst (rungs.Given (nodeLadder p f b y)) n g, ap (λ (o : Outcome). o .book) h, ap (λ (o : Outcome). o .reply) h))
+      (λ n h. absurd (subst IsReply (sym (ap (λ (o : Outcome). o .answer) h)) replies-so))
+      (c .is)
 
   -- And so it answers wherever its condition holds and none before it.
   pub is-refused : (r : Refusal) → rungs.Given (nodeLadder p f b y) (refusalNumber r) → NodeCall p f b y (Refused r) b y
-  unfolding verdict
-  is-refused r g = record {
-    is = sym (by-verdict ∙ ap (λ (v : rungs.Verdict). rungs.read v refuse (answered p f b y))
-        (ap (λ (l : List Rung). first l rungs.refused rungs.passes) (g .is) ∙ rungs.given-back (g .before) (g .after) (refusalNumber r) (g .none)));
-  }
+  unfolding served
+  is-refused r g = record { is = sym (ladders.is-given (nodeLadder p f b y) refuse (answered p f b y) (refusalNumber r) g) }
 
   -- A call that writes a reply meets none of the eight conditions, and does what the document says for its kind.
   pub replied-is : (n : ℕ) (b₂ y₂ : List ℕ) → NodeCall p f b y (Replied n) b₂ y₂
       → rungs.None (nodeLadder p f b y) × (outcome (replied n) b₂ y₂ ≡ answered p f b y)
-  unfolding verdict
-  replied-is n b₂ y₂ c = go verdict refl (c .is ∙ by-verdict)
-    where
-      go : (v : rungs.Verdict) → verdict ≡ v → outcome (replied n) b₂ y₂ ≡ rungs.read v refuse (answered p f b y)
-          → rungs.None (nodeLadder p f b y) × (outcome (replied n) b₂ y₂ ≡ answered p f b y)
-      go (rungs.refused k) e h =
-          absurd (let s : replied n ≡ refused k = ap (λ (o : Outcome). o .answer) h in let z : _≡_ {A = ℕ} 0 1 = cc in omega arith)
-      go rungs.passes e h = (rungs.passes-is (nodeLadder p f b y) e, h)
+  unfolding served
+  replied-is n b₂ y₂ c =
+      ladders.by-ladder (λ (o : Outcome). outcome (replied n) b₂ y₂ ≡ o → rungs.None (nodeLadder p f b y) × (outcome (replied n) b₂ y₂ ≡ answered p f b y))
+      (nodeLadder p f b y) refuse (answered p f b y)
+      (λ k g h. absurd (let s : replied n ≡ refused k = ap (λ (o : Outcome). o .answer) h in let z : _≡_ {A = ℕ} 0 1 = cc in omega arith))
+      (λ m h. (m, h))
+      (c .is)
 
 -- a request that none of the eight conditions meets, each by its name
 pub record Clear (p : Plan) (f b y : List ℕ) : Type 0 where
@@ -137,36 +128,25 @@ module _ (p : Plan) (node : ℕ) (b : List ℕ) where
   abbrev refuse-fresh : ℕ → FreshOutcome
   refuse-fresh k = freshOutcome (fresh.refused k) b
 
-  verdict-fresh : rungs.Verdict
-  verdict-fresh = first (freshLadder p node b) rungs.refused rungs.passes
-
   abbrev done : FreshOutcome
   done = freshOutcome made (over (laidOut p node []) b)
 
-  by-verdict-fresh : freshened p node b ≡ rungs.read verdict-fresh refuse-fresh done
-  unfolding freshened verdict-fresh
-  by-verdict-fresh = rungs.first-read (freshLadder p node b) refuse-fresh done
-
   pub fresh-refused-is : (r : Refusal) (b₂ : List ℕ) → FreshCall p node b (make.Refused r) b₂
       → rungs.Given (freshLadder p node b) (refusalNumber r) × (b₂ ≡ b)
-  unfolding verdict-fresh
-  fresh-refused-is r b₂ c = go verdict-fresh refl (c .is ∙ by-verdict-fresh)
-    where
-      go : (v : rungs.Verdict) → verdict-fresh ≡ v → freshOutcome (fresh.refused (refusalNumber r)) b₂ ≡ rungs.read v refuse-fresh done
-          → rungs.Given (freshLadder p node b) (refusalNumber r) × (b₂ ≡ b)
-      go (rungs.refused k) e h =
-          let s : fresh.refused (refusalNumber r) ≡ fresh.refused k = ap (λ (o : FreshOutcome). o .answer) h in
-          let n : k ≡ refusalNumber r = cc in
-          (rungs.given (freshLadder p node b) (refusalNumber r) (e ∙ ap rungs.refused n), ap (λ (o : FreshOutcome). o .book) h)
-      go rungs.passes e h =
-          absurd (let s : fresh.refused (refusalNumber r) ≡ made = ap (λ (o : FreshOutcome). o .answer) h in let z : _≡_ {A = ℕ} 0 1 = cc in omega arith)
+  unfolding freshened
+  fresh-refused-is r b₂ c =
+      ladders.by-ladder
+      (λ (o : FreshOutcome). freshOutcome (fresh.refused (refusalNumber r)) b₂ ≡ o → rungs.Given (freshLadder p node b) (refusalNumber r) × (b₂ ≡ b))
+      (freshLadder p node b) refuse-fresh done
+      (λ k g h. let s : fresh.refused (refusalNumber r) ≡ fresh.refused k = ap (λ (o : FreshOutcome). o .answer) h in
+      let n : k ≡ refusalNumber r = cc in
+      (subst (rungs.Given (freshLadder p node b)) n g, ap (λ (o : FreshOutcome). o .book) h))
+      (λ n h. absurd (let s : fresh.refused (refusalNumber r) ≡ made = ap (λ (o : FreshOutcome). o .answer) h in let z : _≡_ {A = ℕ} 0 1 = cc in omega arith))
+      (c .is)
 
   pub fresh-is-refused : (r : Refusal) → rungs.Given (freshLadder p node b) (refusalNumber r) → FreshCall p node b (make.Refused r) b
-  unfolding verdict-fresh
-  fresh-is-refused r g = record {
-    is = sym (by-verdict-fresh ∙ ap (λ (v : rungs.Verdict). rungs.read v refuse-fresh done)
-        (ap (λ (l : List Rung). first l rungs.refused rungs.passes) (g .is) ∙ rungs.given-back (g .before) (g .after) (refusalNumber r) (g .none)));
-  }
+  unfolding freshened
+  fresh-is-refused r g = record { is = sym (ladders.is-given (freshLadder p node b) refuse-fresh done (refusalNumber r) g) }
 
 -- ---- the plan at a node
 -- a plan's N and F, and nothing else of it

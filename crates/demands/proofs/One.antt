@@ -31,23 +31,12 @@ use Rattle.node.proofs.Laws as nodes
 use Rattle.demands.specs.Deliver.{Among, passes}
 use Rattle.demands.proofs.Order as order
 use Rattle.demands.proofs.Node as calls
+use Rattle.demands.proofs.Ladders as ladders
 
 -- ---- ladders
-pub first-none : {A : Type 0} (l : List Rung) (refuse : ℕ → A) (pass : A) → rungs.None l → first l refuse pass ≡ pass
-unfolding first
-first-none [] refuse pass n = refl
-first-none (x ∷ l) refuse pass n = rw (n .0) (first-none l refuse pass (n .1))
-
 pub first-stays : (b y : List ℕ) (pass : Outcome) (l : List Rung) → (rungs.None l → pass .book ≡ b)
     → first l (λ (k : ℕ). outcome (refused k) b y) pass .book ≡ b
-unfolding first
-first-stays b y pass [] h = h tt
-first-stays b y pass (x ∷ l) h = go (x .applies) refl (first-stays b y pass l)
-  where
-    go : (t : Bool) → x .applies ≡ t → ((rungs.None l → pass .book ≡ b) → first l (λ (k : ℕ). outcome (refused k) b y) pass .book ≡ b)
-        → cond t (outcome (refused (x .number)) b y) (first l (λ (k : ℕ). outcome (refused k) b y) pass) .book ≡ b
-    go true e ih = refl
-    go false e ih = ih (λ n. h (e, n))
+first-stays b y pass l h = ladders.by-ladder (λ (o : Outcome). o .book ≡ b) l (λ (k : ℕ). outcome (refused k) b y) pass (λ k g. refl) h
 
 -- ---- a request that passes, as plain facts
 pub record PassIs (p : Plan) (node : ℕ) (f : List ℕ) : Type 0 where
@@ -215,7 +204,7 @@ module _ {p : Plan} {node : ℕ} {old b : List ℕ} {rs : List (List ℕ)} (i : 
 
     pub served-is : served p f b y ≡ answered p f b y
     unfolding served
-    served-is = first-none (nodeLadder p f b y) (λ (k : ℕ). outcome (refused k) b y) (answered p f b y) none
+    served-is = ladders.is-passed (nodeLadder p f b y) (λ (k : ℕ). outcome (refused k) b y) (answered p f b y) none
 
     book-is : served p f b y .book ≡ cond (not (holds (bodyOf f) rs)) (over (laidOut p node (insertRecord (bodyOf f) rs)) b) b
     unfolding bookAfter

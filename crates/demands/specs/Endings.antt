@@ -1,0 +1,182 @@
+-- When a reply call gives each of its answers. Document 01, "The client", "Endings", "Refusal numbers".
+--   Exactly                one thing exactly when another
+--   readLadder             all that a reply to a reader is refused for, in the order 1, 2, 9, 14, 4, 10, 11, 5, 6, 12
+--   Closes                 the reply is accepted in a read round, and is its N-t-th
+--   Candidate size         node a bears the candidate; how many replies its set has
+--   Fails                  incomplete, or validation failed
+--   WhenNever WhenAborted WhenSpent WhenDone WhenOpen   the condition of each answer of a read
+--   ReadGives              the condition of an answer: refused, open, or an ending
+--   WriteDone WriteOpen WriteClock WriteGives           the same of a write
+-- Assumes nothing.
+use Prim.Native.Nat.{ℕ, _≤_, _<_}
+use mathlib.Core.Path.{_≡_}
+use mathlib.Core.Bool.{Bool, true, false, cond}
+use mathlib.Core.List.{List, _++_}
+use mathlib.Core.Logic.{_⊎_}
+use lib.ListN.{length}
+use Rattle.terms.specs.Ladder.{Rung}
+use Rattle.terms.specs.Stamp.{time, stampNumber}
+use Rattle.terms.specs.Terms.{recordLength, complete, incomplete}
+use Rattle.terms.specs.declared.Plan.{Plan}
+use Rattle.terms.specs.declared.Member.the-variants.{Repairable, NonRepair}
+use Rattle.terms.proofs.Rungs.{None, Given}
+use Rattle.frame.specs.Frame.{frameNode, bodyOf}
+use Rattle.rounds.specs.declared.Heard.the-variants.{Record}
+use Rattle.rounds.specs.declared.Lead.the-variants.{Node}
+use Rattle.rounds.specs.Rounds.{heardCount, markOf, leadOf, setOf, slotStamp}
+use Rattle.session.specs.declared.Session.{Session}
+use Rattle.session.specs.declared.Operation.the-variants.{Write, Read}
+use Rattle.session.specs.Session.{isStoring, replies, markedOf, Said, refused, stillOpen, done, neverWritten, aborted, roundsSpent, clockSpent}
+use Rattle.session.specs.Reply.{replyLadder, recordLadder}
+use Rattle.session.specs.Reader.{headLength, closed, sound}
+use Rattle.session.specs.Writer.{timedOf}
+use Rattle.demands.specs.Round.{marked, slotted}
+
+-- one thing exactly when another
+abbrev pub Exactly : Type 0 → Type 0 → Type 0
+Exactly A B = (A → B) × (B → A)
+
+-- ---- a read
+abbrev pub readLadder : Plan → Session → List ℕ → List ℕ → ℕ → List Rung
+readLadder p s f d item = replyLadder Read p s f d item ++ recordLadder p s f
+
+-- "At N-t accepted replies"
+pub record Closes (p : Plan) (s : Session) (f d : List ℕ) (item : ℕ) : Type 0 where
+  pub accepted : None (readLadder p s f d item)
+  pub asks : isStoring (s .stage) ≡ false
+  pub enough : replies p ≤ heardCount (marked p s f .marks)
+
+-- "the candidate is the greatest timestamp": that of node a, the lowest-numbered that bears it
+abbrev pub Candidate : Plan → Session → List ℕ → List ℕ → ℕ → Type 0
+Candidate p s f d a = leadOf (marked p s f .marks) (slotted p d f) (recordLength p) (p .n) ≡ Node a
+
+-- "Its set is the replies with this timestamp and the same cross checksum as the lowest-numbered of them"
+abbrev pub size : Plan → Session → List ℕ → List ℕ → ℕ → ℕ
+size p s f d a = length (setOf (marked p s f .marks) (slotted p d f) (recordLength p) (headLength p) a (p .n))
+
+-- validation of that set
+abbrev pub valid : Plan → Session → List ℕ → List ℕ → ℕ → Bool
+valid p s f d a = sound p (closed p (marked p s f) (slotted p d f)) a (slotted p d f)
+
+-- "Incomplete, or validation failed": only a complete set, and an unclassifiable one of a repairable member, is validated
+abbrev pub Fails : Plan → ℕ → Bool → Type 0
+Fails p n v = (n < incomplete p) ⊎ ((v ≡ false) × ((complete p ≤ n) ⊎ ((incomplete p ≤ n) × (p .member ≡ Repairable))))
+
+-- "First triple: never written": no node is marked record
+pub record WhenNever (p : Plan) (s : Session) (f d : List ℕ) (item rounds : ℕ) : Type 0 where
+  pub closes : Closes p s f d item
+  pub first : (k : ℕ) → k < p .n → markOf (marked p s f .marks) k ≡ Record → ⊥
+  pub counted : rounds ≡ s .round
+
+-- "Unclassifiable: non-repair ends aborted, unvalidated."
+pub record WhenAborted (p : Plan) (s : Session) (f d : List ℕ) (item rounds : ℕ) : Type 0 where
+  pub closes : Closes p s f d item
+  pub node : ℕ
+  pub candidate : Candidate p s f d node
+  pub low : incomplete p ≤ size p s f d node
+  pub high : size p s f d node < complete p
+  pub member : p .member ≡ NonRepair
+  pub counted : rounds ≡ s .round
+
+-- "rounds spent (round W was incomplete or invalid)"
+pub record WhenSpent (p : Plan) (s : Session) (f d : List ℕ) (item rounds : ℕ) : Type 0 where
+  pub closes : Closes p s f d item
+  pub node : ℕ
+  pub candidate : Candidate p s f d node
+  pub fails : Fails p (size p s f d node) (valid p s f d node)
+  pub last : s .round ≡ p .w
+  pub counted : rounds ≡ s .round
+
+-- "Complete: validate, decode from the m lowest-numbered of the set, done."
+pub record DoneByRead (p : Plan) (s : Session) (f d : List ℕ) (item stamp rounds : ℕ) : Type 0 where
+  pub closes : Closes p s f d item
+  pub node : ℕ
+  pub candidate : Candidate p s f d node
+  pub full : complete p ≤ size p s f d node
+  pub validated : valid p s f d node ≡ true
+  pub of : stamp ≡ slotStamp (slotted p d f) (recordLength p) node
+  pub counted : rounds ≡ s .round
+
+-- "runs a write round, then is done"; "A repair round is not counted."
+pub record DoneByRepair (p : Plan) (s : Session) (f d : List ℕ) (item stamp rounds : ℕ) : Type 0 where
+  pub accepted : None (readLadder p s f d item)
+  pub stores : isStoring (s .stage) ≡ true
+  pub enough : replies p ≤ heardCount (markedOf s (frameNode f) Record .marks)
+  pub of : stamp ≡ stampNumber (s .stamp)
+  pub counted : rounds ≡ s .round
+
+-- the round is not full
+pub record Waits (p : Plan) (s : Session) (f d : List ℕ) (item : ℕ) : Type 0 where
+  pub accepted : None (readLadder p s f d item)
+  pub few : heardCount (cond (isStoring (s .stage)) (markedOf s (frameNode f) Record) (marked p s f) .marks) < replies p
+
+-- "Incomplete, or validation failed: … the next round opens"
+pub record NextOpens (p : Plan) (s : Session) (f d : List ℕ) (item : ℕ) : Type 0 where
+  pub closes : Closes p s f d item
+  pub node : ℕ
+  pub candidate : Candidate p s f d node
+  pub fails : Fails p (size p s f d node) (valid p s f d node)
+  pub more : s .round < p .w
+
+-- "Repairable validates, fills the desk with all N records, runs a write round"
+pub record RepairOpens (p : Plan) (s : Session) (f d : List ℕ) (item : ℕ) : Type 0 where
+  pub closes : Closes p s f d item
+  pub node : ℕ
+  pub candidate : Candidate p s f d node
+  pub low : incomplete p ≤ size p s f d node
+  pub high : size p s f d node < complete p
+  pub member : p .member ≡ Repairable
+  pub validated : valid p s f d node ≡ true
+
+abbrev pub WhenDone : Plan → Session → List ℕ → List ℕ → ℕ → ℕ → ℕ → Type 0
+WhenDone p s f d item stamp rounds = DoneByRead p s f d item stamp rounds ⊎ DoneByRepair p s f d item stamp rounds
+
+abbrev pub WhenOpen : Plan → Session → List ℕ → List ℕ → ℕ → Type 0
+WhenOpen p s f d item = Waits p s f d item ⊎ NextOpens p s f d item ⊎ RepairOpens p s f d item
+
+abbrev pub ReadGives : Plan → Session → List ℕ → List ℕ → ℕ → Said → Type 0
+ReadGives p s f d item (refused k) = Given (readLadder p s f d item) k
+ReadGives p s f d item stillOpen = WhenOpen p s f d item
+ReadGives p s f d item (done stamp rounds) = WhenDone p s f d item stamp rounds
+ReadGives p s f d item (neverWritten rounds) = WhenNever p s f d item rounds
+ReadGives p s f d item (aborted rounds) = WhenAborted p s f d item rounds
+ReadGives p s f d item (roundsSpent rounds) = WhenSpent p s f d item rounds
+ReadGives p s f d item clockSpent = ⊥
+
+-- ---- a write
+abbrev pub writeLadder : Plan → Session → List ℕ → List ℕ → ℕ → List Rung
+writeLadder p s f d item = replyLadder Write p s f d item
+
+-- the session after an accepted reply
+abbrev pub wrote : Session → List ℕ → Session
+wrote s f = cond (isStoring (s .stage)) (markedOf s (frameNode f) Record) (timedOf s (frameNode f) (time (bodyOf f)))
+
+-- "A write round runs to N-t replies bearing that timestamp"; a write counts no read rounds
+pub record WriteDone (p : Plan) (s : Session) (f d : List ℕ) (item stamp rounds : ℕ) : Type 0 where
+  pub accepted : None (writeLadder p s f d item)
+  pub stores : isStoring (s .stage) ≡ true
+  pub enough : replies p ≤ heardCount (wrote s f .marks)
+  pub of : stamp ≡ stampNumber (s .stamp)
+  pub counted : rounds ≡ 0
+
+-- "clock spent (the greatest time reply is 2^64-1)"
+pub record WriteClock (p : Plan) (s : Session) (f d : List ℕ) (item : ℕ) : Type 0 where
+  pub accepted : None (writeLadder p s f d item)
+  pub asks : isStoring (s .stage) ≡ false
+  pub enough : replies p ≤ heardCount (wrote s f .marks)
+  pub spent : wrote s f .greatest .0 ≡ 18446744073709551615
+
+-- the round is not full, or the time round has ended and the write round opens
+pub record WriteOpen (p : Plan) (s : Session) (f d : List ℕ) (item : ℕ) : Type 0 where
+  pub accepted : None (writeLadder p s f d item)
+  pub goes : (heardCount (wrote s f .marks) < replies p)
+      ⊎ ((isStoring (s .stage) ≡ false) × (wrote s f .greatest .0 ≡ 18446744073709551615 → ⊥))
+
+abbrev pub WriteGives : Plan → Session → List ℕ → List ℕ → ℕ → Said → Type 0
+WriteGives p s f d item (refused k) = Given (writeLadder p s f d item) k
+WriteGives p s f d item stillOpen = WriteOpen p s f d item
+WriteGives p s f d item (done stamp rounds) = WriteDone p s f d item stamp rounds
+WriteGives p s f d item (neverWritten rounds) = ⊥
+WriteGives p s f d item (aborted rounds) = ⊥
+WriteGives p s f d item (roundsSpent rounds) = ⊥
+WriteGives p s f d item clockSpent = WriteClock p s f d item

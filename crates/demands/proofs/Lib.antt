@@ -22,4 +22,5 @@ pub mod RoundInstances
 pub mod Counting
 pub mod Repair
 pub mod Sessions
+pub mod RepairRound
 pub mod RepairInstance

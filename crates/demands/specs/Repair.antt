@@ -4,27 +4,23 @@
 --   Through            a polynomial through the fragments of some nodes, as their slots hold them, at one byte position
 --   Value              x is the value of such a polynomial at point k
 --   Holds              a slot holds a set's timestamp and cross checksum, and fragment k of the polynomials through its m lowest
---   after deskAfter    the session and the desk once an accepted reply of a read round was heard
+--   EachTurn Rests     what holds of each of some replies; what a reply of the repair round leaves
 -- Assumes nothing.
-use Prim.Native.Nat.{ℕ, _*_, _≤_, _<_}
+use Prim.{Unit}
+use Prim.Native.Nat.{ℕ, _≤_, _<_}
 use mathlib.Core.Path.{_≡_}
-use mathlib.Core.Bool.{cond}
-use mathlib.Core.List.{List}
+use mathlib.Core.List.{List, [], _∷_}
 use lib.ListN.{length, getD}
-use Rattle.octets.specs.Bytes.{put, Octets}
-use Rattle.terms.specs.Terms.{recordLength}
+use Rattle.octets.specs.Bytes.{Octets}
 use Rattle.terms.specs.Stamp.{stamp, stampNumber}
 use Rattle.terms.specs.declared.Plan.{Plan}
 use Rattle.fragments.specs.Fragments.{All, eval}
-use Rattle.frame.specs.Frame.{frameNode, bodyOf}
 use Rattle.record.specs.Record.{stampOf, crossOf}
 use Rattle.record.specs.Desk.{slotOf, fragmentIn}
-use Rattle.rounds.specs.declared.Heard.the-variants.{First, Record}
 use Rattle.rounds.specs.Rounds.{Closed}
-use Rattle.session.specs.declared.Session.{Session}
-use Rattle.session.specs.Session.{markedOf}
-use Rattle.session.specs.Reply.{bears}
-use Rattle.session.specs.Reader.{lowest}
+use Rattle.session.specs.Session.{done, saidOf}
+use Rattle.session.specs.Reader.{lowest, decoded}
+use Rattle.demands.specs.Turns.{Turn}
 
 -- degree below m, and at the point of each of the nodes byte i of the fragment that its slot of the desk d holds
 pub record Through (p : Plan) (nodes d : List ℕ) (i : ℕ) (cs : List ℕ) : Type 0 where
@@ -44,9 +40,11 @@ pub record Holds (p : Plan) (c : Closed) (d e : List ℕ) (k : ℕ) : Type 0 whe
   pub checksum : All (λ (q : ℕ). crossOf p (slotOf p e k) ≡ crossOf p (slotOf p d q)) (c .nodes)
   pub fragment : (i : ℕ) → i < p .f → Value p (lowest p c) d i k (getD (fragmentIn p e k) i 0)
 
--- ---- a reply of a read round that was heard: "one mark for each node"; "A first triple leaves its slot"
-abbrev pub after : Plan → Session → List ℕ → Session
-after p s f = markedOf s (frameNode f) (cond (bears p f) Record First)
+abbrev pub EachTurn : (Turn → Type 0) → List Turn → Type 0
+EachTurn P [] = Unit {0}
+EachTurn P (t ∷ ts) = P t × EachTurn P ts
 
-abbrev pub deskAfter : Plan → List ℕ → List ℕ → List ℕ
-deskAfter p f d = cond (bears p f) (put d (frameNode f * recordLength p) (bodyOf f)) d
+-- a reply of a repair round: the desk stays; where it ends the read, the item is the one that the m lowest of the set decode to
+pub record Rests (p : Plan) (c : Closed) (d e : List ℕ) (t : Turn) : Type 0 where
+  pub desk : t .deskLeft ≡ e
+  pub item : (stamp rounds : ℕ) → saidOf (t .took .answer) ≡ done stamp rounds → t .itemLeft ≡ decoded p c d (t .item)

@@ -30,12 +30,11 @@ use Rattle.session.specs.Reply.{isHeard}
 use Rattle.session.specs.Reader.{Outcome, outcome, readReply}
 use Rattle.session.proofs.Openings.{accepted-session}
 use Rattle.session.proofs.ReadKept.{asking as is-asking}
-use Rattle.demands.specs.Endings.{readLadder}
-use Rattle.demands.specs.Round.{isRefused, markFor, marked}
-use Rattle.demands.specs.Turns.{Turn, Turns, closedRounds, Reports, lastSaid}
+use Rattle.demands.specs.Endings.{readLadder, heardAs, after}
+use Rattle.demands.specs.Turns.{Turn, Turns, isRefused, closedRounds, Reports, lastSaid}
 use Rattle.demands.proofs.Ladders as ladders
 use Rattle.demands.proofs.Reading as reading
-use Rattle.demands.proofs.Shapes as shapes
+use Rattle.session.proofs.Closings as shapes
 use Rattle.demands.proofs.RoundKept as kept
 
 -- ---- the rounds that a session has closed: those before the one that is open
@@ -89,7 +88,7 @@ module _ (p : Plan) (s : Session) (f d i : List ℕ) (k : ℕ) (a : At s k) wher
       asking : isAsking (s .stage) ≡ true
       asking = is-asking (s .stage) q ended-not
 
-      count-is : heardCount (marked p s f .marks) ≡ k + 1
+      count-is : heardCount (after p s f .marks) ≡ k + 1
       count-is =
           kept.count-marked p s f (a .marks) in-marks heard-not
           ∙ ap (λ (x : ℕ). x + 1) (a .heard asking)
@@ -108,12 +107,12 @@ module _ (p : Plan) (s : Session) (f d i : List ℕ) (k : ℕ) (a : At s k) wher
       one-more : closedBy s + 1 ≡ s .round
       one-more = let h = here in let l = a .low in omega arith
 
-      ended : (o : Outcome) → o .session ≡ endedOf (marked p s f) → ((m : ℕ) → Reports (o .said) m → m ≡ s .round) → Step p s k o 1 0
+      ended : (o : Outcome) → o .session ≡ endedOf (after p s f) → ((m : ℕ) → Reports (o .said) m → m ≡ s .round) → Step p s k o 1 0
       unfolding closedBy
       ended o e t =
           let z : closedBy (o .session) ≡ s .round = rw e in
           record {
-            at = rw e (record { marks = length-marks (markFor p f); heard = λ w. (let y : _≡_ {A = ℕ} 0 1 = cc in absurd (omega arith)); low = a .low });
+            at = rw e (record { marks = length-marks (heardAs p f); heard = λ w. (let y : _≡_ {A = ℕ} 0 1 = cc in absurd (omega arith)); low = a .low });
             more = z ∙ sym one-more;
             tells = λ m h. let y = t m h in (y ∙ sym z, (let v = low in omega arith));
           }
@@ -121,14 +120,14 @@ module _ (p : Plan) (s : Session) (f d i : List ℕ) (k : ℕ) (a : At s k) wher
       closing : Closing (reading.act-of p s f d i)
       unfolding closedBy heardCount
       closing =
-          shapes.each Closing p (marked p s f) _ i
+          shapes.goes Closing p (after p s f) _ _ i
           (record {
-            ends = λ x y. (refl, ended _ refl (λ m h. h));
+            finds = λ x y. (refl, ended _ refl (λ m h. h));
             never = (refl, ended _ refl (λ m h. h));
             aborts = (refl, ended _ refl (λ m h. h));
             spends = λ g. (refl, ended _ refl (λ m h. h));
-            next = λ t g. (refl, record { at = record { marks = refl; heard = λ w. refl; low = omega arith }; more = (let v = one-more in omega arith); tells = λ m h. absurd h });
-            mends = λ t y. (
+            next = λ l q g. (refl, record { at = record { marks = refl; heard = λ w. refl; low = omega arith }; more = (let v = one-more in omega arith); tells = λ m h. absurd h });
+            repairs = λ l q v. (
               refl,
               record {
                 at = record { marks = refl; heard = λ w. (let y : _≡_ {A = ℕ} 0 1 = cc in absurd (omega arith)); low = a .low };
@@ -136,7 +135,7 @@ module _ (p : Plan) (s : Session) (f d i : List ℕ) (k : ℕ) (a : At s k) wher
                 tells = λ m h. absurd h;
               },
             );
-          }) _
+          })
 
       counts-it : (x : Said) → isRefused x ≡ false → (isAsking (s .stage) and not (isRefused x)) ≡ true
       counts-it x e = rw (asking, e)
@@ -147,15 +146,15 @@ module _ (p : Plan) (s : Session) (f d i : List ℕ) (k : ℕ) (a : At s k) wher
           go : (x : Bool) → leb (replies p) (k + 1) ≡ x → Turned p s k (readReply p s f d i)
           go true g =
               let h = leb-true (replies p) (k + 1) g in
-              let l : replies p ≤ heardCount (marked p s f .marks) = let v = count-is in omega arith in
+              let l : replies p ≤ heardCount (after p s f .marks) = let v = count-is in omega arith in
               subst (Turned p s k) (sym (reading.closes-read p s f d i n q l)) (last (counts-it (reading.act-of p s f d i .said) (closing .0)) h (closing .1))
           go false g =
               let h = leb-false (replies p) (k + 1) g in
-              let l : heardCount (marked p s f .marks) < replies p = let v = count-is in omega arith in
+              let l : heardCount (after p s f .marks) < replies p = let v = count-is in omega arith in
               subst (Turned p s k) (sym (reading.waits-read p s f d i n q l))
               (more (counts-it stillOpen refl) h (record {
-                at = record { marks = length-marks (markFor p f); heard = λ w. count-is; low = a .low };
-                more = stays (markFor p f);
+                at = record { marks = length-marks (heardAs p f); heard = λ w. count-is; low = a .low };
+                more = stays (heardAs p f);
                 tells = λ m y. absurd y;
               }))
 

@@ -28,11 +28,10 @@ use Rattle.session.specs.declared.Took.{Took}
 use Rattle.session.specs.Session.{isStoring, replies, markedOf, Said, refused, stillOpen, done, neverWritten, aborted, roundsSpent, clockSpent, saidOf}
 use Rattle.session.specs.Reader.{ReadReplyCall, Outcome, outcome, headLength, closed, settled, stored, accepted}
 use Rattle.session.specs.Writer.{WriteReplyCall}
-use Rattle.demands.specs.Endings.{Exactly, readLadder, Candidate, size, WhenNever, WhenAborted, WhenSpent, WhenDone, WhenOpen, DoneByRead, RepairOpens, WriteDone, WriteClock, WriteOpen, ReadGives, WriteGives}
-use Rattle.demands.specs.Round.{marked, slotted}
+use Rattle.demands.specs.Endings.{Exactly, readLadder, after, deskAfter, Candidate, size, WhenNever, WhenAborted, WhenSpent, WhenDone, WhenOpen, DoneByRead, RepairOpens, WriteDone, WriteClock, WriteOpen, ReadGives, WriteGives}
 use Rattle.demands.proofs.Ladders as ladders
 use Rattle.demands.proofs.Reading as reading
-use Rattle.demands.proofs.Shapes as shapes
+use Rattle.session.proofs.Closings as shapes
 use Rattle.demands.proofs.Client as client
 
 -- ---- a read
@@ -101,16 +100,15 @@ module _ (i : List ℕ) where
   unfolding settled
   settled-stays p s d =
       shapes.pick Stays (ltb (heardCount (s .marks)) (replies p)) (λ e. refl)
-      (shapes.each Stays p s d i
-      (record { ends = λ x y e. wrong e; never = λ e. refl; aborts = λ e. refl; spends = λ h e. refl; next = λ t h e. refl; mends = λ t y e. refl })
-      (closed p s d))
+      (shapes.goes Stays p s (closed p s d) d i
+      (record { finds = λ x y e. wrong e; never = λ e. refl; aborts = λ e. refl; spends = λ h e. refl; next = λ a l h e. refl; repairs = λ a l v e. refl }))
 
   accepted-stays : (p : Plan) (s : Session) (f d : List ℕ) → Stays (accepted p s f d i)
   unfolding accepted stored
   accepted-stays p s f d =
       shapes.pick Stays (isStoring (s .stage))
       (shapes.pick Stays (ltb (heardCount (markedOf s (frameNode f) Record .marks)) (replies p)) (λ e. refl) (λ e. wrong e))
-      (subst Stays (sym (reading.heard-settles p s f d i)) (settled-stays p (marked p s f) (slotted p d f)))
+      (subst Stays (sym (reading.heard-settles p s f d i)) (settled-stays p (after p s f) (deskAfter p f d)))
 
 pub only-done-writes : (p : Plan) (s : Session) (f d i : List ℕ) (t : Took) (d₂ i₂ : List ℕ) → ReadReplyCall p s f d i t d₂ i₂
     → isDone (saidOf (t .answer)) ≡ false → i₂ ≡ i
@@ -122,12 +120,12 @@ only-done-writes p s f d i t d₂ i₂ call =
 -- ---- what is true of every close
 -- "First triple: never written. (It always has COMPLETE replies.)": at least COMPLETE nodes are heard, and all of them gave the first triple
 pub first-triple-complete : (p : Plan) (s : Session) (f d : List ℕ) (item n : ℕ) → WhenNever p s f d item n
-    → (complete p ≤ heardCount (marked p s f .marks)) × ((k : ℕ) → k < p .n → bitOf (markOf (marked p s f .marks) k) ≡ 1 → markOf (marked p s f .marks) k ≡ First)
+    → (complete p ≤ heardCount (after p s f .marks)) × ((k : ℕ) → k < p .n → bitOf (markOf (after p s f .marks) k) ≡ 1 → markOf (after p s f .marks) k ≡ First)
 first-triple-complete p s f d item n w =
     let t = reading.taken p s f d item (w .closes .accepted) in
     let g = facts p (t .plan) in
     let e = w .closes .enough in
-    (omega arith, λ k h b. go (markOf (marked p s f .marks) k) b (w .first k h))
+    (omega arith, λ k h b. go (markOf (after p s f .marks) k) b (w .first k h))
   where
     go : (m : Heard) → bitOf m ≡ 1 → (m ≡ Record → ⊥) → m ≡ First
     go Unheard b h = absurd (omega arith)
@@ -135,8 +133,8 @@ first-triple-complete p s f d item n w =
     go Record b h = absurd (h refl)
 
 -- the candidate is the greatest timestamp heard, at the lowest-numbered node that bears it
-pub greatest : (p : Plan) (s : Session) (f d : List ℕ) (a : ℕ) → Candidate p s f d a → Best (marked p s f .marks) (slotted p d f) (recordLength p) (p .n) a
-greatest p s f d a h = candidate (marked p s f .marks) (slotted p d f) (recordLength p) (p .n) a h
+pub greatest : (p : Plan) (s : Session) (f d : List ℕ) (a : ℕ) → Candidate p s f d a → Best (after p s f .marks) (deskAfter p f d) (recordLength p) (p .n) a
+greatest p s f d a h = candidate (after p s f .marks) (deskAfter p f d) (recordLength p) (p .n) a h
 
 -- the numbers of a list rise
 abbrev pub Rising : List ℕ → Type 0
@@ -162,12 +160,12 @@ set-rises ms d r h a (suc n) = go (joinsOf d r h a n (markOf ms n)) (set-rises m
 
 -- the set is rising, below N, and its nodes bear the candidate's timestamp and cross checksum
 pub set-is : (p : Plan) (s : Session) (f d : List ℕ) (a : ℕ)
-    → Rising (setOf (marked p s f .marks) (slotted p d f) (recordLength p) (headLength p) a (p .n))
-    × Members (slotted p d f) (recordLength p) (headLength p) a (p .n) (marked p s f .marks)
-    (setOf (marked p s f .marks) (slotted p d f) (recordLength p) (headLength p) a (p .n))
+    → Rising (setOf (after p s f .marks) (deskAfter p f d) (recordLength p) (headLength p) a (p .n))
+    × Members (deskAfter p f d) (recordLength p) (headLength p) a (p .n) (after p s f .marks)
+    (setOf (after p s f .marks) (deskAfter p f d) (recordLength p) (headLength p) a (p .n))
 set-is p s f d a = (
-  set-rises (marked p s f .marks) (slotted p d f) (recordLength p) (headLength p) a (p .n),
-  members-are (marked p s f .marks) (slotted p d f) (recordLength p) (headLength p) a (p .n),
+  set-rises (after p s f .marks) (deskAfter p f d) (recordLength p) (headLength p) a (p .n),
+  members-are (after p s f .marks) (deskAfter p f d) (recordLength p) (headLength p) a (p .n),
 )
 
 -- where a set is decoded, and where it is repaired, it has m nodes

@@ -7,7 +7,6 @@ pub mod Kept
 pub mod Books
 pub mod Instances
 pub mod Edges
-pub mod Shapes
 pub mod Reading
 pub mod Writing
 pub mod Client
@@ -18,9 +17,10 @@ pub mod RoundReply
 pub mod RoundKept
 pub mod RoundRun
 pub mod Round
+pub mod RoundCalls
 pub mod RoundInstances
 pub mod Counting
 pub mod Repair
-pub mod Sessions
 pub mod RepairRound
 pub mod RepairInstance
+pub mod Sessions

@@ -38,8 +38,7 @@ use Rattle.session.specs.Reply.{bears, replyLadder, recordLadder, lengthsOk, sa
 use Rattle.session.specs.Reader.{Outcome, outcome, headLength, decoded, collected, repaired, failing, acted, closed, settled, heard, stored, accepted, readReply}
 use Rattle.session.proofs.Rules.{lengths-are, in-range-is}
 use Rattle.session.proofs.Readers as readers
-use Rattle.demands.specs.Endings.{readLadder, Closes, Candidate, size, valid, Fails, ReadGives}
-use Rattle.demands.specs.Round.{marked, slotted}
+use Rattle.demands.specs.Endings.{readLadder, after, deskAfter, Closes, Candidate, size, valid, Fails, ReadGives}
 use Rattle.demands.proofs.Ladders as ladders
 
 -- ---- a set, by its size: one of three
@@ -75,7 +74,7 @@ module _ (k : Member) (high low n : ℕ) where
           let h = leb-false high n e in let l = leb-false low n f in short h l (short-is h l)
 
 -- ---- an accepted reply of a read round
-pub heard-settles : (p : Plan) (s : Session) (f d i : List ℕ) → heard p s f d i ≡ settled p (marked p s f) (slotted p d f) i
+pub heard-settles : (p : Plan) (s : Session) (f d i : List ℕ) → heard p s f d i ≡ settled p (after p s f) (deskAfter p f d) i
 unfolding heard
 heard-settles p s f d i = go (bears p f)
   where
@@ -108,10 +107,10 @@ module _ (p : Plan) (s : Session) (f d i : List ℕ) where
 
   -- the session and the desk with this reply, and the close
   abbrev u : Session
-  u = marked p s f
+  u = after p s f
 
   abbrev e : List ℕ
-  e = slotted p d f
+  e = deskAfter p f d
 
   abbrev c : Closed
   c = closed p u e
@@ -214,7 +213,7 @@ module _ (p : Plan) (s : Session) (f d i : List ℕ) where
         let k : 40 ≤ recordLength p = unfold recordLength in omega arith in
         ap stampNumber (stamp-is a h) ∙ stamp-at-number e (a * recordLength p) (omega arith)
 
-    pub in-read : isStoring (s .stage) ≡ false → readReply p s f d i ≡ settled p u e i
+    in-read : isStoring (s .stage) ≡ false → readReply p s f d i ≡ settled p u e i
     unfolding accepted
     in-read q = is-accepted ∙ rw q (heard-settles p s f d i)
 
@@ -333,7 +332,7 @@ module _ (p : Plan) (s : Session) (f d i : List ℕ) where
       ap (λ (o : Outcome). o .said) (one-ladder ∙ ladders.is-given (readLadder p s f d (length i)) refuse (accepted p s f d i) k g)
   so-gives stillOpen (inl g) = go (isStoring (s .stage)) refl (g .few)
     where
-      go : (x : Bool) → isStoring (s .stage) ≡ x → heardCount (cond x (markedOf s (frameNode f) Record) (marked p s f) .marks) < replies p
+      go : (x : Bool) → isStoring (s .stage) ≡ x → heardCount (cond x (markedOf s (frameNode f) Record) (after p s f) .marks) < replies p
           → readReply p s f d i .said ≡ stillOpen
       go true q h = ap (λ (o : Outcome). o .said) (waits-repair (g .accepted) q h)
       go false q h = ap (λ (o : Outcome). o .said) (waits-read (g .accepted) q h)

@@ -32,11 +32,11 @@ use Rattle.session.specs.Reader.{Outcome, outcome, decoded, collected, repaired
 use Rattle.session.proofs.Checks.{outcome-all}
 use Rattle.session.proofs.Closings.{led, sized, goes}
 use Rattle.session.proofs.ReadKept.{Hearing, hearing}
-use Rattle.demands.specs.Round.{marked, slotted}
+use Rattle.demands.specs.Endings.{after, deskAfter}
 use Rattle.demands.specs.Turns.{Turn, Turns}
 use Rattle.demands.specs.Repair.{Holds, EachTurn, Rests}
 use Rattle.demands.proofs.Reading.{heard-settles}
-use Rattle.demands.proofs.RoundOrder.{length-slotted}
+use Rattle.demands.proofs.RoundOrder.{length-after}
 use Rattle.demands.proofs.Repair.{repaired-holds, repaired-item}
 
 never : {A : Type 0} → false ≡ true → A
@@ -62,8 +62,8 @@ unfolding put
 octets-put l at s h k =
     octets-append (take at l) (s ++ drop (at + length s) l) (octets-take at l h) (octets-append s (drop (at + length s) l) k (octets-drop (at + length s) l h))
 
-octets-slotted : (p : Plan) (d f : List ℕ) → Octets d → Octets f → Octets (slotted p d f)
-octets-slotted p d f h k = go (bears p f)
+octets-after : (p : Plan) (d f : List ℕ) → Octets d → Octets f → Octets (deskAfter p f d)
+octets-after p d f h k = go (bears p f)
   where
     go : (b : Bool) → Octets (cond b (put d (frameNode f * recordLength p) (bodyOf f)) d)
     go true = octets-put d (frameNode f * recordLength p) (bodyOf f) h (octets-drop 15 f k)
@@ -92,7 +92,10 @@ module _ (p : Plan) (u : Session) (e i : List ℕ) (ok : planOk p ≡ true) (lon
       go false =
           goes Full p u (closed p u e) e i
           (record {
-            ends = λ x y t. never t;
+            finds = λ x y t. never t;
+            never = λ t. never t;
+            aborts = λ t. never t;
+            spends = λ h t. never t;
             next = λ a l h t. never t;
             repairs = λ a l v t. record { plan = ok; long = long; node = a; leads = l; size = sized p u e a (led p u e a l) ok v; is = refl };
           })
@@ -100,16 +103,16 @@ module _ (p : Plan) (u : Session) (e i : List ℕ) (ok : planOk p ≡ true) (lon
 module _ (p : Plan) (s : Session) (f d i : List ℕ) (asks : isStoring (s .stage) ≡ false) (t : Took) (d₂ i₂ : List ℕ) (call : ReadReplyCall p s f d i t d₂ i₂)
     (opens : isStoring (t .session .stage) ≡ true) where
   abbrev Right : Outcome → Type 0
-  Right x = isStoring (x .session .stage) ≡ true → Refilled p (marked p s f) (slotted p d f) (x .desk)
+  Right x = isStoring (x .session .stage) ≡ true → Refilled p (after p s f) (deskAfter p f d) (x .desk)
 
   takes : Hearing p s f d → Right (accepted p s f d i)
   unfolding accepted
   takes q =
       rw asks
       (subst Right (sym (heard-settles p s f d i))
-      (settles p (marked p s f) (slotted p d f) i (q .plan-ok) (length-slotted p d f (q .reply .node-low) (q .desk-is)) asks))
+      (settles p (after p s f) (deskAfter p f d) i (q .plan-ok) (length-after p d f (q .reply .node-low) (q .desk-is)) asks))
 
-  pub refills : Refilled p (marked p s f) (slotted p d f) d₂
+  pub refills : Refilled p (after p s f) (deskAfter p f d) d₂
   unfolding readReply
   refills =
       subst Right (sym (call .is))
@@ -120,11 +123,11 @@ module _ (p : Plan) (s : Session) (f d i : List ℕ) (asks : isStoring (s .stage
 
   -- A REPLY THAT OPENS A REPAIR ROUND fills the desk: every slot k holds the set's timestamp and cross checksum and fragment k of the
   -- polynomials through the m lowest, from the desk as it was with that reply in its slot
-  pub repair-opens : Octets d → Octets f → (k : ℕ) → k < p .n → Holds p (closed p (marked p s f) (slotted p d f)) (slotted p d f) d₂ k
+  pub repair-opens : Octets d → Octets f → (k : ℕ) → k < p .n → Holds p (closed p (after p s f) (deskAfter p f d)) (deskAfter p f d) d₂ k
   repair-opens od of k h =
       let r = refills in
-      subst (λ (x : List ℕ). Holds p (closed p (marked p s f) (slotted p d f)) (slotted p d f) x k) (sym (r .is))
-      (repaired-holds p (marked p s f) (slotted p d f) (r .node) (r .plan) (r .long) (r .leads) (r .size) (octets-slotted p d f od of) k h)
+      subst (λ (x : List ℕ). Holds p (closed p (after p s f) (deskAfter p f d)) (deskAfter p f d) x k) (sym (r .is))
+      (repaired-holds p (after p s f) (deskAfter p f d) (r .node) (r .plan) (r .long) (r .leads) (r .size) (octets-after p d f od of) k h)
 
 -- ---- the replies that follow
 storing : (x : Stage) → isAsking x ≡ false → isEnded x ≡ false → isStoring x ≡ true
@@ -176,9 +179,9 @@ module _ (p : Plan) (u : Session) (e d : List ℕ) (r : Refilled p u e d) where
 -- the desk as it was: what the desk's first m slots give
 pub repair-ends : (p : Plan) (s : Session) (f d i : List ℕ) → isStoring (s .stage) ≡ false → (t : Took) (d₂ i₂ : List ℕ) → ReadReplyCall p s f d i t d₂ i₂
     → isStoring (t .session .stage) ≡ true → (ts : List Turn) → Turns p (t .session) d₂ ts
-    → EachTurn (Rests p (closed p (marked p s f) (slotted p d f)) (slotted p d f) d₂) ts
+    → EachTurn (Rests p (closed p (after p s f) (deskAfter p f d)) (deskAfter p f d) d₂) ts
 repair-ends p s f d i asks t d₂ i₂ call opens ts h =
-    rests p (marked p s f) (slotted p d f) d₂ (refills p s f d i asks t d₂ i₂ call opens) (t .session) ts (past (t .session .stage) opens) h
+    rests p (after p s f) (deskAfter p f d) d₂ (refills p s f d i asks t d₂ i₂ call opens) (t .session) ts (past (t .session .stage) opens) h
   where
     past : (x : Stage) → isStoring x ≡ true → isAsking x ≡ false
     past Asking e = sym e

@@ -26,9 +26,9 @@ use Rattle.session.specs.Reply.{lengthsOk, awaited, isHeard, bears}
 use Rattle.session.proofs.Rules.{lengths-are}
 use Rattle.session.proofs.Made.{rest-set}
 use Rattle.session.proofs.Slots.{slots-after}
-use Rattle.demands.specs.Round.{markFor, marked, slotted}
+use Rattle.demands.specs.Endings.{heardAs, after, deskAfter}
 use Rattle.demands.proofs.Order.{strict}
-use Rattle.demands.proofs.RoundOrder.{length-slotted}
+use Rattle.demands.proofs.RoundOrder.{length-after}
 use Rattle.demands.proofs.RoundReply.{Fits, Ready, Taken}
 
 -- ---- marks
@@ -45,7 +45,7 @@ count-set [] k m h e g = absurd (omega arith)
 count-set (x ∷ ms) zero m h e g = omega arith
 count-set (x ∷ ms) (suc k) m h e g = let z = count-set ms k m (omega arith) e g in omega arith
 
-bit-mark : (p : Plan) (f : List ℕ) → bitOf (markFor p f) ≡ 1
+bit-mark : (p : Plan) (f : List ℕ) → bitOf (heardAs p f) ≡ 1
 bit-mark p f = go (bears p f)
   where
     go : (t : Bool) → bitOf (cond t Record First) ≡ 1
@@ -53,22 +53,22 @@ bit-mark p f = go (bears p f)
     go false = refl
 
 module _ (p : Plan) (s : Session) (f : List ℕ) (l : length (s .marks) ≡ 16) (h : frameNode f < 16) where
-  pub count-marked : isHeard s (frameNode f) ≡ false → heardCount (marked p s f .marks) ≡ heardCount (s .marks) + 1
-  count-marked e = count-set (s .marks) (frameNode f) (record { is = markFor p f }) (omega arith) (bit-unheard s (frameNode f) e) (bit-mark p f)
+  pub count-marked : isHeard s (frameNode f) ≡ false → heardCount (after p s f .marks) ≡ heardCount (s .marks) + 1
+  count-marked e = count-set (s .marks) (frameNode f) (record { is = heardAs p f }) (omega arith) (bit-unheard s (frameNode f) e) (bit-mark p f)
 
-  pub length-marked : length (marked p s f .marks) ≡ 16
-  length-marked = length-set (s .marks) (frameNode f) (record { is = markFor p f }) ∙ l
+  pub length-marked : length (after p s f .marks) ≡ 16
+  length-marked = length-set (s .marks) (frameNode f) (record { is = heardAs p f }) ∙ l
 
   -- the node is heard now, and no other
-  pub heard-same : isHeard (marked p s f) (frameNode f) ≡ true
+  pub heard-same : isHeard (after p s f) (frameNode f) ≡ true
   unfolding isHeard
   heard-same =
-      ap (λ (m : Mark). eqb (bitOf (m .is)) 1) (getD-set-same (s .marks) (frameNode f) (record { is = markFor p f }) unheard (omega arith))
+      ap (λ (m : Mark). eqb (bitOf (m .is)) 1) (getD-set-same (s .marks) (frameNode f) (record { is = heardAs p f }) unheard (omega arith))
       ∙ ap (λ (n : ℕ). eqb n 1) (bit-mark p f)
 
-  pub heard-other : (k : ℕ) → (k ≡ frameNode f → ⊥) → isHeard (marked p s f) k ≡ isHeard s k
+  pub heard-other : (k : ℕ) → (k ≡ frameNode f → ⊥) → isHeard (after p s f) k ≡ isHeard s k
   unfolding isHeard
-  heard-other k n = ap (λ (m : Mark). eqb (bitOf (m .is)) 1) (getD-set-other (s .marks) (frameNode f) k (record { is = markFor p f }) unheard n)
+  heard-other k n = ap (λ (m : Mark). eqb (bitOf (m .is)) 1) (getD-set-other (s .marks) (frameNode f) k (record { is = heardAs p f }) unheard n)
 
 -- a mark changes nothing of what the round asks of another reply
 pub fits-later : (p : Plan) (s : Session) (k : ℕ) (h : Heard) (f : List ℕ) → Fits p s f → Fits p (markedOf s k h) f
@@ -96,25 +96,25 @@ module _ (p : Plan) (s : Session) (f d i : List ℕ) (t : Taken p s f d i) where
   desk-is : length d ≡ p .n * r
   desk-is = lengths-are p (length d) (length i) (t .ready .lengths) .desk-is
 
-  pub next : ltb (heardCount (marked p s f .marks)) (replies p) ≡ true → Ready p (marked p s f) (slotted p d f) i
+  pub next : ltb (heardCount (after p s f .marks)) (replies p) ≡ true → Ready p (after p s f) (deskAfter p f d) i
   next few =
       let g = t .ready in
       let o = g .slots in
       let q = g .standing in
       let old : slotsFit (s .marks) d r (s .bound) (p .n) ≡ true = rw (g .round) at (o .slots) in
-      let new : slotsFit (marked p s f .marks) (slotted p d f) r (s .bound) (p .n) ≡ true =
+      let new : slotsFit (after p s f .marks) (deskAfter p f d) r (s .bound) (p .n) ≡ true =
       slots-after p f d low desk-is (s .marks) (s .bound) (λ e. rw e at (t .fits .timed))
       (λ e. not-false (underOf (s .bound) (stamp (bodyOf f))) (rw e at (t .fits .under))) old (bears p f) refl in
       record {
         plan = g .plan;
-        lengths = ap (λ (n : ℕ). lengthsOk p n (length i)) (length-slotted p d f low desk-is ∙ sym desk-is) ∙ g .lengths;
+        lengths = ap (λ (n : ℕ). lengthsOk p n (length i)) (length-after p d f low desk-is ∙ sym desk-is) ∙ g .lengths;
         round = g .round;
         standing = record {
           low = q .low;
           high = q .high;
           counted = q .counted;
           bounded = q .bounded;
-          rest = rest-set (s .marks) (p .n) k (record { is = markFor p f }) low ∙ q .rest;
+          rest = rest-set (s .marks) (p .n) k (record { is = heardAs p f }) low ∙ q .rest;
           opening = q .opening;
         };
         slots = record { stamped = o .stamped; firsts = rw (g .round); few = few; slots = rw (g .round) new };

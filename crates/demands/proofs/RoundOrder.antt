@@ -18,7 +18,8 @@ use Rattle.rounds.proofs.Laws.{slot-room}
 use Rattle.session.specs.declared.Session.{Session}
 use Rattle.session.specs.Reply.{bears}
 use Rattle.session.proofs.Slots.{long-body, long-after}
-use Rattle.demands.specs.Round.{Each, OneANode, markFor, marked, slotted, allMarked, allSlotted}
+use Rattle.demands.specs.Endings.{heardAs, after, deskAfter}
+use Rattle.demands.specs.Round.{Each, OneANode, allMarked, allSlotted}
 use Rattle.demands.proofs.Order.{strict}
 use Rattle.demands.proofs.RoundSwaps.{Reordered, same, swap, keep, chain, each-kept, one-kept}
 
@@ -57,7 +58,7 @@ slots-comm d x y a b n r ha hb ne l lx ly = go (ltb a b) refl
         sym (put-comm d (b * r) y (a * r) x (omega (arith, suc-mul b r)) (omega arith))
 
 -- ---- two replies
-marks-comm : (p : Plan) (s : Session) (f g : List ℕ) → (frameNode g ≡ frameNode f → ⊥) → marked p (marked p s f) g ≡ marked p (marked p s g) f
+marks-comm : (p : Plan) (s : Session) (f g : List ℕ) → (frameNode g ≡ frameNode f → ⊥) → after p (after p s f) g ≡ after p (after p s g) f
 marks-comm p s f g n = λ j. record {
   operation = s .operation;
   stage = s .stage;
@@ -66,7 +67,7 @@ marks-comm p s f g n = λ j. record {
   opening = s .opening;
   greatest = s .greatest;
   stamp = s .stamp;
-  marks = set-comm (s .marks) (frameNode f) (frameNode g) (record { is = markFor p f }) (record { is = markFor p g }) (λ e. n (sym e)) j;
+  marks = set-comm (s .marks) (frameNode f) (frameNode g) (record { is = heardAs p f }) (record { is = heardAs p g }) (λ e. n (sym e)) j;
 }
 
 module _ (p : Plan) where
@@ -74,7 +75,7 @@ module _ (p : Plan) where
   at f = frameNode f * recordLength p
 
   desks-comm : (d f g : List ℕ) → frameNode f < p .n → frameNode g < p .n → (frameNode g ≡ frameNode f → ⊥) → length d ≡ p .n * recordLength p
-      → slotted p (slotted p d f) g ≡ slotted p (slotted p d g) f
+      → deskAfter p g (deskAfter p f d) ≡ deskAfter p f (deskAfter p g d)
   desks-comm d f g hf hg n l = go (bears p f) (bears p g) refl refl
     where
       go : (t u : Bool) → bears p f ≡ t → bears p g ≡ u
@@ -86,8 +87,8 @@ module _ (p : Plan) where
       go false true a b = refl
       go false false a b = refl
 
-  pub length-slotted : (d f : List ℕ) → frameNode f < p .n → length d ≡ p .n * recordLength p → length (slotted p d f) ≡ p .n * recordLength p
-  length-slotted d f h l = go (bears p f) refl
+  pub length-after : (d f : List ℕ) → frameNode f < p .n → length d ≡ p .n * recordLength p → length (deskAfter p f d) ≡ p .n * recordLength p
+  length-after d f h l = go (bears p f) refl
     where
       go : (t : Bool) → bears p f ≡ t → length (cond t (put d (at f) (bodyOf f)) d) ≡ p .n * recordLength p
       go true e = long-after p f d h l e
@@ -98,7 +99,7 @@ module _ (p : Plan) where
   unfolding allMarked
   same-marks same s a = refl
   same-marks (swap f g {l}) s a = ap (λ (x : Session). allMarked p x l) (marks-comm p s f g (a .0 .0))
-  same-marks (keep f r) s a = same-marks r (marked p s f) (a .1)
+  same-marks (keep f r) s a = same-marks r (after p s f) (a .1)
   same-marks (chain r q) s a = same-marks r s a ∙ same-marks q s (one-kept r a)
 
   abbrev Low : List (List ℕ) → Type 0
@@ -109,5 +110,5 @@ module _ (p : Plan) where
   unfolding allSlotted
   same-slots same d e a h = refl
   same-slots (swap f g {l}) d e a h = ap (λ (x : List ℕ). allSlotted p x l) (desks-comm d f g (h .0) (h .1 .0) (a .0 .0) e)
-  same-slots (keep f r) d e a h = same-slots r (slotted p d f) (length-slotted d f (h .0) e) (a .1) (h .1)
+  same-slots (keep f r) d e a h = same-slots r (deskAfter p f d) (length-after d f (h .0) e) (a .1) (h .1)
   same-slots (chain r q) d e a h = same-slots r d e a h ∙ same-slots q d e (one-kept r a) (each-kept (λ (f : List ℕ). frameNode f < p .n) r h)

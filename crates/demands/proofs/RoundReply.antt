@@ -1,5 +1,5 @@
 -- One reply of a read round: what it is to be accepted (taken), and what an accepted reply comes to (accepts). Assumes nothing.
-use mathlib.Core.Path.{_≡_, refl, sym, ap, _∙_}
+use mathlib.Core.Path.{_≡_, refl, sym, ap, _∙_, subst}
 use mathlib.Core.Bool.{true, false, not}
 use mathlib.Core.List.{List}
 use Prim.{tt}
@@ -20,13 +20,14 @@ use Rattle.session.specs.declared.Stage.{Stage}
 use Rattle.session.specs.declared.Stage.the-variants.{Asking, Storing, Ended}
 use Rattle.session.specs.Session.{isRead, isAsking, isStoring, isEnded, readRound, replies, refused}
 use Rattle.session.specs.Ranges.{inRange}
-use Rattle.session.specs.Reply.{lengthsOk, awaited, isHeard, bears}
+use Rattle.session.specs.Reply.{lengthsOk, awaited, isHeard, bears, recordLadder}
 use Rattle.session.specs.Reader.{Outcome, outcome, closed, settled, accepted, readReply}
 use Rattle.session.proofs.Made.{StandingIs, OpenIs, in-range-facts, open-in-range}
-use Rattle.demands.specs.Round.{isRefused, Acceptable, marked, slotted}
-use Rattle.demands.specs.Endings.{readLadder}
+use Rattle.demands.specs.Endings.{readLadder, after, deskAfter}
+use Rattle.demands.specs.Turns.{isRefused}
+use Rattle.demands.specs.Round.{Acceptable}
 use Rattle.demands.proofs.Ladders as ladders
-use Rattle.demands.proofs.Shapes as shapes
+use Rattle.session.proofs.Closings as shapes
 use Rattle.demands.proofs.Reading as reading
 
 -- ---- what it is to be accepted
@@ -63,11 +64,11 @@ asks s e =
     go Ended h = (refl, absurd (clash (sym h)))
 
 -- not refused: none of the ten conditions holds
-reply-none : (p : Plan) (s : Session) (f d i : List ℕ) → Acceptable p s d i f → None (readLadder p s f d (length i))
-reply-none p s f d i e =
+not-refused : (p : Plan) (s : Session) (f d i : List ℕ) → Acceptable p s d i f → None (readLadder p s f d (length i))
+not-refused p s f d i e =
     ladders.by-ladder (λ (o : Outcome). isRefused (o .said) ≡ false → None (readLadder p s f d (length i))) (readLadder p s f d (length i))
     (λ (k : ℕ). outcome (refused k) s d i) (accepted p s f d i) (λ k g h. absurd (clash h)) (λ n h. n)
-    (sym (ap (λ (o : Outcome). isRefused (o .said)) (reading.one-ladder p s f d i)) ∙ e)
+    (subst (λ (o : Outcome). isRefused (o .said) ≡ false) (reading.one-ladder p s f d i) e)
 
 -- accepted: of both, and the node is not yet heard
 pub record Taken (p : Plan) (s : Session) (f d i : List ℕ) : Type 0 where
@@ -78,8 +79,7 @@ pub record Taken (p : Plan) (s : Session) (f d i : List ℕ) : Type 0 where
 module _ (p : Plan) (s : Session) (f d i : List ℕ) where
   pub taken : readRound s ≡ true → Acceptable p s d i f → Taken p s f d i
   taken r e =
-      let a = reply-none p s f d i e in
-      let c = a .1 .1 .1 .1 .1 .1 .1 in
+      let a = not-refused p s f d i e in
       let range = both (isRead (s .operation)) (inRange p s d) (not-false (isRead (s .operation) and inRange p s d) (a .1 .1 .0)) .1 in
       let k = in-range-facts p s d range (a .1 .1 .1 .0) in
       record {
@@ -93,34 +93,35 @@ module _ (p : Plan) (s : Session) (f d i : List ℕ) where
         fits = record {
           good = not-false (goodReply p f) (a .1 .1 .1 .1 .0);
           await = not-false (awaited s f) (a .1 .1 .1 .1 .1 .0);
-          timed = c .0;
-          hashed = c .1 .0;
-          under = c .1 .1 .0;
+          timed = a .1 .1 .1 .1 .1 .1 .1 .0;
+          hashed = a .1 .1 .1 .1 .1 .1 .1 .1 .0;
+          under = a .1 .1 .1 .1 .1 .1 .1 .1 .1 .0;
         };
         fresh = a .1 .1 .1 .1 .1 .1 .0;
       }
 
-  pub accepts : Taken p s f d i → readReply p s f d i ≡ settled p (marked p s f) (slotted p d f) i
+  pub accepts : Taken p s f d i → readReply p s f d i ≡ settled p (after p s f) (deskAfter p f d) i
+  unfolding accepted
   accepts k =
       let g = k .ready in
       let q = k .fits in
       let a = asks s (g .round) in
       let range : inRange p s d ≡ true = open-in-range p s d (g .standing) (g .slots) in
       let ranged : not (isRead (s .operation) and inRange p s d) ≡ false = rw (a .reads, range) in
-      reading.in-read p s f d i
-      (ap not (g .plan), (ap not (g .lengths), (ranged, (a .ended, (ap not (q .good), (ap not (q .await), (k .fresh, (q .timed, (q .hashed, (q .under, tt))))))))))
-      (a .storing)
+      let late : None (recordLadder p s f) = (q .timed, (q .hashed, (q .under, tt))) in
+      reading.is-accepted p s f d i
+      (ap not (g .plan), (ap not (g .lengths), (ranged, (a .ended, (ap not (q .good), (ap not (q .await), (k .fresh, late)))))))
+      ∙ rw (a .storing) (reading.heard-settles p s f d i)
 
--- an accepted reply is not refused
+-- an accepted reply is not refused, whatever it comes to
 pub settled-taken : (p : Plan) (s : Session) (d i : List ℕ) → isRefused (settled p s d i .said) ≡ false
 unfolding settled
 settled-taken p s d i =
-    shapes.pick Taking (ltb (heardCount (s .marks)) (replies p)) refl
-    (shapes.each Taking p s d i
-    (record { ends = λ x y. refl; never = refl; aborts = refl; spends = λ h. refl; next = λ t h. refl; mends = λ t y. refl }) (closed p s d))
+    shapes.pick Well (ltb (heardCount (s .marks)) (replies p)) refl
+    (shapes.goes Well p s (closed p s d) d i (record { finds = λ t x. refl; never = refl; aborts = refl; spends = λ g. refl; next = λ a l g. refl; repairs = λ a l v. refl }))
   where
-    Taking : Outcome → Type 0
-    Taking o = isRefused (o .said) ≡ false
+    Well : Outcome → Type 0
+    Well o = isRefused (o .said) ≡ false
 
 pub acceptable : (p : Plan) (s : Session) (f d i : List ℕ) → Taken p s f d i → Acceptable p s d i f
-acceptable p s f d i k = ap (λ (o : Outcome). isRefused (o .said)) (accepts p s f d i k) ∙ settled-taken p (marked p s f) (slotted p d f) i
+acceptable p s f d i k = ap (λ (o : Outcome). isRefused (o .said)) (accepts p s f d i k) ∙ settled-taken p (after p s f) (deskAfter p f d) i

@@ -1,6 +1,7 @@
 -- When a reply call gives each of its answers. Document 01, "The client", "Endings", "Refusal numbers".
 --   Exactly                one thing exactly when another
 --   readLadder             all that a reply to a reader is refused for, in the order 1, 2, 9, 14, 4, 10, 11, 5, 6, 12
+--   after deskAfter        the session and the desk after an accepted reply of a read round
 --   Closes                 the reply is accepted in a read round, and is its N-t-th
 --   Candidate size         node a bears the candidate; how many replies its set has
 --   Fails                  incomplete, or validation failed
@@ -8,12 +9,13 @@
 --   ReadGives              the condition of an answer: refused, open, or an ending
 --   WriteDone WriteOpen WriteClock WriteGives           the same of a write
 -- Assumes nothing.
-use Prim.Native.Nat.{ℕ, _≤_, _<_}
+use Prim.Native.Nat.{ℕ, _≤_, _<_, _*_}
 use mathlib.Core.Path.{_≡_}
 use mathlib.Core.Bool.{Bool, true, false, cond}
 use mathlib.Core.List.{List, _++_}
 use mathlib.Core.Logic.{_⊎_}
 use lib.ListN.{length}
+use Rattle.octets.specs.Bytes.{put}
 use Rattle.terms.specs.Ladder.{Rung}
 use Rattle.terms.specs.Stamp.{time, stampNumber}
 use Rattle.terms.specs.Terms.{recordLength, complete, incomplete}
@@ -21,16 +23,16 @@ use Rattle.terms.specs.declared.Plan.{Plan}
 use Rattle.terms.specs.declared.Member.the-variants.{Repairable, NonRepair}
 use Rattle.terms.proofs.Rungs.{None, Given}
 use Rattle.frame.specs.Frame.{frameNode, bodyOf}
-use Rattle.rounds.specs.declared.Heard.the-variants.{Record}
+use Rattle.rounds.specs.declared.Heard.{Heard}
+use Rattle.rounds.specs.declared.Heard.the-variants.{First, Record}
 use Rattle.rounds.specs.declared.Lead.the-variants.{Node}
 use Rattle.rounds.specs.Rounds.{heardCount, markOf, leadOf, setOf, slotStamp}
 use Rattle.session.specs.declared.Session.{Session}
 use Rattle.session.specs.declared.Operation.the-variants.{Write, Read}
 use Rattle.session.specs.Session.{isStoring, replies, markedOf, Said, refused, stillOpen, done, neverWritten, aborted, roundsSpent, clockSpent}
-use Rattle.session.specs.Reply.{replyLadder, recordLadder}
+use Rattle.session.specs.Reply.{bears, replyLadder, recordLadder}
 use Rattle.session.specs.Reader.{headLength, closed, sound}
 use Rattle.session.specs.Writer.{timedOf}
-use Rattle.demands.specs.Round.{marked, slotted}
 
 -- one thing exactly when another
 abbrev pub Exactly : Type 0 → Type 0 → Type 0
@@ -40,23 +42,32 @@ Exactly A B = (A → B) × (B → A)
 abbrev pub readLadder : Plan → Session → List ℕ → List ℕ → ℕ → List Rung
 readLadder p s f d item = replyLadder Read p s f d item ++ recordLadder p s f
 
+abbrev pub heardAs : Plan → List ℕ → Heard
+heardAs p f = cond (bears p f) Record First
+
+abbrev pub after : Plan → Session → List ℕ → Session
+after p s f = markedOf s (frameNode f) (heardAs p f)
+
+abbrev pub deskAfter : Plan → List ℕ → List ℕ → List ℕ
+deskAfter p f d = cond (bears p f) (put d (frameNode f * recordLength p) (bodyOf f)) d
+
 -- "At N-t accepted replies"
 pub record Closes (p : Plan) (s : Session) (f d : List ℕ) (item : ℕ) : Type 0 where
   pub accepted : None (readLadder p s f d item)
   pub asks : isStoring (s .stage) ≡ false
-  pub enough : replies p ≤ heardCount (marked p s f .marks)
+  pub enough : replies p ≤ heardCount (after p s f .marks)
 
 -- "the candidate is the greatest timestamp": that of node a, the lowest-numbered that bears it
 abbrev pub Candidate : Plan → Session → List ℕ → List ℕ → ℕ → Type 0
-Candidate p s f d a = leadOf (marked p s f .marks) (slotted p d f) (recordLength p) (p .n) ≡ Node a
+Candidate p s f d a = leadOf (after p s f .marks) (deskAfter p f d) (recordLength p) (p .n) ≡ Node a
 
 -- "Its set is the replies with this timestamp and the same cross checksum as the lowest-numbered of them"
 abbrev pub size : Plan → Session → List ℕ → List ℕ → ℕ → ℕ
-size p s f d a = length (setOf (marked p s f .marks) (slotted p d f) (recordLength p) (headLength p) a (p .n))
+size p s f d a = length (setOf (after p s f .marks) (deskAfter p f d) (recordLength p) (headLength p) a (p .n))
 
 -- validation of that set
 abbrev pub valid : Plan → Session → List ℕ → List ℕ → ℕ → Bool
-valid p s f d a = sound p (closed p (marked p s f) (slotted p d f)) a (slotted p d f)
+valid p s f d a = sound p (closed p (after p s f) (deskAfter p f d)) a (deskAfter p f d)
 
 -- "Incomplete, or validation failed": only a complete set, and an unclassifiable one of a repairable member, is validated
 abbrev pub Fails : Plan → ℕ → Bool → Type 0
@@ -65,7 +76,7 @@ Fails p n v = (n < incomplete p) ⊎ ((v ≡ false) × ((complete p ≤ n) ⊎ (
 -- "First triple: never written": no node is marked record
 pub record WhenNever (p : Plan) (s : Session) (f d : List ℕ) (item rounds : ℕ) : Type 0 where
   pub closes : Closes p s f d item
-  pub first : (k : ℕ) → k < p .n → markOf (marked p s f .marks) k ≡ Record → ⊥
+  pub first : (k : ℕ) → k < p .n → markOf (after p s f .marks) k ≡ Record → ⊥
   pub counted : rounds ≡ s .round
 
 -- "Unclassifiable: non-repair ends aborted, unvalidated."
@@ -94,7 +105,7 @@ pub record DoneByRead (p : Plan) (s : Session) (f d : List ℕ) (item stamp roun
   pub candidate : Candidate p s f d node
   pub full : complete p ≤ size p s f d node
   pub validated : valid p s f d node ≡ true
-  pub of : stamp ≡ slotStamp (slotted p d f) (recordLength p) node
+  pub of : stamp ≡ slotStamp (deskAfter p f d) (recordLength p) node
   pub counted : rounds ≡ s .round
 
 -- "runs a write round, then is done"; "A repair round is not counted."
@@ -108,7 +119,7 @@ pub record DoneByRepair (p : Plan) (s : Session) (f d : List ℕ) (item stamp ro
 -- the round is not full
 pub record Waits (p : Plan) (s : Session) (f d : List ℕ) (item : ℕ) : Type 0 where
   pub accepted : None (readLadder p s f d item)
-  pub few : heardCount (cond (isStoring (s .stage)) (markedOf s (frameNode f) Record) (marked p s f) .marks) < replies p
+  pub few : heardCount (cond (isStoring (s .stage)) (markedOf s (frameNode f) Record) (after p s f) .marks) < replies p
 
 -- "Incomplete, or validation failed: … the next round opens"
 pub record NextOpens (p : Plan) (s : Session) (f d : List ℕ) (item : ℕ) : Type 0 where

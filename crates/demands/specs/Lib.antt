@@ -1,8 +1,8 @@
 pub mod Deliver
 pub mod History
 pub mod Edges
-pub mod Round
 pub mod Endings
 pub mod Turns
+pub mod Round
 pub mod Repair
 pub mod Sessions

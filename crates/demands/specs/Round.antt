@@ -7,26 +7,24 @@
 --   Accepted                  no answer of a list is a refusal
 --   Acceptable                a reply is accepted where the round opens
 --   Each, OneANode            what holds of each reply of a list; no two of them are of one node
---   marked, slotted           the session and the desk after one reply that is accepted
---   allMarked, allSlotted     after all of a list
+--   allMarked, allSlotted     the session and the desk after all of a list
 --   times, SameReplies        how often a reply comes; the same replies, in whichever order
+--   Lent, repliesOf, answersOf, leftBy   the calls themselves: the item that each is lent; replies, answers and last outcome
 -- Assumes nothing.
 use Prim.{Unit}
-use Prim.Native.Nat.{ℕ, zero, suc, _+_, _*_}
+use Prim.Native.Nat.{ℕ, zero, suc, _+_}
 use mathlib.Core.Path.{_≡_}
-use mathlib.Core.Bool.{Bool, true, false, cond}
+use mathlib.Core.Bool.{true, false, cond}
 use mathlib.Core.List.{List, [], _∷_}
-use Rattle.octets.specs.Bytes.{put, alike}
-use Rattle.terms.specs.Terms.{recordLength}
+use Rattle.octets.specs.Bytes.{alike}
 use Rattle.terms.specs.declared.Plan.{Plan}
-use Rattle.frame.specs.Frame.{frameNode, bodyOf}
-use Rattle.rounds.specs.declared.Heard.{Heard}
-use Rattle.rounds.specs.declared.Heard.the-variants.{First, Record}
+use Rattle.frame.specs.Frame.{frameNode}
 use Rattle.rounds.specs.Rounds.{unheards}
 use Rattle.session.specs.declared.Session.{Session}
-use Rattle.session.specs.Session.{readRound, markedOf, Said, refused, stillOpen, done, neverWritten, aborted, roundsSpent, clockSpent}
-use Rattle.session.specs.Reply.{bears}
+use Rattle.session.specs.Session.{readRound, Said, stillOpen, saidOf}
 use Rattle.session.specs.Reader.{Outcome, outcome, readReply}
+use Rattle.demands.specs.Endings.{after, deskAfter}
+use Rattle.demands.specs.Turns.{Turn, isRefused}
 
 -- ---- the calls, each on the session, the desk and the item that the last one handed back
 abbrev pub opened : Session → List ℕ → List ℕ → Outcome
@@ -53,15 +51,6 @@ pub record RoundOpens (s : Session) : Type 0 where
   pub round : readRound s ≡ true
   pub marks : s .marks ≡ unheards
 
-abbrev pub isRefused : Said → Bool
-isRefused (refused k) = true
-isRefused stillOpen = false
-isRefused (done t n) = false
-isRefused (neverWritten n) = false
-isRefused (aborted n) = false
-isRefused (roundsSpent n) = false
-isRefused clockSpent = false
-
 -- each reply was accepted in its turn
 abbrev pub Accepted : List Said → Type 0
 Accepted [] = Unit {0}
@@ -79,24 +68,14 @@ abbrev pub OneANode : List (List ℕ) → Type 0
 OneANode [] = Unit {0}
 OneANode (f ∷ fs) = Each (λ (g : List ℕ). frameNode g ≡ frameNode f → ⊥) fs × OneANode fs
 
--- ---- what accepted replies leave: each a mark, and a record in its slot
-abbrev pub markFor : Plan → List ℕ → Heard
-markFor p f = cond (bears p f) Record First
-
-abbrev pub marked : Plan → Session → List ℕ → Session
-marked p s f = markedOf s (frameNode f) (markFor p f)
-
--- "A first triple leaves its slot"
-abbrev pub slotted : Plan → List ℕ → List ℕ → List ℕ
-slotted p d f = cond (bears p f) (put d (frameNode f * recordLength p) (bodyOf f)) d
-
+-- ---- what accepted replies leave: each a mark, and a record in its slot; "A first triple leaves its slot"
 unfoldable pub allMarked : Plan → Session → List (List ℕ) → Session
 allMarked p s [] = s
-allMarked p s (f ∷ fs) = allMarked p (marked p s f) fs
+allMarked p s (f ∷ fs) = allMarked p (after p s f) fs
 
 unfoldable pub allSlotted : Plan → List ℕ → List (List ℕ) → List ℕ
 allSlotted p d [] = d
-allSlotted p d (f ∷ fs) = allSlotted p (slotted p d f) fs
+allSlotted p d (f ∷ fs) = allSlotted p (deskAfter p f d) fs
 
 -- ---- the same replies
 unfoldable pub times : List ℕ → List (List ℕ) → ℕ
@@ -106,3 +85,22 @@ times z (f ∷ fs) = cond (alike f z) 1 0 + times z fs
 -- every reply comes as often in the one list as in the other
 abbrev pub SameReplies : List (List ℕ) → List (List ℕ) → Type 0
 SameReplies fs gs = (z : List ℕ) → times z fs ≡ times z gs
+
+-- ---- the calls themselves, by what each was lent and left
+-- each was lent the item that the one before it left
+abbrev pub Lent : List ℕ → List Turn → Type 0
+Lent i [] = Unit {0}
+Lent i (t ∷ ts) = (t .item ≡ i) × Lent (t .itemLeft) ts
+
+abbrev pub repliesOf : List Turn → List (List ℕ)
+repliesOf [] = []
+repliesOf (t ∷ ts) = t .reply ∷ repliesOf ts
+
+abbrev pub answersOf : List Turn → List Said
+answersOf [] = []
+answersOf (t ∷ ts) = saidOf (t .took .answer) ∷ answersOf ts
+
+-- the answer, session, desk and item that the last of them left
+abbrev pub leftBy : Outcome → List Turn → Outcome
+leftBy o [] = o
+leftBy o (t ∷ ts) = leftBy (outcome (saidOf (t .took .answer)) (t .took .session) (t .deskLeft) (t .itemLeft)) ts

@@ -7,7 +7,7 @@
 -- Assumes nothing.
 use Prim.{Unit}
 use Prim.Native.Nat.{ℕ, _+_}
-use mathlib.Core.Bool.{Bool, cond, not}
+use mathlib.Core.Bool.{Bool, true, false, cond, not}
 use mathlib.Core.List.{List, [], _∷_}
 use mathlib.Core.Path.{_≡_}
 use lib.Dec.{leb}
@@ -17,7 +17,6 @@ use Rattle.session.specs.declared.Session.{Session}
 use Rattle.session.specs.declared.Took.{Took}
 use Rattle.session.specs.Session.{isAsking, replies, Said, refused, stillOpen, done, neverWritten, aborted, roundsSpent, clockSpent, saidOf}
 use Rattle.session.specs.Reader.{ReadReplyCall}
-use Rattle.demands.specs.Round.{isRefused}
 
 pub record Turn : Type 0 where
   pub reply : List ℕ
@@ -30,6 +29,15 @@ abbrev pub Turns : Plan → Session → List ℕ → List Turn → Type 0
 Turns p s d [] = Unit {0}
 Turns p s d (t ∷ ts) =
     ReadReplyCall p s (t .reply) d (t .item) (t .took) (t .deskLeft) (t .itemLeft) × Turns p (t .took .session) (t .deskLeft) ts
+
+abbrev pub isRefused : Said → Bool
+isRefused (refused k) = true
+isRefused stillOpen = false
+isRefused (done stamp n) = false
+isRefused (neverWritten n) = false
+isRefused (aborted n) = false
+isRefused (roundsSpent n) = false
+isRefused clockSpent = false
 
 abbrev pub counts : Session → Turn → Bool
 counts s t = isAsking (s .stage) and not (isRefused (saidOf (t .took .answer)))

@@ -14,7 +14,7 @@ use mathlib.Core.Bool.{Bool, true, false, cond}
 use mathlib.Core.List.{List, [], _∷_, _++_}
 use native.Mathlib.Decide.{ℕ-discrete}
 use native.Mathlib.Omega.{arith}
-use borrow.Author.Tests.{leb-false, eq-eqb}
+use borrow.Author.Tests.{leb-true, leb-false, eq-eqb}
 use lib.Dec.{leb}
 use lib.ListN.{length, take}
 use lib.Seq.{length-take-le}
@@ -22,7 +22,7 @@ use Rattle.octets.specs.Bytes.{part, num}
 use Rattle.octets.proofs.Laws.{part-part}
 use Rattle.octets.proofs.Meaning.{alike-is, alike-refl, not-alike}
 use Rattle.terms.specs.Terms.{planOk, recordLength, complete, incomplete, decided}
-use Rattle.terms.specs.Stamp.{stampAt}
+use Rattle.terms.specs.Stamp.{stampAt, stampNumber}
 use Rattle.terms.specs.declared.Plan.{Plan}
 use Rattle.terms.specs.declared.Verdict.{Verdict}
 use Rattle.terms.specs.declared.Verdict.the-variants.{Complete, Repair, Aborted, Incomplete}
@@ -39,7 +39,7 @@ use Rattle.rounds.proofs.Laws.{lead-room}
 use Rattle.rounds.proofs.Closes.{Best, candidate, members-are, decided-complete, decided-repair}
 use Rattle.recover.proofs.Filled.{length-filled}
 use Rattle.session.specs.declared.Session.{Session}
-use Rattle.session.specs.Session.{endedOf, nextOf, storingOf, Said, stillOpen, neverWritten, aborted, roundsSpent}
+use Rattle.session.specs.Session.{endedOf, nextOf, storingOf, stillOpen, done, neverWritten, aborted, roundsSpent}
 use Rattle.session.specs.Reader.{Outcome, outcome, headLength, lowest, sound, decoded, repaired, failing, actOn, actFor, acted, closed}
 
 -- ---- the lead is the first of its set
@@ -197,9 +197,17 @@ module _ (p : Plan) (s : Session) (d : List ℕ) (a : ℕ) where
         let q = lowest-are ok size in
         length-filled d (headLength p) (recordLength p) (p .f) (lowest p (closed p s d)) a (p .n) refl (omega arith) (q .below) (q .leader)
 
--- ---- the ways that a closed round can go: it ends, with the desk as it is; the next round opens; a repair round opens
+-- one of two
+pub pick : (P : Outcome → Type 0) (b : Bool) {x y : Outcome} → P x → P y → P (cond b x y)
+pick P true h k = h
+pick P false h k = k
+
+-- ---- the ways that a closed round can go: four endings, with the desk as it is; the next round opens; a repair round opens
 pub record Ways (P : Outcome → Type 0) (p : Plan) (s : Session) (c : Closed) (d i : List ℕ) : Type 0 where
-  pub ends : (x : Said) (y : List ℕ) → P (outcome x (endedOf s) d y)
+  pub finds : (stamp : ℕ) (item : List ℕ) → P (outcome (done stamp (s .round)) (endedOf s) d item)
+  pub never : P (outcome (neverWritten (s .round)) (endedOf s) d i)
+  pub aborts : P (outcome (aborted (s .round)) (endedOf s) d i)
+  pub spends : p .w ≤ s .round → P (outcome (roundsSpent (s .round)) (endedOf s) d i)
   pub next : (a : ℕ) → c .lead ≡ Node a → s .round < p .w → P (outcome stillOpen (nextOf s (c .stamp)) d i)
   pub repairs : (a : ℕ) → c .lead ≡ Node a → c .verdict ≡ Repair → P (outcome stillOpen (storingOf s (c .stamp)) (repaired p c a d) i)
 
@@ -209,18 +217,14 @@ module _ (P : Outcome → Type 0) (p : Plan) (s : Session) (c : Closed) (d i : L
   fails a e = go (leb (p .w) (s .round)) refl
     where
       go : (t : Bool) → leb (p .w) (s .round) ≡ t → P (cond t (outcome (roundsSpent (s .round)) (endedOf s) d i) (outcome stillOpen (nextOf s (c .stamp)) d i))
-      go true f = w .ends (roundsSpent (s .round)) i
+      go true f = w .spends (leb-true (p .w) (s .round) f)
       go false f = w .next a e (leb-false (p .w) (s .round) f)
-
-  unless : (a : ℕ) (o : Outcome) (t : Bool) → c .lead ≡ Node a → P o → P (cond t o (failing p s (c .stamp) d i))
-  unless a o true e k = k
-  unless a o false e k = fails a e
 
   acts : (a : ℕ) → c .lead ≡ Node a → (v : Verdict) → c .verdict ≡ v → P (actOn v p s c a d i)
   unfolding actOn
-  acts a e Complete f = unless a _ (sound p c a d) e (w .ends _ (decoded p c d i))
-  acts a e Repair f = unless a _ (sound p c a d) e (w .repairs a e f)
-  acts a e Aborted f = w .ends (aborted (s .round)) i
+  acts a e Complete f = pick P (sound p c a d) (w .finds (stampNumber (c .stamp)) (decoded p c d i)) (fails a e)
+  acts a e Repair f = pick P (sound p c a d) (w .repairs a e f) (fails a e)
+  acts a e Aborted f = w .aborts
   acts a e Incomplete f = fails a e
 
   pub goes : P (acted p s c d i)
@@ -228,5 +232,5 @@ module _ (P : Outcome → Type 0) (p : Plan) (s : Session) (c : Closed) (d i : L
   goes = by (c .lead) refl
     where
       by : (l : Lead) → c .lead ≡ l → P (actFor l p s c d i)
-      by Nobody e = w .ends (neverWritten (s .round)) i
+      by Nobody e = w .never
       by (Node a) e = acts a e (c .verdict) refl

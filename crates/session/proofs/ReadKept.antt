@@ -143,7 +143,10 @@ module _ (p : Plan) (s : Session) (f d i : List ℕ) (k : Kept p s d) where
               go false c =
                   goes Good p u (closed p u e) e i
                   (record {
-                    ends = λ x y. ended;
+                    finds = λ x y. ended;
+                    never = ended;
+                    aborts = ended;
+                    spends = λ h. ended;
                     next = next;
                     repairs = λ a l v.
                         let g : Led p u e a = led p u e a l in

@@ -29,6 +29,7 @@ use Rattle.session.specs.Opening.{OpenCall}
 use Rattle.session.specs.Reply.{isHeard}
 use Rattle.session.specs.Reader.{Outcome, outcome, readReply}
 use Rattle.session.proofs.Openings.{accepted-session}
+use Rattle.session.proofs.ReadKept.{asking as is-asking}
 use Rattle.demands.specs.Endings.{readLadder, heardAs, after}
 use Rattle.demands.specs.Turns.{Turn, Turns, isRefused, closedRounds, Reports, lastSaid}
 use Rattle.demands.proofs.Ladders as ladders
@@ -45,11 +46,6 @@ pub record At (s : Session) (k : ℕ) : Type 0 where
   pub marks : length (s .marks) ≡ 16
   pub heard : isAsking (s .stage) ≡ true → heardCount (s .marks) ≡ k
   pub low : 1 ≤ s .round
-
-is-asking : (g : Stage) → isStoring g ≡ false → isEnded g ≡ false → isAsking g ≡ true
-is-asking Asking e f = refl
-is-asking Storing e f = let z : _≡_ {A = ℕ} 0 1 = cc in absurd (omega arith)
-is-asking Ended e f = let z : _≡_ {A = ℕ} 0 1 = cc in absurd (omega arith)
 
 not-asking : (g : Stage) → isStoring g ≡ true → isAsking g ≡ false
 not-asking Asking e = let z : _≡_ {A = ℕ} 0 1 = cc in absurd (omega arith)

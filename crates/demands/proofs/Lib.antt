@@ -21,5 +21,6 @@ pub mod RoundCalls
 pub mod RoundInstances
 pub mod Counting
 pub mod Repair
+pub mod RepairRound
 pub mod RepairInstance
 pub mod Sessions

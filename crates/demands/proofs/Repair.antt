@@ -4,26 +4,22 @@
 --   repaired-record    slot k is the head of the lead's slot and fragment k regenerated from the m lowest, all from the desk as it was
 --   repaired-holds     so it holds what the words say, for every k, a source's slot too
 --   repaired-item      the item collected from its first m slots is the one decoded from the m lowest
---   repair-opens       a reply that opens a repair round leaves such a desk
---   repair-stays       the replies of the repair round leave it, and the one that ends the read collects the item from it
--- Assumes nothing.
+-- RepairRound.antt has the calls. Assumes nothing.
 use Prim.Native.Nat.{ℕ, zero, suc, _+_, _*_, _≤_, _<_}
-use mathlib.Core.Path.{_≡_, refl, sym, ap, ap₂, _∙_, subst}
+use mathlib.Core.Path.{_≡_, refl, sym, ap, ap₂, _∙_}
 use mathlib.Core.Bool.{Bool, true, false, cond}
 use mathlib.Core.List.{List, [], _∷_, _++_}
 use native.Mathlib.Omega.{arith}
 use borrow.Author.Tests.{lt-ltb}
-use lib.Dec.{ltb, lit<}
-use lib.ListN.{length, getD, take, drop}
-use lib.Seq.{take-at, drop-at, take-all, getD-drop}
+use lib.Dec.{lit<}
+use lib.ListN.{length, getD}
+use lib.Seq.{take-at, drop-at, take-all}
 use Rattle.octets.specs.Bytes.{part, put, num, Octets}
 use Rattle.octets.proofs.Laws.{length-part, part-part}
 use Rattle.octets.proofs.Meaning.{getD-part}
-use Rattle.terms.specs.Ladder.{first}
 use Rattle.terms.specs.Terms.{planOk, recordLength}
 use Rattle.terms.specs.Stamp.{stampNumber}
 use Rattle.terms.specs.declared.Plan.{Plan}
-use Rattle.terms.proofs.Rungs.{clash}
 use Rattle.terms.proofs.Facts.{facts}
 use Rattle.terms.proofs.Plans.{plan-is}
 use Rattle.terms.proofs.Stamps.{stamp-at-number}
@@ -32,25 +28,15 @@ use Rattle.fragments.proofs.Lists.{getD-tabulate}
 use Rattle.fragments.proofs.Interp.{all, all-map, Bytes, value-ext, only, newton, length-newton, bytes-newton, newton-at}
 use Rattle.fragments.proofs.Laws.{among-all, among-from, length-regenerated}
 use Rattle.fragments.proofs.Theorems.{coefficients}
-use Rattle.frame.specs.Frame.{frameNode, bodyOf}
 use Rattle.record.specs.Desk.{slotOf, fragmentIn}
 use Rattle.record.proofs.Records.{record-length, start-of, stamp-at}
-use Rattle.rounds.specs.declared.Heard.the-variants.{First, Record}
 use Rattle.rounds.specs.declared.Lead.the-variants.{Node}
-use Rattle.rounds.specs.Rounds.{heardCount}
 use Rattle.rounds.proofs.Laws.{slot-room}
 use Rattle.recover.specs.Recover.{recordFrom}
 use Rattle.recover.proofs.Filled.{all-at, filled-record}
 use Rattle.session.specs.declared.Session.{Session}
-use Rattle.session.specs.declared.Took.{Took}
-use Rattle.session.specs.declared.Operation.the-variants.{Read}
-use Rattle.session.specs.Session.{isStoring, replies, markedOf, endedOf, refused, stillOpen, done, saidOf}
-use Rattle.session.specs.Reply.{bears, replyLadder, recordLadder}
-use Rattle.session.specs.Reader.{Outcome, outcome, headLength, lowest, decoded, collected, repaired, acted, closed, settled, heard, stored, accepted, readReply, ReadReplyCall}
-use Rattle.session.proofs.Checks.{outcome-all}
-use Rattle.session.proofs.Closings.{Led, led, lead-low, Lowest, lowest-are, heads-alike, sized, goes}
-use Rattle.session.proofs.ReadKept.{Hearing, hearing, long-after}
-use Rattle.demands.specs.Endings.{after, deskAfter}
+use Rattle.session.specs.Reader.{headLength, lowest, decoded, collected, repaired, closed}
+use Rattle.session.proofs.Closings.{Led, led, lead-low, Lowest, lowest-are, heads-alike}
 use Rattle.demands.specs.Repair.{Through, Holds}
 
 -- ---- bytes, by index and one by one
@@ -62,28 +48,6 @@ byte-at : (l : List ℕ) → Bytes l → Octets l
 byte-at [] b i = lit< tt
 byte-at (x ∷ l) b zero = b .0
 byte-at (x ∷ l) b (suc i) = byte-at l (b .1) i
-
-octets-append : (a b : List ℕ) → Octets a → Octets b → Octets (a ++ b)
-octets-append [] b h k i = k i
-octets-append (x ∷ a) b h k zero = h 0
-octets-append (x ∷ a) b h k (suc i) = octets-append a b (λ j. h (suc j)) k i
-
-octets-take : (n : ℕ) (l : List ℕ) → Octets l → Octets (take n l)
-octets-take zero l h i = lit< tt
-octets-take (suc n) [] h i = lit< tt
-octets-take (suc n) (x ∷ l) h zero = h 0
-octets-take (suc n) (x ∷ l) h (suc i) = octets-take n l (λ j. h (suc j)) i
-
-octets-drop : (n : ℕ) (l : List ℕ) → Octets l → Octets (drop n l)
-octets-drop n l h i = rw getD-drop (h (n + i))
-
-octets-put : (l : List ℕ) (at : ℕ) (s : List ℕ) → Octets l → Octets s → Octets (put l at s)
-unfolding put
-octets-put l at s h k =
-    octets-append (take at l) (s ++ drop (at + length s) l) (octets-take at l h) (octets-append s (drop (at + length s) l) k (octets-drop (at + length s) l h))
-
-never : {A : Type 0} → false ≡ true → A
-never z = absurd (clash (sym z))
 
 -- ---- the two parts of a record
 module _ (x y : List ℕ) (h f : ℕ) (lx : length x ≡ h) (ly : length y ≡ f) where
@@ -262,90 +226,3 @@ module _ (p : Plan) (s : Session) (d : List ℕ) (a : ℕ) (ok : planOk p ≡ tr
       place k =
           let z : headLength p + k * recordLength p ≡ k * recordLength p + headLength p = omega arith in
           ap (λ (y : ℕ). part full y (p .f)) z ∙ sym (part-part full (k * recordLength p) (recordLength p) (headLength p) (p .f) (omega (arith, record-length p)))
-
--- ---- the call
--- a round that closes opens a repair round only with such a desk
-module _ (p : Plan) (u : Session) (e i : List ℕ) (ok : planOk p ≡ true) (long : length e ≡ p .n * recordLength p) (o : Octets e)
-    (asks : isStoring (u .stage) ≡ false) where
-  abbrev Full : Outcome → Type 0
-  Full x = isStoring (x .session .stage) ≡ true → (k : ℕ) → k < p .n → Holds p (closed p u e) e (x .desk) k
-
-  settles : Full (settled p u e i)
-  unfolding settled
-  settles = go (ltb (heardCount (u .marks)) (replies p))
-    where
-      go : (c : Bool) → Full (cond c (outcome stillOpen u e i) (acted p u (closed p u e) e i))
-      go true = λ t. never (sym asks ∙ t)
-      go false =
-          goes Full p u (closed p u e) e i
-          (record {
-            finds = λ x y t. never t;
-            never = λ t. never t;
-            aborts = λ t. never t;
-            spends = λ h t. never t;
-            next = λ a l h t. never t;
-            repairs = λ a l v t. repaired-holds p u e a ok long l (sized p u e a (led p u e a l) ok v) o;
-          })
-
-module _ (p : Plan) (s : Session) (f d i : List ℕ) (of : Octets f) (od : Octets d) (asks : isStoring (s .stage) ≡ false) where
-  -- of an outcome, by whether the reply bears a record
-  abbrev Right : Bool → Outcome → Type 0
-  Right b x =
-      isStoring (x .session .stage) ≡ true → (k : ℕ) → k < p .n
-      → Holds p (closed p (markedOf s (frameNode f) (cond b Record First)) (cond b (put d (frameNode f * recordLength p) (bodyOf f)) d))
-      (cond b (put d (frameNode f * recordLength p) (bodyOf f)) d) (x .desk) k
-
-  hears : Hearing p s f d → Right (bears p f) (heard p s f d i)
-  unfolding heard
-  hears q = go (bears p f) refl
-    where
-      go : (b : Bool) → bears p f ≡ b
-          → Right b (cond b (settled p (markedOf s (frameNode f) Record) (put d (frameNode f * recordLength p) (bodyOf f)) i)
-          (settled p (markedOf s (frameNode f) First) d i))
-      go true e =
-          settles p (markedOf s (frameNode f) Record) (put d (frameNode f * recordLength p) (bodyOf f)) i (q .plan-ok) (long-after p s f d q e)
-          (octets-put d (frameNode f * recordLength p) (bodyOf f) od (octets-drop 15 f of)) asks
-      go false e = settles p (markedOf s (frameNode f) First) d i (q .plan-ok) (q .desk-is) od asks
-
-  takes : Hearing p s f d → Right (bears p f) (accepted p s f d i)
-  unfolding accepted
-  takes q = rw asks (hears q)
-
-  -- A REPLY THAT OPENS A REPAIR ROUND leaves a desk so filled, from the desk as it was with that reply in its slot
-  pub repair-opens : (t : Took) (d₂ i₂ : List ℕ) → ReadReplyCall p s f d i t d₂ i₂ → isStoring (t .session .stage) ≡ true
-      → (k : ℕ) → k < p .n → Holds p (closed p (after p s f) (deskAfter p f d)) (deskAfter p f d) d₂ k
-  unfolding readReply
-  repair-opens t d₂ i₂ c =
-      subst (Right (bears p f)) (sym (c .is))
-      (outcome-all (Right (bears p f)) (replyLadder Read p s f d (length i)) (λ (j : ℕ). outcome (refused j) s d i) _ (λ j. stays)
-      (λ e. outcome-all (Right (bears p f)) (recordLadder p s f) (λ (j : ℕ). outcome (refused j) s d i) (accepted p s f d i) (λ j. stays)
-      (λ g. takes (hearing p s f d (length i) e))))
-    where
-      stays : {A : Type 0} → isStoring (s .stage) ≡ true → A
-      stays z = never (sym asks ∙ z)
-
--- A REPLY OF THE REPAIR ROUND leaves the desk, and where it ends the read, the item is read from the desk's first m slots
-module _ (p : Plan) (s : Session) (f d i : List ℕ) (stores : isStoring (s .stage) ≡ true) where
-  abbrev Stays : Outcome → Type 0
-  Stays x = (x .desk ≡ d) × ((t n : ℕ) → x .said ≡ done t n → x .item ≡ collected p d i)
-
-  turned-away : (j : ℕ) → Stays (outcome (refused j) s d i)
-  turned-away j = (refl, λ t n e. let z : _≡_ {A = ℕ} 0 1 = cc in absurd (omega arith))
-
-  counts : Stays (accepted p s f d i)
-  unfolding accepted stored
-  counts = rw stores (go (ltb (heardCount (markedOf s (frameNode f) Record .marks)) (replies p)))
-    where
-      go : (b : Bool)
-          → Stays (cond b (outcome stillOpen (markedOf s (frameNode f) Record) d i)
-          (outcome (done (stampNumber (s .stamp)) (s .round)) (endedOf (markedOf s (frameNode f) Record)) d (collected p d i)))
-      go true = (refl, λ t n e. let z : _≡_ {A = ℕ} 0 1 = cc in absurd (omega arith))
-      go false = (refl, λ t n e. refl)
-
-  pub repair-stays : (t : Took) (d₂ i₂ : List ℕ) → ReadReplyCall p s f d i t d₂ i₂
-      → (d₂ ≡ d) × ((x n : ℕ) → saidOf (t .answer) ≡ done x n → i₂ ≡ collected p d i)
-  unfolding readReply
-  repair-stays t d₂ i₂ c =
-      subst Stays (sym (c .is))
-      (outcome-all Stays (replyLadder Read p s f d (length i)) (λ (j : ℕ). outcome (refused j) s d i) _ turned-away
-      (λ e. outcome-all Stays (recordLadder p s f) (λ (j : ℕ). outcome (refused j) s d i) (accepted p s f d i) turned-away (λ g. counts)))

@@ -12,12 +12,12 @@ use lib.ListN.{length, replicate}
 use Rattle.octets.specs.Bytes.{part, put, num, numFrom, alike}
 use Rattle.terms.specs.Ladder.{first, all}
 use Rattle.terms.specs.Terms.{planOk, tableOk, columnOf, recordLength, classOf, decided}
-use Rattle.terms.specs.Stamp.{stampAt, zeroStamp}
+use Rattle.terms.specs.Stamp.{then, stampAt, stampNumber, zeroStamp}
 use Rattle.terms.specs.declared.Plan.{Plan}
 use Rattle.terms.specs.declared.Member.the-variants.{Repairable}
 use Rattle.terms.specs.declared.Clients.the-variants.{Crash}
 use Rattle.field.specs.Field.{xtime, mulN, mul, square, sumPow, inv, div}
-use Rattle.fragments.specs.Fragments.{among, tabulate, ratio, weightOf, blend, value, regenerated}
+use Rattle.fragments.specs.Fragments.{among, from, laid, tabulate, ratio, weightOf, blend, value, regenerated}
 use Rattle.recover.specs.Recover.{slotFilled, refilled}
 use Rattle.frame.specs.Frame.{shaped, bodyFits, oneOf, forParty, goodFrame, goodReply}
 use Rattle.record.specs.Desk.{fragmentIn}
@@ -28,21 +28,21 @@ use Rattle.session.specs.declared.Session.{Session}
 use Rattle.session.specs.declared.Took.{Took}
 use Rattle.session.specs.declared.Operation.the-variants.{Read}
 use Rattle.session.specs.declared.Stage.the-variants.{Asking}
-use Rattle.session.specs.declared.Answer.the-variants.{Open}
-use Rattle.session.specs.Session.{askNow, kindAwaited, storingOf, markedOf}
+use Rattle.session.specs.declared.Answer.the-variants.{Open, Done}
+use Rattle.session.specs.Session.{askNow, kindAwaited, storingOf, markedOf, endedOf}
 use Rattle.session.specs.Ranges.{standingRules, openRules, inRange}
 use Rattle.session.specs.Reply.{lengthsOk, awaited, isHeard, bears}
-use Rattle.session.specs.Reader.{sound, actOn, actFor, closed, settled, heard, accepted, repaired, readReply, ReadReplyCall}
+use Rattle.session.specs.Reader.{sound, actOn, actFor, closed, settled, heard, stored, accepted, repaired, collected, readReply, ReadReplyCall}
 use Rattle.session.specs.Opening.{freshOf, openWith, OpenCall}
 use Rattle.session.specs.declared.opening.Opened.{Opened}
 use Rattle.session.specs.declared.opening.Opening.the-variants.{Accepted}
 use Rattle.session.proofs.Kept.{Kept}
 use Rattle.demands.specs.Endings.{after, deskAfter}
-use Rattle.demands.specs.Repair.{Holds}
-use Rattle.demands.specs.Turns.{Turn}
+use Rattle.demands.specs.Turns.{Turn, Turns}
+use Rattle.demands.specs.Repair.{Holds, EachTurn, Rests}
 use Rattle.demands.proofs.Sessions.{every-session}
 use Rattle.demands.proofs.Instances.{small, small-octets}
-use Rattle.demands.proofs.Repair.{repair-opens}
+use Rattle.demands.proofs.RepairRound.{repair-opens, repair-ends}
 
 pub plan : Plan
 plan = record { n = 4; t = 1; b = 0; q = 3; m = 2; f = 1; member = Repairable; clients = Crash; w = 1 }
@@ -98,13 +98,49 @@ desk-small = refl
 -- so every slot holds what `repair-opens` says
 pub so-held : (k : ℕ) → k < plan .n → Holds plan (closed plan (after plan session frame) (deskAfter plan frame desk)) (deskAfter plan frame desk) left k
 unfolding session took
-so-held = repair-opens plan session frame desk item (small-octets frame frame-small) (small-octets desk desk-small) refl took left item opens-so refl
+so-held = repair-opens plan session frame desk item refl took left item opens-so refl (small-octets desk desk-small) (small-octets frame frame-small)
 
 -- and the fragments are those of document 01's table
 fragments-are : (fragmentIn plan left 0 ++ (fragmentIn plan left 1 ++ (fragmentIn plan left 2 ++ fragmentIn plan left 3))) ≡ 0 ∷ 128 ∷ 27 ∷ 155 ∷ []
 unfolding left repaired refilled slotFilled regenerated among tabulate value blend weightOf ratio xtime mulN mul square sumPow inv div put part plan slot desk session recordLength
     closeWith leadOf stepOf aheadOf setOf joinsOf slotStamp num numFrom alike
 fragments-are = refl
+
+-- ---- the repair round: write replies of nodes 0, 1 and 3, which bear the timestamp and the ask number 6
+stored-by : ℕ → List ℕ
+stored-by k = (0 ∷ 0 ∷ 0 ∷ 51 ∷ 1 ∷ 4 ∷ k ∷ 0 ∷ 0 ∷ 0 ∷ 0 ∷ 0 ∷ 0 ∷ 0 ∷ 6 ∷ 0 ∷ 0 ∷ 0 ∷ 0 ∷ 0 ∷ 0 ∷ 0 ∷ 1 ∷ []) ++ replicate 32 0
+
+turn-open : ℕ → Session → Turn
+turn-open k s =
+    record { reply = stored-by k; item = item; took = record { answer = Open; session = markedOf s k Record }; deskLeft = left; itemLeft = item }
+
+pub first-turn : Turn
+first-turn = turn-open 0 (took .session)
+
+pub second-turn : Turn
+second-turn = turn-open 1 (first-turn .took .session)
+
+-- the item is then 00 80
+pub last-turn : Turn
+last-turn =
+    record {
+      reply = stored-by 3;
+      item = item;
+      took = record { answer = Done (stampAt desk 0) 1; session = endedOf (markedOf (second-turn .took .session) 3 Record) };
+      deskLeft = left;
+      itemLeft = 0 ∷ 128 ∷ [];
+    }
+
+turns-so : Turns plan (took .session) left (first-turn ∷ second-turn ∷ last-turn ∷ [])
+unfolding first-turn second-turn last-turn turn-open stored-by plan slot desk session item took left readReply first planOk tableOk columnOf all recordLength lengthsOk
+    inRange standingRules openRules heardCount every slotsFit slotFits slotStamp underOf num numFrom part alike goodReply goodFrame shaped forParty oneOf bodyFits
+    awaited askNow kindAwaited isHeard bears accepted stored collected laid from closeWith leadOf stepOf aheadOf setOf joinsOf repaired refilled slotFilled regenerated
+    among tabulate value blend weightOf ratio xtime mulN mul square sumPow inv div put stampAt stampNumber then
+turns-so = (record { is = refl }, (record { is = refl }, (record { is = refl }, tt)))
+
+pub ends-so : EachTurn (Rests plan (closed plan (after plan session frame) (deskAfter plan frame desk)) (deskAfter plan frame desk) left) (first-turn ∷ second-turn ∷ last-turn ∷ [])
+unfolding session took
+ends-so = repair-ends plan session frame desk item refl took left item opens-so refl (first-turn ∷ second-turn ∷ last-turn ∷ []) turns-so
 
 -- ---- an opened read that hears a first triple
 pub opened : Opened

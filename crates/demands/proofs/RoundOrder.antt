@@ -7,7 +7,7 @@ use native.Mathlib.Nat.{mul-le-mul-right, suc-mul, zero-add}
 use native.Mathlib.Omega.{arith}
 use borrow.Author.Tests.{ltb-true, ltb-false}
 use lib.Dec.{ltb}
-use lib.ListN.{length, take, drop, length-drop, take-append-drop}
+use lib.ListN.{length, take, drop, take-append-drop}
 use lib.Seq.{set-comm, length-take-le, take-append-seam, drop-append-add}
 use Rattle.octets.specs.Bytes.{put}
 use Rattle.octets.proofs.Laws.{put-left, length-put}
@@ -17,7 +17,7 @@ use Rattle.frame.specs.Frame.{frameNode, bodyOf}
 use Rattle.rounds.proofs.Laws.{slot-room}
 use Rattle.session.specs.declared.Session.{Session}
 use Rattle.session.specs.Reply.{bears}
-use Rattle.session.proofs.Readers.{bears-is}
+use Rattle.session.proofs.Slots.{long-body, long-after}
 use Rattle.demands.specs.Endings.{heardAs, after, deskAfter}
 use Rattle.demands.specs.Round.{Each, OneANode, allMarked, allSlotted}
 use Rattle.demands.proofs.Order.{strict}
@@ -71,9 +71,6 @@ marks-comm p s f g n = λ j. record {
 }
 
 module _ (p : Plan) where
-  pub body-long : (f : List ℕ) → bears p f ≡ true → length (bodyOf f) ≡ recordLength p
-  body-long f e = length-drop 15 f ∙ (let z = bears-is p f (bears p f) refl e .1 in omega arith)
-
   abbrev at : List ℕ → ℕ
   at f = frameNode f * recordLength p
 
@@ -85,7 +82,7 @@ module _ (p : Plan) where
           → cond u (put (cond t (put d (at f) (bodyOf f)) d) (at g) (bodyOf g)) (cond t (put d (at f) (bodyOf f)) d)
           ≡ cond t (put (cond u (put d (at g) (bodyOf g)) d) (at f) (bodyOf f)) (cond u (put d (at g) (bodyOf g)) d)
       go true true a b =
-          slots-comm d (bodyOf f) (bodyOf g) (frameNode f) (frameNode g) (p .n) (recordLength p) hf hg (λ e. n (sym e)) l (body-long f a) (body-long g b)
+          slots-comm d (bodyOf f) (bodyOf g) (frameNode f) (frameNode g) (p .n) (recordLength p) hf hg (λ e. n (sym e)) l (long-body p f a) (long-body p g b)
       go true false a b = refl
       go false true a b = refl
       go false false a b = refl
@@ -94,10 +91,7 @@ module _ (p : Plan) where
   length-after d f h l = go (bears p f) refl
     where
       go : (t : Bool) → bears p f ≡ t → length (cond t (put d (at f) (bodyOf f)) d) ≡ p .n * recordLength p
-      go true e =
-          let z = body-long f e in
-          let w = slot-room (frameNode f) (p .n) (recordLength p) (length d) h (omega arith) in
-          length-put d (at f) (bodyOf f) (omega arith) ∙ l
+      go true e = long-after p f d h l e
       go false e = l
 
   -- ---- all replies

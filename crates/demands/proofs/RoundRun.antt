@@ -70,7 +70,7 @@ module _ (p : Plan) (i : List ℕ) where
     rest : Each (Fits p s) (g ∷ fs) → Each (Unheard s) (g ∷ fs) → OneANode (f ∷ g ∷ fs) → Hears (after p s f) (deskAfter p f d) (g ∷ fs)
     rest a b o =
         record {
-          ready = next p s f d i k l (lt-ltb (heardCount (after p s f .marks)) (replies p) (omega (arith, counted)));
+          ready = next p s f d i k (lt-ltb (heardCount (after p s f .marks)) (replies p) (omega (arith, counted)));
           long = length-marked p s f l (low-16 p s f d i k);
           fits = each-map (Fits p s) (Fits p (after p s f)) (λ z q. fits-later p s (frameNode f) (heardAs p f) z q) (g ∷ fs) a;
           fresh = each-map (λ (z : List ℕ). Unheard s z × (frameNode z ≡ frameNode f → ⊥)) (Unheard (after p s f))

@@ -6,5 +6,6 @@ pub mod Oweds
 pub mod Closings
 pub mod Readers
 pub mod Writers
+pub mod Slots
 pub mod Kept
 pub mod ReadKept

@@ -10,7 +10,7 @@ use Rattle.terms.specs.Ladder.{Rung, on, first}
 use Rattle.terms.specs.Terms.{refusalNumber, classNumber, verdictNumber}
 use Rattle.terms.specs.declared.Class.{Class}
 use Rattle.terms.specs.declared.Class.the-variants as class
-use Rattle.terms.specs.declared.Verdict as verdicts
+use Rattle.terms.specs.declared.Verdict.{Verdict}
 use Rattle.terms.specs.declared.Verdict.the-variants as verdict
 use Rattle.terms.specs.declared.Refusal.{Refusal}
 use Rattle.terms.specs.declared.Refusal.the-variants.{OutsidePlan, WrongLength, WrongBook, WrongFrame, TimeZero, HashFails, OtherBytes, NoRoom, OutOfRange, NotAwaited, AlreadyHeard, NotBelow, AskTooHigh, HasEnded}
@@ -49,9 +49,10 @@ pub record Given (l : List Rung) (k : ℕ) : Type 0 where
   pub is : l ≡ before ++ (on k true ∷ after)
   pub none : None before
 
-pub data Verdict : Type 0 where
-  refused : ℕ → Verdict
-  passes : Verdict
+-- what a ladder came to
+pub data Came : Type 0 where
+  refused : ℕ → Came
+  passes : Came
 
 -- refused k exactly when its condition holds and none before it; passed exactly when none holds
 pub given : (l : List Rung) (k : ℕ) → first l refused passes ≡ refused k → Given l k
@@ -72,8 +73,8 @@ unfolding first
 given-back [] a k n = refl
 given-back (x ∷ b) a k n = rw (n .0) (given-back b a k (n .1))
 
--- every other reading of a ladder goes by its verdict
-abbrev pub read : {A : Type 0} → Verdict → (ℕ → A) → A → A
+-- every other reading of a ladder goes by what it came to
+abbrev pub read : {A : Type 0} → Came → (ℕ → A) → A → A
 read (refused k) refuse pass = refuse k
 read passes refuse pass = pass
 
@@ -139,15 +140,15 @@ class-back class.Incomplete = refl
 pub class-one : (x y : Class) → classNumber x ≡ classNumber y → x ≡ y
 class-one x y e = sym (class-back x) ∙ ap classBack e ∙ class-back y
 
-verdictBack : ℕ → verdicts.Verdict
+verdictBack : ℕ → Verdict
 verdictBack k = cond (eqb k 1) verdict.Complete (cond (eqb k 2) verdict.Repair (cond (eqb k 3) verdict.Aborted verdict.Incomplete))
 
-verdict-back : (x : verdicts.Verdict) → verdictBack (verdictNumber x) ≡ x
+verdict-back : (x : Verdict) → verdictBack (verdictNumber x) ≡ x
 unfolding verdictBack
 verdict-back verdict.Complete = refl
 verdict-back verdict.Repair = refl
 verdict-back verdict.Aborted = refl
 verdict-back verdict.Incomplete = refl
 
-pub verdict-one : (x y : verdicts.Verdict) → verdictNumber x ≡ verdictNumber y → x ≡ y
+pub verdict-one : (x y : Verdict) → verdictNumber x ≡ verdictNumber y → x ≡ y
 verdict-one x y e = sym (verdict-back x) ∙ ap verdictBack e ∙ verdict-back y

@@ -1,5 +1,5 @@
 -- A WHOLE READ IS FIGURE 3'S. Over any calls from opening, each answer is what READ says of the response sets of the rounds closed so far
--- (read-run, opened-read). Assumes nothing.
+-- (read-run, opened-read), and each accepted reply is a turn of DO_READ's loop (record-hears, first-hears). Assumes nothing.
 use Prim.{Unit, tt}
 use Prim.Native.Nat.{ℕ, zero, suc, _+_, _-_, _*_, _≤_, _<_}
 use mathlib.Core.Path.{_≡_, refl, sym, ap, ap₂, _∙_, subst}
@@ -33,7 +33,7 @@ use Rattle.rounds.specs.declared.Heard.{Heard}
 use Rattle.rounds.specs.declared.Heard.the-variants.{Unheard, First, Record}
 use Rattle.rounds.specs.declared.Mark.{Mark}
 use Rattle.rounds.specs.declared.Bound.the-variants.{Free, Under}
-use Rattle.rounds.specs.Rounds.{bitOf, heardCount, markOf, restUnheard}
+use Rattle.rounds.specs.Rounds.{bitOf, heardCount, markOf, restUnheard, underOf}
 use Rattle.session.specs.declared.Session.{Session}
 use Rattle.session.specs.declared.Stage.{Stage}
 use Rattle.session.specs.declared.Stage.the-variants.{Asking, Storing, Ended}
@@ -50,8 +50,8 @@ use Rattle.session.specs.declared.opening.Opened.{Opened}
 use Rattle.session.specs.declared.opening.Opening.the-variants.{Accepted}
 use Rattle.session.specs.Opening.{OpenCall, freshOf}
 use Rattle.session.proofs.Readers.{bears-is}
-use Rattle.report.specs.Triple.{Message, null, strung}
-use Rattle.report.specs.Figure3.{READ-LATEST, READ-PREVIOUS, Decision, returned, repaired, ABORT, reading, LOOP, READ, goes-on}
+use Rattle.report.specs.Triple.{Message, Same, null, strung}
+use Rattle.report.specs.Figure3.{READ-LATEST, READ-PREVIOUS, Decision, returned, repaired, ABORT, reading, receives, LOOP, READ, goes-on}
 use Rattle.report.specs.Ours.{family, responses, sending, commandOf}
 use Rattle.report.specs.Decides.{Returns, Repairs, Reads, Decides}
 use Rattle.report.specs.Run as run
@@ -59,6 +59,7 @@ use Rattle.report.specs.Run.{Answered, closedBy, closing, closedOver, Re
 use Rattle.report.proofs.Lists.{strung-same}
 use Rattle.report.proofs.Triples.{octets-drop, octets-put}
 use Rattle.report.proofs.Sets.{size-is}
+use Rattle.report.proofs.Hears.{puts, said-by, said-first, valid-record, valid-first, in-time-is, first-in-time, unheard-has, record-after, first-after}
 use Rattle.report.proofs.Erasure.{fragment-place, laid-is}
 use Rattle.report.proofs.Round.{Full, round-decides}
 use Rattle.report.proofs.Marks.{no-mark, not-heard, count-set, mark-own, mark-other, slot-own, slot-other, Passed, one-cross}
@@ -343,6 +344,33 @@ module _ (p : Plan) (s : Session) (f d i : List ℕ) (sets : List (List Message)
         go j h m (no q) =
             subst (Passed p j) (sym (slot-other d body (recordLength p) (p .n) node (k .desk) body-length node-low j q))
             (k .passed j h (sym (mark-other (s .marks) node j (record { is = Record }) q) ∙ m))
+
+  -- AN ACCEPTED REPLY OF A READ ROUND IS PUT INTO THE RESPONSE SET AS LINES 8 TO 11 OF DO_READ PUT IT
+  module _ (k : Asks p s d sets) where
+    abbrev before : List Message
+    before = responses p (s .marks) d (p .n)
+
+    inside : node < length (s .marks)
+    inside = let n16 = plan-is p plan-ok .n-high in omega (arith, node-low, k .size)
+
+    pub record-hears : bears p f ≡ true
+        → Same (responses p (set (s .marks) node (record { is = Record })) (put d (node * recordLength p) (bodyOf f)) (p .n))
+        (receives (family p) (commandOf (s .bound)) before (said-by p node (bodyOf f)))
+    record-hears b =
+        subst (Same (responses p (set (s .marks) node (record { is = Record })) (put d (node * recordLength p) (bodyOf f)) (p .n)))
+        (sym (puts p (commandOf (s .bound)) before (said-by p node (bodyOf f))
+        (valid-record p node (bodyOf f) (omega (arith, body-length b, record-length p)) (octets-drop f 15 of) (body-passed b .timed) ∙ body-passed b .hashes)
+        (in-time-is (s .bound) (stamp (bodyOf f)) ∙ not-false (underOf (s .bound) (stamp (bodyOf f))) (rw b at (n₂ .1 .1 .0)))
+        (unheard-has p (s .marks) d node (p .n) unmarked)))
+        (record-after p (s .marks) d node node-low inside unmarked (bodyOf f) (k .desk) (body-length b))
+
+    pub first-hears : Same (responses p (set (s .marks) node (record { is = First })) d (p .n))
+        (receives (family p) (commandOf (s .bound)) before (said-first node))
+    first-hears =
+        subst (Same (responses p (set (s .marks) node (record { is = First })) d (p .n)))
+        (sym (puts p (commandOf (s .bound)) before (said-first node) (valid-first p node) (first-in-time (s .bound) (s .round) (ranges .0 .bounded))
+        (unheard-has p (s .marks) d node (p .n) unmarked)))
+        (first-after p (s .marks) d node node-low inside unmarked)
 
   round-high : s .round ≤ p .w
   round-high = leb-true (s .round) (p .w) (ranges .0 .high)

@@ -1,5 +1,7 @@
--- ONE REPLY IS ONE TURN OF DO_READ'S LOOP. A reply that a read round accepts is put into the response set, as lines 8 to 11 put it
--- (accepted-hears); one that is refused 11, 6 or 12 is left out by them (heard-hears, hash-hears, late-hears). Assumes nothing.
+-- One turn of DO_READ's loop. Its tests are the client's: VALIDATE is the hash checks of refusal 6 (valid-record), the bound's test that of
+-- refusal 12 (in-time-is), and S is in the set exactly where refusal 11 finds the node heard (heard-has, unheard-has). What fails one of them
+-- is left out (heard-hears, hash-hears, late-hears); what passes all is put in (puts), and a node that is marked then is in the set
+-- (record-after, first-after). Assumes nothing.
 use Prim.Native.Nat.{ℕ, zero, suc, _+_, _*_, _^_, _≤_, _<_}
 use mathlib.Core.Path.{_≡_, refl, sym, ap, ap₂, _∙_, subst}
 use mathlib.Core.Bool.{Bool, true, false, cond, not}
@@ -33,7 +35,7 @@ use Rattle.report.specs.Figure3.{Command, VALIDATE, in-time, has, with-i
 use Rattle.report.specs.Ours.{family, tripleOf, bearing, responseOf, responses, commandOf}
 use Rattle.report.proofs.Lists.{in-append, in-split}
 use Rattle.report.proofs.Triples.{stamp-low, validate-is}
-use Rattle.report.proofs.Marks.{Passed, mark-other, slot-own, slot-other}
+use Rattle.report.proofs.Marks.{mark-set, mark-other, slot-own, slot-other}
 
 -- ---- the four tests
 module _ (p : Plan) (command : Command) (R : List Message) (x : Message) where
@@ -156,6 +158,28 @@ module _ (p : Plan) (ms : List Mark) (d : List ℕ) where
   unheard-has k (suc n) u =
       has-append k (responses p ms d n) (responseOf p d n (markOf ms n)) ∙ rw (unheard-has k n u) (has-one k n (markOf ms n) refl u)
 
+  -- a node that is heard has one
+  one-has : (k : ℕ) (h : Heard) → eqb (bitOf h) 1 ≡ true → has k (responseOf p d k h) ≡ true
+  unfolding responseOf has
+  one-has k Unheard e = absurd (clash (sym e))
+  one-has k First e = rw (eq-eqb k k refl)
+  one-has k Record e = rw (eq-eqb k k refl)
+
+  pub heard-has : (k n : ℕ) → k < n → eqb (bitOf (markOf ms k)) 1 ≡ true → has k (responses p ms d n) ≡ true
+  unfolding responses
+  heard-has k zero h e = absurd (omega arith)
+  heard-has k (suc n) h e = has-append k (responses p ms d n) (responseOf p d n (markOf ms n)) ∙ go (ℕ-discrete k n) (λ l. heard-has k n l e)
+    where
+      or-true : (t : Bool) → cond t true true ≡ true
+      or-true true = refl
+      or-true false = refl
+
+      go : Dec (k ≡ n) → (k < n → has k (responses p ms d n) ≡ true) → cond (has k (responses p ms d n)) true (has k (responseOf p d n (markOf ms n))) ≡ true
+      go (yes q) more =
+          let w : has k (responseOf p d n (markOf ms n)) ≡ true = subst (λ (j : ℕ). has k (responseOf p d j (markOf ms j)) ≡ true) q (one-has k (markOf ms k) e) in
+          rw w (or-true (has k (responses p ms d n)))
+      go (no q) more = rw (more (omega arith))
+
 -- a mark is set and a desk handed back, in which the other nodes are as they were
 module _ (p : Plan) (ms ms₂ : List Mark) (d d₂ : List ℕ) (i : ℕ) (hi : i < p .n) (x : Message) (u : markOf ms i ≡ Unheard)
     (own : responseOf p d₂ i (markOf ms₂ i) ≡ x ∷ [])
@@ -191,3 +215,28 @@ module _ (p : Plan) (ms ms₂ : List Mark) (d d₂ : List ℕ) (i : ℕ) (hi : i
 
           go : At p ms d y (p .n) → In y (responses p ms₂ d₂ (p .n))
           go a = pick a (ℕ-discrete (a .k) i)
+
+-- the response of a node goes by its slot
+response-slot : (p : Plan) (d d₂ : List ℕ) (k : ℕ) (h : Heard) → slotOf p d₂ k ≡ slotOf p d k → responseOf p d₂ k h ≡ responseOf p d k h
+unfolding responseOf
+response-slot p d d₂ k Unheard e = refl
+response-slot p d d₂ k First e = refl
+response-slot p d d₂ k Record e = ap (λ (x : List ℕ). said-by p k x ∷ []) e
+
+module _ (p : Plan) (ms : List Mark) (d : List ℕ) (i : ℕ) (hi : i < p .n) (inside : i < length ms) (u : markOf ms i ≡ Unheard) where
+  pub first-after : Same (responses p (set ms i (record { is = First })) d (p .n)) (with-it (said-first i) (responses p ms d (p .n)))
+  unfolding responseOf
+  first-after =
+      after-is p ms (set ms i (record { is = First })) d d i hi (said-first i) u
+      (ap (responseOf p d i) (mark-set ms i (record { is = First }) inside))
+      (λ k hk q. ap (responseOf p d k) (mark-other ms i k (record { is = First }) q))
+
+  pub record-after : (rec : List ℕ) → length d ≡ p .n * recordLength p → length rec ≡ recordLength p
+      → Same (responses p (set ms i (record { is = Record })) (put d (i * recordLength p) rec) (p .n)) (with-it (said-by p i rec) (responses p ms d (p .n)))
+  unfolding responseOf
+  record-after rec ld lr =
+      after-is p ms (set ms i (record { is = Record })) d (put d (i * recordLength p) rec) i hi (said-by p i rec) u
+      (ap (responseOf p (put d (i * recordLength p) rec) i) (mark-set ms i (record { is = Record }) inside)
+      ∙ ap (λ (x : List ℕ). said-by p i x ∷ []) (slot-own d rec (recordLength p) (p .n) i ld lr hi))
+      (λ k hk q. ap (responseOf p (put d (i * recordLength p) rec) k) (mark-other ms i k (record { is = Record }) q)
+      ∙ response-slot p d (put d (i * recordLength p) rec) k (markOf ms k) (slot-other d rec (recordLength p) (p .n) i ld lr hi k q))

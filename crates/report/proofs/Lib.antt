@@ -11,3 +11,4 @@ pub mod Marks
 pub mod Hears
 pub mod Run
 pub mod Write
+pub mod Instances

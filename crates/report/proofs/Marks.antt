@@ -6,8 +6,8 @@ use mathlib.Core.Bool.{Bool, true, false}
 use mathlib.Core.List.{List, [], _∷_, _++_}
 use mathlib.Core.Logic.{_⊎_, inl, inr}
 use native.Mathlib.Omega.{arith}
-use borrow.Author.Tests.{ltb-true, ltb-false}
-use lib.Dec.{ltb}
+use borrow.Author.Tests.{ltb-true, ltb-false, eqb-false}
+use lib.Dec.{ltb, eqb}
 use lib.ListN.{length, set, replicate}
 use Rattle.octets.specs.Bytes.{part, put, alike, Octets}
 use Rattle.octets.proofs.Laws.{length-part, part-put-same, part-put-before, part-put-after}
@@ -52,12 +52,23 @@ mark-other (x ∷ ms) zero (suc k) m h = refl
 mark-other (x ∷ ms) (suc i) zero m h = refl
 mark-other (x ∷ ms) (suc i) (suc k) m h = mark-other ms i k m (λ e. h (ap suc e))
 
+pub mark-set : (ms : List Mark) (i : ℕ) (m : Mark) → i < length ms → markOf (set ms i m) i ≡ m .is
+mark-set [] i m h = absurd (omega arith)
+mark-set (x ∷ ms) zero m h = refl
+mark-set (x ∷ ms) (suc i) m h = mark-set ms i m (omega arith)
+
 -- one more is heard
-pub count-set : (ms : List Mark) (i : ℕ) → i < length ms → bitOf (markOf ms i) ≡ 0 → heardCount (set ms i (record { is = Record })) ≡ suc (heardCount ms)
+pub count-set : (ms : List Mark) (i : ℕ) (m : Mark) → i < length ms → markOf ms i ≡ Unheard → bitOf (m .is) ≡ 1 → heardCount (set ms i m) ≡ suc (heardCount ms)
 unfolding heardCount
-count-set [] i h e = absurd (omega arith)
-count-set (m ∷ ms) zero h e = let z : bitOf (m .is) ≡ 0 = e in omega (arith, z)
-count-set (m ∷ ms) (suc i) h e = ap (λ (n : ℕ). bitOf (m .is) + n) (count-set ms i (omega arith) e) ∙ omega arith
+count-set [] i m h u e = absurd (omega arith)
+count-set (x ∷ ms) zero m h u e = let z : bitOf (x .is) ≡ 0 = ap bitOf u in omega (arith, z, e)
+count-set (x ∷ ms) (suc i) m h u e = ap (λ (n : ℕ). bitOf (x .is) + n) (count-set ms i m (omega arith) u e) ∙ omega arith
+
+-- what refusal 11 leaves
+pub not-heard : (h : Heard) → eqb (bitOf h) 1 ≡ false → h ≡ Unheard
+not-heard Unheard e = refl
+not-heard First e = absurd (eqb-false 1 1 e refl)
+not-heard Record e = absurd (eqb-false 1 1 e refl)
 
 -- ---- slots of r bytes
 module _ (d x : List ℕ) (r n i : ℕ) (ld : length d ≡ n * r) (lx : length x ≡ r) (hi : i < n) where

@@ -1,5 +1,5 @@
 -- A WHOLE READ IS FIGURE 3'S. Over any calls from opening, each answer is what READ says of the response sets of the rounds closed so far
--- (read-run, opened-read). Assumes nothing.
+-- (read-run, opened-read), and each accepted reply is a turn of DO_READ's loop (record-hears, first-hears). Assumes nothing.
 use Prim.{Unit, tt}
 use Prim.Native.Nat.{ℕ, zero, suc, _+_, _-_, _*_, _≤_, _<_}
 use mathlib.Core.Path.{_≡_, refl, sym, ap, ap₂, _∙_, subst}
@@ -8,9 +8,9 @@ use mathlib.Core.List.{List, [], _∷_, _++_}
 use mathlib.Core.Logic.{_⊎_, inl, inr}
 use native.Mathlib.Decide.{ℕ-discrete}
 use native.Mathlib.Omega.{arith}
-use borrow.Author.Tests.{ltb-false, leb-true, leb-false, eqb-true, eqb-false, lt-ltb, not-false}
+use borrow.Author.Tests.{ltb-true, ltb-false, leb-true, leb-false, eqb-true, eqb-false, lt-ltb, not-false}
 use lib.Dec.{ltb, leb, eqb}
-use lib.ListN.{length, set, length-drop}
+use lib.ListN.{length, set, length-drop, length-set}
 use Rattle.octets.specs.Bytes.{part, put, Octets}
 use Rattle.octets.proofs.Laws.{length-put}
 use Rattle.terms.specs.Ladder.{first, _and_, _or_}
@@ -19,6 +19,7 @@ use Rattle.terms.specs.Terms.{planOk, recordLength}
 use Rattle.terms.specs.declared.Plan.{Plan}
 use Rattle.terms.specs.declared.Ask.{Ask}
 use Rattle.terms.proofs.Rungs.{None, both, clash}
+use Rattle.terms.proofs.Plans.{plan-is}
 use Rattle.terms.proofs.Facts.{facts}
 use Rattle.fragments.specs.Fragments.{among, from, regenerated, laid, Sources}
 use Rattle.fragments.proofs.Laws.{among-from, length-from, getD-from, itself, length-regenerated}
@@ -32,34 +33,36 @@ use Rattle.rounds.specs.declared.Heard.{Heard}
 use Rattle.rounds.specs.declared.Heard.the-variants.{Unheard, First, Record}
 use Rattle.rounds.specs.declared.Mark.{Mark}
 use Rattle.rounds.specs.declared.Bound.the-variants.{Free, Under}
-use Rattle.rounds.specs.Rounds.{heardCount, markOf, restUnheard}
+use Rattle.rounds.specs.Rounds.{bitOf, heardCount, markOf, restUnheard, underOf}
 use Rattle.session.specs.declared.Session.{Session}
 use Rattle.session.specs.declared.Stage.{Stage}
 use Rattle.session.specs.declared.Stage.the-variants.{Asking, Storing, Ended}
 use Rattle.session.specs.declared.Operation.the-variants.{Read}
 use Rattle.session.specs.Session.{isRead, isStoring, isEnded, replies, markedOf, endedOf, nextOf, storingOf, Said, refused, stillOpen, done, neverWritten, aborted, roundsSpent, saidOf}
 use Rattle.session.specs.Ranges.{inRange}
-use Rattle.session.specs.Reply.{bears, lengthsOk, replyLadder, recordLadder}
+use Rattle.session.specs.Reply.{bears, lengthsOk, isHeard, replyLadder, recordLadder}
 use Rattle.session.specs.Reader.{Outcome, outcome, headLength, collected, acted, closed, settled, heard, stored, accepted, readReply, ReadReplyCall}
 use Rattle.session.proofs.Checks.{none-applies, outcome-all, first-map}
-use Rattle.session.proofs.Made.{StandingIs, in-range-facts, rest-set}
+use Rattle.session.proofs.Made.{StandingIs, OpenIs, in-range-facts, rest-set}
 use Rattle.session.proofs.Rules.{Lengths, lengths-are}
 use Rattle.session.proofs.Openings.{accepted-session}
 use Rattle.session.specs.declared.opening.Opened.{Opened}
 use Rattle.session.specs.declared.opening.Opening.the-variants.{Accepted}
 use Rattle.session.specs.Opening.{OpenCall, freshOf}
 use Rattle.session.proofs.Readers.{bears-is}
-use Rattle.report.specs.Triple.{Message, null, strung}
-use Rattle.report.specs.Figure3.{READ-LATEST, READ-PREVIOUS, Decision, returned, repaired, ABORT, reading, LOOP, READ, goes-on}
+use Rattle.report.specs.Triple.{Message, Same, null, strung}
+use Rattle.report.specs.Figure3.{READ-LATEST, READ-PREVIOUS, Decision, returned, repaired, ABORT, reading, receives, LOOP, READ, goes-on}
 use Rattle.report.specs.Ours.{family, responses, sending, commandOf}
 use Rattle.report.specs.Decides.{Returns, Repairs, Reads, Decides}
 use Rattle.report.specs.Run as run
-use Rattle.report.specs.Run.{Answered, closedBy, closing, closedOver, RepairedTo, Spent, Tells, Repairing, EachTells, AllApart}
+use Rattle.report.specs.Run.{Answered, closedBy, closing, closedOver, RepairedTo, Spent, Tells, Repairing, EachTells, AllFull, AllApart}
 use Rattle.report.proofs.Lists.{strung-same}
 use Rattle.report.proofs.Triples.{octets-drop, octets-put}
+use Rattle.report.proofs.Sets.{size-is}
+use Rattle.report.proofs.Hears.{puts, said-by, said-first, valid-record, valid-first, in-time-is, first-in-time, unheard-has, record-after, first-after}
 use Rattle.report.proofs.Erasure.{fragment-place, laid-is}
 use Rattle.report.proofs.Round.{Full, round-decides}
-use Rattle.report.proofs.Marks.{no-mark, mark-own, mark-other, slot-own, slot-other, Passed, one-cross}
+use Rattle.report.proofs.Marks.{no-mark, not-heard, count-set, mark-own, mark-other, slot-own, slot-other, Passed, one-cross}
 
 -- ---- what is known between two calls: by the stage, of the session, its desk and the rounds closed so far
 -- in a read round: READ is to send what the bound says
@@ -68,6 +71,7 @@ pub record Asks (p : Plan) (s : Session) (d : List ℕ) (closed : List (List Mes
   pub rounds : s .round ≡ suc (length closed)
   pub desk : length d ≡ p .n * recordLength p
   pub octets : Octets d
+  pub size : length (s .marks) ≡ 16
   pub passed : (k : ℕ) → k < p .n → markOf (s .marks) k ≡ Record → Passed p k (slotOf p d k)
 
 -- in a repair round: READ has repaired, and the desk holds what DO_WRITE sends
@@ -91,15 +95,17 @@ Keeps p s d closed = KeepsAt (s .stage) p s d closed
 pub record Leaves (p : Plan) (o : Outcome) (closed : List (List Message)) : Type 0 where
   pub keeps : Keeps p (o .session) (o .desk) closed
   pub tells : Tells p (o .said) (o .item) closed
+  pub sized : AllFull p closed
 
 -- ---- a read round after a mark
 module _ (p : Plan) (s : Session) (d i : List ℕ) (sets : List (List Message)) (st : s .stage ≡ Asking) (k : Asks p s d sets)
-    (ok : planOk p ≡ true) (li : length i ≡ p .m * p .f) (rest : restUnheard (s .marks) (p .n) ≡ true) (few : s .round ≤ p .w) where
+    (ok : planOk p ≡ true) (li : length i ≡ p .m * p .f) (rest : restUnheard (s .marks) (p .n) ≡ true) (few : s .round ≤ p .w)
+    (most : heardCount (s .marks) ≤ replies p) (sz : AllFull p sets) where
   abbrev set-now : List Message
   set-now = responses p (s .marks) d (p .n)
 
   still : Leaves p (outcome stillOpen s d i) sets
-  still = record { keeps = subst (λ (x : Stage). KeepsAt x p s d sets) (sym st) k; tells = tt }
+  still = record { keeps = subst (λ (x : Stage). KeepsAt x p s d sets) (sym st) k; tells = tt; sized = sz }
 
   module _ (enough : replies p ≤ heardCount (s .marks)) (apart : AllApart (set-now ∷ sets)) where
     full : Full p s d i
@@ -119,6 +125,9 @@ module _ (p : Plan) (s : Session) (d i : List ℕ) (sets : List (List Message)) 
     unfolding READ
     loop-next = ap (λ (x : Decision). goes-on (family p) x set-now) (k .decision)
 
+    full-now : AllFull p (set-now ∷ sets)
+    full-now = (size-is p (s .marks) d rest ∙ omega (arith, most, enough), sz)
+
     counted : s .round ≡ length (set-now ∷ sets)
     counted = k .rounds
 
@@ -129,11 +138,11 @@ module _ (p : Plan) (s : Session) (d i : List ℕ) (sets : List (List Message)) 
         go true z =
             let w = c .never (eqb-true ts 0 z) in
             subst (λ (y : Outcome). Leaves p y (set-now ∷ sets)) (sym (w .1))
-            (record { keeps = tt; tells = (e ∙ (λ j. returned (eqb-true ts 0 z j) (w .0 j)), counted) })
+            (record { keeps = tt; tells = (e ∙ (λ j. returned (eqb-true ts 0 z j) (w .0 j)), counted); sized = full-now })
         go false z =
             let n = eqb-false ts 0 z in
             let l : 1 ≤ ts = pos ts n in
-            subst (λ (y : Outcome). Leaves p y (set-now ∷ sets)) (sym (c .value l)) (record { keeps = tt; tells = (inl e, counted) })
+            subst (λ (y : Outcome). Leaves p y (set-now ∷ sets)) (sym (c .value l)) (record { keeps = tt; tells = (inl e, counted); sized = full-now })
           where
             pos : (x : ℕ) → (x ≡ 0 → ⊥) → 1 ≤ x
             pos zero h = absurd (h refl)
@@ -151,8 +160,9 @@ module _ (p : Plan) (s : Session) (d i : List ℕ) (sets : List (List Message)) 
                 rounds = counted;
               };
           tells = tt;
+          sized = full-now;
         })
-    by-decision o ABORT e c = subst (λ (y : Outcome). Leaves p y (set-now ∷ sets)) (sym c) (record { keeps = tt; tells = (e, counted) })
+    by-decision o ABORT e c = subst (λ (y : Outcome). Leaves p y (set-now ∷ sets)) (sym c) (record { keeps = tt; tells = (e, counted); sized = full-now })
     by-decision o (reading READ-LATEST) e c = absurd c
     by-decision o (reading (READ-PREVIOUS ts)) e c = go (leb (p .w) (s .round)) refl
       where
@@ -160,7 +170,7 @@ module _ (p : Plan) (s : Session) (d i : List ℕ) (sets : List (List Message)) 
         go true z =
             let l = leb-true (p .w) (s .round) z in
             subst (λ (y : Outcome). Leaves p y (set-now ∷ sets)) (sym (c .cut l))
-            (record { keeps = tt; tells = (record { ts = ts; is = e; cut = omega (arith, few, l) }, counted) })
+            (record { keeps = tt; tells = (record { ts = ts; is = e; cut = omega (arith, few, l) }, counted); sized = full-now })
         go false z =
             let l = leb-false (p .w) (s .round) z in
             subst (λ (y : Outcome). Leaves p y (set-now ∷ sets)) (sym (c .next l))
@@ -171,9 +181,11 @@ module _ (p : Plan) (s : Session) (d i : List ℕ) (sets : List (List Message)) 
                     rounds = omega (arith, counted);
                     desk = k .desk;
                     octets = k .octets;
+                    size = refl;
                     passed = λ j h m. absurd (no-mark 16 j m);
                   };
               tells = tt;
+              sized = full-now;
             })
 
     closes : Leaves p (acted p s (closed p s d) d i) (set-now ∷ sets)
@@ -213,9 +225,9 @@ module _ (p : Plan) (d i : List ℕ) (ok : planOk p ≡ true) (ld : length d ≡
       own : (k : ℕ) → k < p .m → regenerated d head (recordLength p) (p .f) (from 0 (p .m)) k ≡ fragmentIn p d k
       own k h = sym (itself d head (recordLength p) (p .f) (from 0 (p .m)) k (sym (among-from k (p .m) ∙ lt-ltb k (p .m) h))) ∙ sym (fragment-place p d k)
 
-  stores : (s : Session) (f : List ℕ) (sets : List (List Message)) → s .stage ≡ Storing → Stores p s d sets → Leaves p (stored p s f d i) sets
+  stores : (s : Session) (f : List ℕ) (sets : List (List Message)) → s .stage ≡ Storing → Stores p s d sets → AllFull p sets → Leaves p (stored p s f d i) sets
   unfolding stored
-  stores s f sets st k = go (ltb (heardCount (markedOf s (frameNode f) Record .marks)) (replies p))
+  stores s f sets st k sz = go (ltb (heardCount (markedOf s (frameNode f) Record .marks)) (replies p))
     where
       go : (t : Bool) → Leaves p (cond t (outcome stillOpen (markedOf s (frameNode f) Record) d i)
           (outcome (done (stampNumber (s .stamp)) (s .round)) (endedOf (markedOf s (frameNode f) Record)) d (collected p d i))) sets
@@ -224,6 +236,7 @@ module _ (p : Plan) (d i : List ℕ) (ok : planOk p ≡ true) (ld : length d ≡
             keeps = subst (λ (x : Stage). KeepsAt x p (markedOf s (frameNode f) Record) d sets) (sym st)
                 (record { sent = k .sent; Data = k .Data; decision = k .decision; sends = k .sends; holds = k .holds; rounds = k .rounds });
             tells = tt;
+            sized = sz;
           }
       go false =
           record {
@@ -232,10 +245,11 @@ module _ (p : Plan) (d i : List ℕ) (ok : planOk p ≡ true) (ld : length d ≡
               inr (record { sent = k .sent; is = k .decision ∙ ap (repaired (k .sent) (stampNumber (s .stamp))) (sym (k .holds) ∙ sym collected-is) }),
               k .rounds,
             );
+            sized = sz;
           }
 
 -- ---- an accepted reply
-module _ (p : Plan) (s : Session) (f d i : List ℕ) (sets : List (List Message)) (of : Octets f) (keep : Keeps p s d sets)
+module _ (p : Plan) (s : Session) (f d i : List ℕ) (sets : List (List Message)) (of : Octets f) (keep : Keeps p s d sets) (sz : AllFull p sets)
     (e₁ : first (replyLadder Read p s f d (length i)) (λ (j : ℕ). j) 0 ≡ 0) (e₂ : first (recordLadder p s f) (λ (j : ℕ). j) 0 ≡ 0) where
   abbrev node : ℕ
   node = frameNode f
@@ -252,15 +266,27 @@ module _ (p : Plan) (s : Session) (f d i : List ℕ) (sets : List (List Message)
   lengths : Lengths p (length d) (length i)
   lengths = lengths-are p (length d) (length i) (not-false (lengthsOk p (length d) (length i)) (n₁ .1 .0))
 
-  standing : StandingIs p s
-  standing =
-      in-range-facts p s d (both (isRead (s .operation)) (inRange p s d) (not-false (isRead (s .operation) and inRange p s d) (n₁ .1 .1 .0)) .1) (n₁ .1 .1 .1 .0) .0
+  ranges : StandingIs p s × OpenIs p s d
+  ranges =
+      in-range-facts p s d (both (isRead (s .operation)) (inRange p s d) (not-false (isRead (s .operation) and inRange p s d) (n₁ .1 .1 .0)) .1) (n₁ .1 .1 .1 .0)
+
+  unmarked : markOf (s .marks) node ≡ Unheard
+  unfolding isHeard
+  unmarked = not-heard (markOf (s .marks) node) (n₁ .1 .1 .1 .1 .1 .1 .0)
 
   node-low : node < p .n
   node-low = reply-is p f (not-false (goodReply p f) (n₁ .1 .1 .1 .1 .0)) .node-low
 
   rest-after : (m : Mark) → restUnheard (set (s .marks) node m) (p .n) ≡ true
-  rest-after m = rest-set (s .marks) (p .n) node m node-low ∙ standing .rest
+  rest-after m = rest-set (s .marks) (p .n) node m node-low ∙ ranges .0 .rest
+
+  -- no more than N-t are heard
+  most-after : (m : Mark) → bitOf (m .is) ≡ 1 → length (s .marks) ≡ 16 → heardCount (set (s .marks) node m) ≤ replies p
+  most-after m b l =
+      let n16 = plan-is p plan-ok .n-high in
+      let c = count-set (s .marks) node m (omega (arith, node-low, l)) unmarked b in
+      let w = ltb-true (heardCount (s .marks)) (replies p) (ranges .1 .few) in
+      omega (arith, c, w)
 
   -- a first triple
   first-asks : Asks p s d sets → Asks p (markedOf s node First) d sets
@@ -270,6 +296,7 @@ module _ (p : Plan) (s : Session) (f d i : List ℕ) (sets : List (List Message)
         rounds = k .rounds;
         desk = k .desk;
         octets = k .octets;
+        size = length-set (s .marks) node (record { is = First }) ∙ k .size;
         passed = λ j h m. go j h m (ℕ-discrete j node);
       }
     where
@@ -306,6 +333,7 @@ module _ (p : Plan) (s : Session) (f d i : List ℕ) (sets : List (List Message)
           rounds = k .rounds;
           desk = length-put d (node * recordLength p) body (omega (arith, body-length, slot-fits node (p .n) (recordLength p) node-low, k .desk)) ∙ k .desk;
           octets = octets-put d (node * recordLength p) body (k .octets) (octets-drop f 15 of);
+          size = length-set (s .marks) node (record { is = Record }) ∙ k .size;
           passed = λ j h m. go j h m (ℕ-discrete j node);
         }
       where
@@ -317,19 +345,48 @@ module _ (p : Plan) (s : Session) (f d i : List ℕ) (sets : List (List Message)
             subst (Passed p j) (sym (slot-other d body (recordLength p) (p .n) node (k .desk) body-length node-low j q))
             (k .passed j h (sym (mark-other (s .marks) node j (record { is = Record }) q) ∙ m))
 
+  -- AN ACCEPTED REPLY OF A READ ROUND IS PUT INTO THE RESPONSE SET AS LINES 8 TO 11 OF DO_READ PUT IT
+  module _ (k : Asks p s d sets) where
+    abbrev before : List Message
+    before = responses p (s .marks) d (p .n)
+
+    inside : node < length (s .marks)
+    inside = let n16 = plan-is p plan-ok .n-high in omega (arith, node-low, k .size)
+
+    pub record-hears : bears p f ≡ true
+        → Same (responses p (set (s .marks) node (record { is = Record })) (put d (node * recordLength p) (bodyOf f)) (p .n))
+        (receives (family p) (commandOf (s .bound)) before (said-by p node (bodyOf f)))
+    record-hears b =
+        subst (Same (responses p (set (s .marks) node (record { is = Record })) (put d (node * recordLength p) (bodyOf f)) (p .n)))
+        (sym (puts p (commandOf (s .bound)) before (said-by p node (bodyOf f))
+        (valid-record p node (bodyOf f) (omega (arith, body-length b, record-length p)) (octets-drop f 15 of) (body-passed b .timed) ∙ body-passed b .hashes)
+        (in-time-is (s .bound) (stamp (bodyOf f)) ∙ not-false (underOf (s .bound) (stamp (bodyOf f))) (rw b at (n₂ .1 .1 .0)))
+        (unheard-has p (s .marks) d node (p .n) unmarked)))
+        (record-after p (s .marks) d node node-low inside unmarked (bodyOf f) (k .desk) (body-length b))
+
+    pub first-hears : Same (responses p (set (s .marks) node (record { is = First })) d (p .n))
+        (receives (family p) (commandOf (s .bound)) before (said-first node))
+    first-hears =
+        subst (Same (responses p (set (s .marks) node (record { is = First })) d (p .n)))
+        (sym (puts p (commandOf (s .bound)) before (said-first node) (valid-first p node) (first-in-time (s .bound) (s .round) (ranges .0 .bounded))
+        (unheard-has p (s .marks) d node (p .n) unmarked)))
+        (first-after p (s .marks) d node node-low inside unmarked)
+
   round-high : s .round ≤ p .w
-  round-high = leb-true (s .round) (p .w) (standing .high)
+  round-high = leb-true (s .round) (p .w) (ranges .0 .high)
 
   asks-leaves : s .stage ≡ Asking → (t : Bool) → bears p f ≡ t
       → AllApart (cond t (closedBy p (markedOf s node Record) (put d (node * recordLength p) (bodyOf f)) sets) (closedBy p (markedOf s node First) d sets))
       → Leaves p (cond t (settled p (markedOf s node Record) (put d (node * recordLength p) (bodyOf f)) i) (settled p (markedOf s node First) d i))
       (cond t (closedBy p (markedOf s node Record) (put d (node * recordLength p) (bodyOf f)) sets) (closedBy p (markedOf s node First) d sets))
   asks-leaves st true b a =
-      settles p (markedOf s node Record) (put d (node * recordLength p) (bodyOf f)) i sets st (record-asks b (subst (λ (x : Stage). KeepsAt x p s d sets) st keep))
-      plan-ok (lengths .item-is) (rest-after (record { is = Record })) round-high a
+      let k : Asks p s d sets = subst (λ (x : Stage). KeepsAt x p s d sets) st keep in
+      settles p (markedOf s node Record) (put d (node * recordLength p) (bodyOf f)) i sets st (record-asks b k)
+      plan-ok (lengths .item-is) (rest-after (record { is = Record })) round-high (most-after (record { is = Record }) refl (k .size)) sz a
   asks-leaves st false b a =
-      settles p (markedOf s node First) d i sets st (first-asks (subst (λ (x : Stage). KeepsAt x p s d sets) st keep))
-      plan-ok (lengths .item-is) (rest-after (record { is = First })) round-high a
+      let k : Asks p s d sets = subst (λ (x : Stage). KeepsAt x p s d sets) st keep in
+      settles p (markedOf s node First) d i sets st (first-asks k)
+      plan-ok (lengths .item-is) (rest-after (record { is = First })) round-high (most-after (record { is = First }) refl (k .size)) sz a
 
 -- the outcome of a call, and the rounds closed after it
 pub record Turn : Type 0 where
@@ -392,7 +449,7 @@ module _ (p : Plan) (s : Session) (f d i : List ℕ) (sets : List (List Message)
   abbrev Right : Turn → Type 0
   Right t = AllApart (t .sets) → Leaves p (t .now) (t .sets)
 
-  module _ (of : Octets f) (keep : Keeps p s d sets) where
+  module _ (of : Octets f) (keep : Keeps p s d sets) (sz : AllFull p sets) where
     taken-right : first (replyLadder Read p s f d (length i)) (λ (j : ℕ). j) 0 ≡ 0 → first (recordLadder p s f) (λ (j : ℕ). j) 0 ≡ 0 → Right taken
     taken-right e₁ e₂ = go (s .stage) refl
       where
@@ -400,19 +457,19 @@ module _ (p : Plan) (s : Session) (f d i : List ℕ) (sets : List (List Message)
         go Asking st = part (bears p f) refl
           where
             part : (t : Bool) → bears p f ≡ t → Right (cond t heardRecord heardFirst)
-            part true b a = asks-leaves p s f d i sets of keep e₁ e₂ st true b a
-            part false b a = asks-leaves p s f d i sets of keep e₁ e₂ st false b a
+            part true b a = asks-leaves p s f d i sets of keep sz e₁ e₂ st true b a
+            part false b a = asks-leaves p s f d i sets of keep sz e₁ e₂ st false b a
         go Storing st = λ a.
-            stores p d i (plan-ok p s f d i sets of keep e₁ e₂) (lengths p s f d i sets of keep e₁ e₂ .desk-is) (lengths p s f d i sets of keep e₁ e₂ .item-is)
-            s f sets st (subst (λ (x : Stage). KeepsAt x p s d sets) st keep)
-        go Ended st = λ a. absurd (clash (sym (ap isEnded st) ∙ n₁ p s f d i sets of keep e₁ e₂ .1 .1 .1 .0))
+            stores p d i (plan-ok p s f d i sets of keep sz e₁ e₂) (lengths p s f d i sets of keep sz e₁ e₂ .desk-is) (lengths p s f d i sets of keep sz e₁ e₂ .item-is)
+            s f sets st (subst (λ (x : Stage). KeepsAt x p s d sets) st keep) sz
+        go Ended st = λ a. absurd (clash (sym (ap isEnded st) ∙ n₁ p s f d i sets of keep sz e₁ e₂ .1 .1 .1 .0))
 
     call-leaves : AllApart (closing p s f d (length i) sets) → Leaves p (readReply p s f d i) (closing p s f d (length i) sets)
     call-leaves a =
         subst (λ (o : Outcome). Leaves p o (closing p s f d (length i) sets)) turned-now
         (subst (λ (l : List (List Message)). Leaves p (turned .now) l) turned-sets
-        (outcome-all Right (replyLadder Read p s f d (length i)) refuse (first (recordLadder p s f) refuse taken) (λ j b. record { keeps = keep; tells = tt })
-        (λ e₁. outcome-all Right (recordLadder p s f) refuse taken (λ j b. record { keeps = keep; tells = tt }) (λ e₂. taken-right e₁ e₂))
+        (outcome-all Right (replyLadder Read p s f d (length i)) refuse (first (recordLadder p s f) refuse taken) (λ j b. record { keeps = keep; tells = tt; sized = sz })
+        (λ e₁. outcome-all Right (recordLadder p s f) refuse taken (λ j b. record { keeps = keep; tells = tt; sized = sz }) (λ e₂. taken-right e₁ e₂))
         (subst AllApart (sym turned-sets) a)))
 
   -- the closed rounds are added to
@@ -446,20 +503,21 @@ repairing p s d sets e k =
     record { Data = q .Data; is = q .decision ∙ ap (λ (l : List Message). repaired l (stampNumber (s .stamp)) (q .Data)) (sym (q .sends)) }
 
 -- EACH CALL OF A READ TELLS WHAT FIGURE 3'S READ DECIDES OF THE RESPONSE SETS OF THE ROUNDS CLOSED SO FAR, cut at W
-pub read-run : (p : Plan) (s : Session) (d : List ℕ) (sets : List (List Message)) (cs : List Answered) → Keeps p s d sets → run.Reads p s d cs
-    → AllApart (closedOver p s d sets cs) → EachTells p s d sets cs
-read-run p s d sets [] k r a = tt
-read-run p s d sets (c ∷ cs) k r a =
+pub read-run : (p : Plan) (s : Session) (d : List ℕ) (sets : List (List Message)) (cs : List Answered) → Keeps p s d sets → AllFull p sets
+    → run.Reads p s d cs → AllApart (closedOver p s d sets cs) → EachTells p s d sets cs × AllFull p (closedOver p s d sets cs)
+read-run p s d sets [] k sz r a = (tt, sz)
+read-run p s d sets (c ∷ cs) k sz r a =
     let q : Leaves p (outcome (saidOf (c .took .answer)) (c .took .session) (c .desk) (c .left)) (closing p s (c .frame) d (length (c .item)) sets) =
     subst (λ (o : Outcome). Leaves p o (closing p s (c .frame) d (length (c .item)) sets)) (sym (r .1 .is))
-    (call-leaves p s (c .frame) d (c .item) sets (r .0) k (runs-fewer p (c .took .session) (c .desk) (closing p s (c .frame) d (length (c .item)) sets) cs a)) in
-    (q .tells, (λ e. repairing p (c .took .session) (c .desk) (closing p s (c .frame) d (length (c .item)) sets) e (q .keeps)), read-run p (c .took .session) (c .desk) (closing p s (c .frame) d (length (c .item)) sets) cs (q .keeps) (r .2) a)
+    (call-leaves p s (c .frame) d (c .item) sets (r .0) k sz (runs-fewer p (c .took .session) (c .desk) (closing p s (c .frame) d (length (c .item)) sets) cs a)) in
+    let t = read-run p (c .took .session) (c .desk) (closing p s (c .frame) d (length (c .item)) sets) cs (q .keeps) (q .sized) (r .2) a in
+    ((q .tells, (λ e. repairing p (c .took .session) (c .desk) (closing p s (c .frame) d (length (c .item)) sets) e (q .keeps)), t .0), t .1)
 
 -- FROM OPENING: no round is closed yet
 pub opened-read : (p : Plan) (a : Ask) (r : Opened) (d : List ℕ) (cs : List Answered) → OpenCall Read p a r → r .answer ≡ Accepted
     → length d ≡ p .n * recordLength p → Octets d → run.Reads p (r .session) d cs
-    → AllApart (closedOver p (r .session) d [] cs) → EachTells p (r .session) d [] cs
-opened-read p a r d cs call e ld od h apart = read-run p (r .session) d [] cs start h apart
+    → AllApart (closedOver p (r .session) d [] cs) → EachTells p (r .session) d [] cs × AllFull p (closedOver p (r .session) d [] cs)
+opened-read p a r d cs call e ld od h apart = read-run p (r .session) d [] cs start tt h apart
   where
     fresh : Keeps p (freshOf Read 1 Free a) d []
     fresh =
@@ -468,6 +526,7 @@ opened-read p a r d cs call e ld od h apart = read-run p (r .session) d [] cs st
           rounds = refl;
           desk = ld;
           octets = od;
+          size = refl;
           passed = λ j l m. absurd (no-mark 16 j m);
         }
 

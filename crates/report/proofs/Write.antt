@@ -6,7 +6,7 @@ use mathlib.Core.Path.{_≡_, refl, sym, ap, ap₂, _∙_, subst}
 use mathlib.Core.Bool.{Bool, true, false, cond, not}
 use mathlib.Core.List.{List, [], _∷_, _++_, append-nil, append-assoc}
 use native.Mathlib.Omega.{arith}
-use borrow.Author.Tests.{ltb-true, ltb-false, eqb-true, eqb-false, not-false}
+use borrow.Author.Tests.{ltb-true, ltb-false, eqb-true, not-false}
 use lib.Dec.{ltb, eqb}
 use lib.ListN.{length, set, length-append, length-set}
 use Rattle.octets.specs.Bytes.{part, num, be, Octets}
@@ -27,10 +27,9 @@ use Rattle.record.specs.Record.{crossOf, fragmentOf, fragmentHash}
 use Rattle.record.specs.Desk.{slotOf, crossMade, row, stampMade}
 use Rattle.record.proofs.Desks.{length-cross}
 use Rattle.frame.specs.Frame.{frameNode, bodyOf}
-use Rattle.rounds.specs.declared.Heard.the-variants.{Record}
+use Rattle.rounds.specs.declared.Heard.the-variants.{Unheard, Record}
 use Rattle.rounds.specs.declared.Bound.the-variants.{Free}
-use Rattle.rounds.specs.Rounds.{bitOf, heardCount, markOf}
-use Rattle.rounds.proofs.Laws.{bit-small}
+use Rattle.rounds.specs.Rounds.{heardCount, markOf}
 use Rattle.session.specs.declared.Session.{Session}
 use Rattle.session.specs.declared.Stage.{Stage}
 use Rattle.session.specs.declared.Stage.the-variants.{Asking, Storing, Ended}
@@ -51,7 +50,7 @@ use Rattle.report.specs.Figure2.{READ-TIMESTAMP, MAKE-CROSS-CHECKSUM, MA
 use Rattle.report.specs.Ours.{family, stampedAs, bearing, sending}
 use Rattle.report.specs.Run.{Answered, Writes, Timed, untimed, timing, Wrote, Sending, EachWrites}
 use Rattle.report.proofs.Lists.{strung-row, listed-same}
-use Rattle.report.proofs.Marks.{count-set}
+use Rattle.report.proofs.Marks.{not-heard, count-set}
 
 -- ---- the records of an item at a time are what DO_WRITE sends
 module _ (p : Plan) (t : ℕ) (i : List ℕ) (l : length i ≡ p .m * p .f) where
@@ -243,22 +242,15 @@ module _ (p : Plan) (s : Session) (f d i : List ℕ) (w : Timed) where
         let r = both (not (isRead (s .operation))) (inRange p s d) (not-false (not (isRead (s .operation)) and inRange p s d) (n .1 .1 .0)) in
         ltb-true (heardCount (s .marks)) (replies p) (in-range-facts p s d (r .1) (n .1 .1 .1 .0) .1 .few)
 
-    no-bit : bitOf (markOf (s .marks) (frameNode f)) ≡ 0
+    no-mark : markOf (s .marks) (frameNode f) ≡ Unheard
     unfolding isHeard
-    no-bit =
-        let z = eqb-false (bitOf (markOf (s .marks) (frameNode f))) 1 (n .1 .1 .1 .1 .1 .1 .0) in
-        let b = bit-small (markOf (s .marks) (frameNode f)) in
-        none-of (bitOf (markOf (s .marks) (frameNode f))) b z
-      where
-        none-of : (x : ℕ) → x ≤ 1 → (x ≡ 1 → ⊥) → x ≡ 0
-        none-of zero h k = refl
-        none-of (suc x) h k = absurd (k (omega arith))
+    no-mark = not-heard (markOf (s .marks) (frameNode f)) (n .1 .1 .1 .1 .1 .1 .0)
 
     module _ (k : Times p s w) where
       counted : heardCount (set (s .marks) (frameNode f) (record { is = Record })) ≡ suc (heardCount (s .marks))
       counted =
           let n16 = plan-is p (q .plan-ok) .n-high in
-          count-set (s .marks) (frameNode f) (omega (arith, q .reply .node-low, k .size)) no-bit
+          count-set (s .marks) (frameNode f) (record { is = Record }) (omega (arith, q .reply .node-low, k .size)) no-mark refl
 
       times-after : Times p (timedOf s (frameNode f) (time (bodyOf f))) heardTime
       unfolding MAX

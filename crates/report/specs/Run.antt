@@ -3,6 +3,7 @@
 --   Answered             a call: the frame and the item lent, and what it left
 --   Reads closing closedOver     the calls of a read; the response sets of its closed rounds, the last one first
 --   Tells EachTells      what an answer says, and that Figure 3's READ says it of the rounds closed so far; the same of each call of a run
+--   AllFull              each closed set has N-t responses
 --   Apart AllApart       (01) no two cross checksums of a response set share a hash; so of each closed set
 --   Writes timing        the calls of a write; the times of its time round and the item
 --   Wrote EachWrites     what an answer says, and that Figure 2's WRITE says it; what is sent in a write round; so of each call of a run
@@ -101,6 +102,11 @@ EachTells p s d before (c ∷ cs) =
     Tells p (saidOf (c .took .answer)) (c .left) (closing p s (c .frame) d (length (c .item)) before)
     × (c .took .session .stage ≡ Storing → Repairing p (c .took .session) (c .desk) (closing p s (c .frame) d (length (c .item)) before))
     × EachTells p (c .took .session) (c .desk) (closing p s (c .frame) d (length (c .item)) before) cs
+
+-- line 16 of DO_READ: until (|ResponseSet| = N - t)
+abbrev pub AllFull : Plan → List (List Message) → Type 0
+AllFull p [] = Unit {0}
+AllFull p (set ∷ sets) = (length set ≡ enough (family p)) × AllFull p sets
 
 -- of these strings, no two with one hash
 abbrev pub Apart : List Message → Type 0

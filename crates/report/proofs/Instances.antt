@@ -1,0 +1,234 @@
+-- The hypotheses of the theorems can be met. One node, one fragment of one byte (N1 t0 b0 Q1 m1 F1, R = 73), and the record of the byte 7 at
+-- time 1, whose hashes antt computes. A fresh book takes it (executed); a read that hears it is done with its timestamp in one round (read-so); a
+-- write that hears a time goes on to its write round (write-so). Assumes nothing.
+use Prim.{tt}
+use Prim.Native.Nat.{ℕ, zero, suc}
+use mathlib.Core.Path.{_≡_, refl, sym, ap, _∙_, subst}
+use mathlib.Core.Bool.{Bool, true, false, cond}
+use mathlib.Core.List.{List, [], _∷_}
+use mathlib.Core.Logic.{inl, inr}
+use borrow.Author.Tests.{ltb-true}
+use lib.Dec.{ltb, lit<}
+use lib.ListN.{length, replicate}
+use Rattle.octets.specs.Bytes.{part, put, over, num, numFrom, be, beOnto, alike, Octets}
+use Rattle.sha256.specs.Sha256.{sha256, after, compressOf, addedOf, roundsOf, roundOf, T1, T2, scheduleOf, words, padding, bigEndian, K}
+use Rattle.terms.specs.Ladder.{first, all}
+use Rattle.terms.specs.Stamp.{stampAt, stampNumber, then}
+use Rattle.terms.specs.Terms.{planOk, tableOk, columnOf, recordLength, classOf, decided}
+use Rattle.terms.specs.declared.Ask.{Ask}
+use Rattle.terms.specs.declared.Plan.{Plan}
+use Rattle.terms.specs.declared.Member.the-variants.{Repairable}
+use Rattle.terms.specs.declared.Clients.the-variants.{Byzantine}
+use Rattle.terms.proofs.Rungs.{both}
+use Rattle.fragments.specs.Fragments.{among, regenerated}
+use Rattle.frame.specs.Frame.{kindOf, frame, goodRequest, shaped, bodyFits, forParty, oneOf, goodFrame, goodReply}
+use Rattle.record.specs.Record.{fragmentHash, hashesOk, timeZero}
+use Rattle.record.specs.Desk.{row, crossMade}
+use Rattle.rounds.specs.declared.Bound.the-variants.{Free}
+use Rattle.rounds.specs.Rounds.{heardCount, every, slotStamp, slotsFit, slotFits, underOf, leadOf, stepOf, aheadOf, joinsOf, setOf, closeWith}
+use Rattle.recover.specs.Recover.{validates}
+use Rattle.session.specs.declared.Answer.the-variants.{Done, Open}
+use Rattle.session.specs.declared.Session.{Session}
+use Rattle.session.specs.declared.Operation.the-variants.{Write, Read}
+use Rattle.session.specs.declared.opening.Opened.{Opened}
+use Rattle.session.specs.declared.opening.Opening.the-variants.{Accepted}
+use Rattle.session.specs.Session.{askNow, kindAwaited, done, stillOpen}
+use Rattle.session.specs.Opening.{openWith, freshOf, OpenCall}
+use Rattle.session.specs.Ranges.{standingRules, openRules, inRange}
+use Rattle.session.specs.Reply.{lengthsOk, awaited, isHeard, bears}
+use Rattle.session.specs.Reader.{Outcome, outcome, sound, actOn, actFor, settled, heard, accepted, readReply, ReadReplyCall}
+use Rattle.session.specs.declared.Stage.the-variants.{Storing}
+use Rattle.session.specs.Writer.{Leaves, leaves, timeEnd, timeTurn, acceptedWrite, writeReply, WriteReplyCall}
+use Rattle.book.specs.Records.{timed, rising, some}
+use Rattle.book.specs.Book.{recordsFrom, header, joined, laidAs, laidOut, headed, filled, goodBook}
+use Rattle.node.specs.declared.Answer.the-variants.{Replied}
+use Rattle.node.specs.Node as node
+use Rattle.node.specs.Node.{NodeCall, served, answered, replies, replyTo, replied, zeroTime, hashFails, otherHeld, noRoom}
+use Rattle.demands.proofs.Node as theorems
+use Rattle.report.specs.Triple.{Message}
+use Rattle.report.specs.Ours.{bearing, responseOf, responses}
+use Rattle.report.specs.Run.{Answered, Reads, closing, closedOver, EachTells, AllFull, Apart, AllApart, Writes, untimed, EachWrites}
+use Rattle.report.proofs.Node.{Executes, write-acts, Added}
+use Rattle.report.proofs.Run.{opened-read}
+use Rattle.report.proofs.Write.{opened-write}
+
+abbrev plan : Plan
+plan = record { n = 1; t = 0; b = 0; q = 1; m = 1; f = 1; member = Repairable; clients = Byzantine; w = 1 }
+
+abbrev ask : Ask
+ask = record { 0 = 5 }
+
+abbrev start-to-write : Session
+start-to-write = freshOf Write 1 Free ask
+
+-- time 1; the hash of the cross checksum; the cross checksum, which is the hash of the fragment; the fragment
+rec : List ℕ
+rec =
+    0 ∷ 0 ∷ 0 ∷ 0 ∷ 0 ∷ 0 ∷ 0 ∷ 1 ∷ 182 ∷ 213 ∷ 141 ∷ 250 ∷ 101 ∷ 71 ∷ 193 ∷ 235 ∷ 127 ∷ 13 ∷ 79 ∷ 253 ∷ 62 ∷ 59 ∷ 214 ∷ 69 ∷ 34 ∷ 19 ∷ 33 ∷ 14 ∷ 165 ∷ 27 ∷ 170 ∷ 112 ∷ 185 ∷ 124 ∷ 49 ∷ 240 ∷ 17 ∷ 24 ∷ 114 ∷ 21 ∷ 202 ∷ 53 ∷ 135 ∷ 88 ∷ 246 ∷ 210 ∷ 126 ∷ 108 ∷ 244 ∷ 82 ∷ 114 ∷ 147 ∷ 121 ∷ 119 ∷ 167 ∷ 72 ∷ 253 ∷ 136 ∷ 57 ∷ 29 ∷ 182 ∷ 121 ∷ 206 ∷ 218 ∷ 125 ∷ 199 ∷ 191 ∷ 31 ∷ 0 ∷ 94 ∷ 232 ∷ 121 ∷ 7 ∷ []
+
+small : List ℕ → Bool
+small [] = true
+small (x ∷ l) = cond (ltb x 256) (small l) false
+
+small-octets : (l : List ℕ) → small l ≡ true → Octets l
+unfolding small
+small-octets [] e i = lit< tt
+small-octets (x ∷ l) e zero = ltb-true _ _ (both (ltb x 256) _ e .0)
+small-octets (x ∷ l) e (suc i) = small-octets l (both (ltb x 256) _ e .1) i
+
+-- ---- a read
+opened : Opened
+opened = record { answer = Accepted; session = freshOf Read 1 Free ask }
+
+abbrev start : Session
+start = freshOf Read 1 Free ask
+
+opens : OpenCall Read plan ask opened
+unfolding opened openWith first planOk tableOk columnOf all
+opens = record { is = refl }
+
+reply : List ℕ
+reply = frame 7 0 5 rec
+
+reply-small : small reply ≡ true
+unfolding reply rec small be beOnto
+reply-small = refl
+
+pub desk : List ℕ
+desk = replicate 73 0
+
+desk-small : small desk ≡ true
+unfolding desk small
+desk-small = refl
+
+left : Outcome
+left = readReply plan start reply desk (0 ∷ [])
+
+said-is : left .said ≡ done (stampNumber (stampAt rec 0)) 1
+unfolding left reply desk rec readReply first planOk tableOk columnOf all recordLength lengthsOk inRange standingRules openRules every heardCount slotsFit slotFits goodReply goodFrame shaped forParty oneOf bodyFits awaited askNow kindAwaited isHeard bears accepted heard settled closeWith leadOf stepOf aheadOf slotStamp joinsOf setOf actFor actOn sound validates decided classOf among regenerated fragmentHash row crossMade hashesOk underOf num numFrom part put be beOnto alike timeZero stampAt stampNumber then sha256 after compressOf addedOf roundsOf roundOf T1 T2 scheduleOf words padding bigEndian K
+said-is = refl
+
+pub call : Answered
+call = record { frame = reply; item = 0 ∷ []; took = record { answer = Done (stampAt rec 0) 1; session = left .session }; desk = left .desk; left = left .item }
+
+met : ReadReplyCall plan start reply desk (0 ∷ []) (record { answer = Done (stampAt rec 0) 1; session = left .session }) (left .desk) (left .item)
+unfolding left
+met = record { is = λ j. outcome (sym said-is j) (left .session) (left .desk) (left .item) }
+
+calls : Reads plan start desk (call ∷ [])
+unfolding call
+calls = (small-octets reply reply-small, met, tt)
+
+-- one round is closed, by one response
+heard-one : Message
+heard-one = bearing plan (put desk 0 rec) 0
+
+closed-one : closing plan start reply desk 1 [] ≡ (heard-one ∷ []) ∷ []
+unfolding heard-one closing responses responseOf reply desk rec first planOk tableOk columnOf all recordLength lengthsOk inRange standingRules openRules every heardCount slotsFit slotFits goodReply goodFrame shaped forParty oneOf bodyFits awaited askNow kindAwaited isHeard bears fragmentHash hashesOk underOf num numFrom part put be beOnto alike timeZero sha256 after compressOf addedOf roundsOf roundOf T1 T2 scheduleOf words padding bigEndian K
+closed-one = refl
+
+one-apart : (m : Message) → Apart (m ∷ [])
+one-apart m x y (inl a) (inl b) e = ap (λ (z : Message). z .Response .CC) (a ∙ sym b)
+one-apart m x y (inl a) (inr b) e = absurd b
+one-apart m x y (inr a) k e = absurd a
+
+apart : AllApart (closedOver plan start desk [] (call ∷ []))
+unfolding call
+apart = subst AllApart (sym closed-one) (one-apart heard-one, tt)
+
+-- the theorem at this run: READ returns that timestamp and the item that is left, in one round
+pub read-so : EachTells plan start desk [] (call ∷ []) × AllFull plan (closedOver plan start desk [] (call ∷ []))
+unfolding opened desk recordLength
+read-so = opened-read plan ask opened desk (call ∷ []) opens refl refl (small-octets desk desk-small) calls apart
+
+-- ---- a write
+opened-to-write : Opened
+opened-to-write = record { answer = Accepted; session = start-to-write }
+
+opens-to-write : OpenCall Write plan ask opened-to-write
+unfolding opened-to-write openWith first planOk tableOk columnOf all
+opens-to-write = record { is = refl }
+
+time-reply : List ℕ
+time-reply = frame 2 0 5 (be 8 3)
+
+time-small : small time-reply ≡ true
+unfolding time-reply small be beOnto
+time-small = refl
+
+pub after-time : Leaves
+after-time = writeReply plan start-to-write time-reply desk (7 ∷ [])
+
+still-is : after-time .said ≡ stillOpen
+unfolding after-time time-reply desk writeReply acceptedWrite timeTurn timeEnd first planOk tableOk columnOf all recordLength lengthsOk inRange standingRules openRules every heardCount slotsFit slotFits goodReply goodFrame shaped forParty oneOf bodyFits awaited askNow kindAwaited isHeard num numFrom part be beOnto
+still-is = refl
+
+pub write-call : Answered
+write-call =
+    record { frame = time-reply; item = 7 ∷ []; took = record { answer = Open; session = after-time .session }; desk = after-time .desk; left = 7 ∷ [] }
+
+write-met : WriteReplyCall plan start-to-write time-reply desk (7 ∷ []) (record { answer = Open; session = after-time .session }) (after-time .desk)
+unfolding after-time
+write-met = record { is = λ j. leaves (sym still-is j) (after-time .session) (after-time .desk) }
+
+write-calls : Writes plan start-to-write desk (write-call ∷ [])
+unfolding write-call
+write-calls = (small-octets time-reply time-small, write-met, tt)
+
+-- the theorem at this run
+pub write-so : EachWrites plan start-to-write desk untimed (write-call ∷ [])
+unfolding opened-to-write
+write-so = opened-write plan ask opened-to-write desk (write-call ∷ []) opens-to-write refl write-calls
+
+-- and its write round is open
+storing-is : after-time .session .stage ≡ Storing
+unfolding after-time time-reply desk writeReply acceptedWrite timeTurn timeEnd first planOk tableOk columnOf all recordLength lengthsOk inRange standingRules openRules every heardCount slotsFit slotFits goodReply goodFrame shaped forParty oneOf bodyFits awaited askNow kindAwaited isHeard num numFrom part be beOnto
+storing-is = refl
+
+-- ---- a node
+pub book : List ℕ
+book = over (laidOut plan 0 []) (replicate 84 0)
+
+book-small : small book ≡ true
+unfolding book small over laidAs header joined recordLength be beOnto
+book-small = refl
+
+pub request : List ℕ
+request = frame 3 0 5 rec
+
+request-small : small request ≡ true
+unfolding request rec small be beOnto
+request-small = refl
+
+pub taken : node.Outcome
+taken = served plan request book (replicate 88 0)
+
+replied-is : taken .answer ≡ replied 55
+unfolding taken request book rec served first planOk tableOk columnOf all recordLength node.lengthsOk goodBook headed filled rising timed recordsFrom goodRequest goodFrame shaped forParty oneOf bodyFits zeroTime hashFails otherHeld noRoom some fragmentHash hashesOk timeZero answered replies replyTo over laidAs header joined num numFrom part be beOnto alike sha256 after compressOf addedOf roundsOf roundOf T1 T2 scheduleOf words padding bigEndian K
+replied-is = refl
+
+node-met : NodeCall plan request book (replicate 88 0) (Replied 55) (taken .book) (taken .reply)
+unfolding taken
+node-met = record { is = λ j. node.outcome (sym replied-is j) (taken .book) (taken .reply) }
+
+kind-is : kindOf request ≡ 3
+unfolding request rec num numFrom part be beOnto
+kind-is = refl
+
+-- the theorem at this call: the request is executed as Figure 1 executes it
+pub executed : Executes plan request book (replicate 88 0) (taken .book) (taken .reply)
+executed = write-acts plan request book (replicate 88 0) (small-octets book book-small) (small-octets request request-small) 55 (taken .book) (taken .reply) node-met kind-is
+
+-- and none of the conditions that document 01 adds stands against it
+added : Added plan request book (replicate 88 0) (small-octets book book-small) (small-octets request request-small)
+added =
+    let c = theorems.clear plan request book (replicate 88 0) (theorems.replied-is plan request book (replicate 88 0) 55 (taken .book) (taken .reply) node-met .0) in
+    record {
+      plan = c .plan;
+      lengths = c .lengths;
+      book = c .good;
+      request = c .request;
+      time = c .time;
+      other = c .other;
+      room = c .room;
+    }

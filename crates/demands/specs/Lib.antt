@@ -1,8 +1,2 @@
-pub mod Deliver
-pub mod History
 pub mod Edges
-pub mod Endings
-pub mod Turns
-pub mod Round
-pub mod Repair
-pub mod Sessions
+pub mod Ends

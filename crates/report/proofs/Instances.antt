@@ -44,7 +44,7 @@ use Rattle.book.specs.Book.{recordsFrom, header, joined, laidAs, laidOut, heade
 use Rattle.node.specs.declared.Answer.the-variants.{Replied}
 use Rattle.node.specs.Node as node
 use Rattle.node.specs.Node.{NodeCall, served, answered, replies, replyTo, replied, zeroTime, hashFails, otherHeld, noRoom}
-use Rattle.demands.proofs.Node as theorems
+use Rattle.conduct.proofs.Node as theorems
 use Rattle.report.specs.Triple.{Message}
 use Rattle.report.specs.Ours.{bearing, responseOf, responses}
 use Rattle.report.specs.Run.{Answered, Reads, closing, closedOver, EachTells, AllFull, Apart, AllApart, Writes, untimed, EachWrites}

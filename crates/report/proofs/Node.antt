@@ -39,12 +39,12 @@ use Rattle.node.specs.declared.Made.the-variants.{Fresh}
 use Rattle.node.specs.Fresh.{FreshCall, FreshOutcome, freshOutcome, made, freshened, freshLadder}
 use Rattle.node.specs.Fresh as fresh
 use Rattle.node.proofs.Laws as nodes
-use Rattle.demands.specs.Deliver.{Among}
-use Rattle.demands.proofs.Order as order
-use Rattle.demands.proofs.One as one
-use Rattle.demands.proofs.Node as calls
-use Rattle.demands.proofs.Kept as keeps
-use Rattle.demands.proofs.Ladders as ladders
+use Rattle.conduct.specs.Deliver.{Among}
+use Rattle.conduct.proofs.Order as order
+use Rattle.conduct.proofs.One as one
+use Rattle.conduct.proofs.Node as calls
+use Rattle.conduct.proofs.Kept as keeps
+use Rattle.conduct.proofs.Ladders as ladders
 use Rattle.report.specs.Triple.{Triple, each, In, Same}
 use Rattle.report.specs.Figure1.{initial, INITIALIZE, RECEIVE-TIME-REQUEST, VALIDATE, with-it, RECEIVE-WRITE-REQUEST, RECEIVE-READ-LATEST, RECEIVE-READ-PREVIOUS}
 use Rattle.report.specs.Ours.{family, tripleOf, history, timeIn}
@@ -254,19 +254,19 @@ module _ (p : Plan) (node : ℕ) (b b₂ : List ℕ) (c : FreshCall p node b Fre
       ladders.by-ladder (λ (o : FreshOutcome). freshOutcome made b₂ ≡ o → recordsOf p b₂ ≡ []) (freshLadder p node b) refuse done
       (λ k g h. absurd (let s : made ≡ fresh.refused k = ap (λ (o : FreshOutcome). o .answer) h in let z : _≡_ {A = ℕ} 0 1 = cc in omega arith))
       (λ n h.
-          let l = both (leb 11 (length b)) (leb (length b) 65536) (not-false _ (n .1 .0)) in
-          let low : 11 ≤ length b = leb-true _ _ (l .0) in
-          let i : one.Laid p node b b₂ [] = record {
-            plan = not-false _ (n .0);
-            low = ltb-true _ _ (not-false _ (n .1 .1 .0));
-            high = leb-true _ _ (l .1);
-            bytes = ap (λ (o : FreshOutcome). o .book) h;
-            sizes = tt;
-            times = refl;
-            rise = refl;
-            fits = omega arith;
-          } in
-          one.is-records i)
+      let l = both (leb 11 (length b)) (leb (length b) 65536) (not-false _ (n .1 .0)) in
+      let low : 11 ≤ length b = leb-true _ _ (l .0) in
+      let i : one.Laid p node b b₂ [] = record {
+        plan = not-false _ (n .0);
+        low = ltb-true _ _ (not-false _ (n .1 .1 .0));
+        high = leb-true _ _ (l .1);
+        bytes = ap (λ (o : FreshOutcome). o .book) h;
+        sizes = tt;
+        times = refl;
+        rise = refl;
+        fits = omega arith;
+      } in
+      one.is-records i)
       (c .is)
 
   pub fresh-acts : history p b₂ ≡ INITIALIZE

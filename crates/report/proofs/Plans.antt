@@ -38,8 +38,7 @@ Table2-of p = Table2 (p .member) (p .n) (p .t) (p .b) (p .q) (p .m)
 -- AN ACCEPTED PLAN IS WITHIN ITS RANGES, AND TABLE 2 HOLDS OF IT
 pub accepted-is : (p : Plan) → planOk p ≡ true → Ranges p × Table2-of p
 accepted-is p e =
-    let q = plan-is p e in
-    (
+    let q = plan-is p e in (
       record { n-low = q .n-low; n-high = q .n-high; b-t = q .b-t; f-low = q .f-low; f-high = q .f-high; w-low = q .w-low; w-high = q .w-high },
       table (p .member) (p .n) (p .t) (p .b) (p .q) (p .m) (q .column),
     )

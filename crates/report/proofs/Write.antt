@@ -290,8 +290,7 @@ write-run p s d w [] k r = tt
 write-run p s d w (c ∷ cs) k r =
     let x : Timed = timing p s (c .frame) d (c .item) w in
     let q : Right p (leaves (saidOf (c .took .answer)) (c .took .session) (c .desk)) (timing p s (c .frame) d (c .item) w) =
-    subst (λ (o : Leaves). Right p o (timing p s (c .frame) d (c .item) w)) (sym (r .1 .is)) (call-right p s (c .frame) d (c .item) w k) in
-    (
+    subst (λ (o : Leaves). Right p o (timing p s (c .frame) d (c .item) w)) (sym (r .1 .is)) (call-right p s (c .frame) d (c .item) w k) in (
       q .wrote,
       (λ e. subst (λ (y : Stage). KeepsAt y p (c .took .session) (c .desk) (timing p s (c .frame) d (c .item) w)) e (q .keeps)),
       write-run p (c .took .session) (c .desk) (timing p s (c .frame) d (c .item) w) cs (q .keeps) (r .2),

@@ -1,0 +1,7 @@
+pub mod Deliver
+pub mod History
+pub mod Endings
+pub mod Turns
+pub mod Round
+pub mod Repair
+pub mod Sessions

@@ -1,0 +1,79 @@
+-- DEMAND 2. "Node, writer and reader act as the report lays down, with SHA-256 of FIPS 180-4 and the field of FIPS 197. An encoded block
+-- comes back from any m of its N fragments. Each refusal is given exactly when document 01 says."
+--   plan-as-the-report plan-by-the-report    accepted exactly by the ranges and Table 2
+--   node-as-the-report     the replies, and the set of versions after them, are Figure 1's
+--   write-as-the-report    a whole write, from its opening, is Figure 2's WRITE
+--   read-as-the-report     a whole read, from its opening, is Figure 3's READ, cut at W
+--   comes-back             an encoded block comes back from any m of its N fragments
+-- The figures are in report/specs, with (01) beside what document 01 adds or closes. That the hash and the field are those of the papers is
+-- said by the contracts of `digest`, `product` and `quotient`, over sha256/specs and field/specs. Each refusal exactly: Demand1, with
+-- is-refused, fresh-is-refused, opening-refuses, owed-refuses, so-write and so-read of conduct. Assumes nothing.
+use Prim.Native.Nat.{ℕ, _+_, _*_, _≤_, _<_}
+use mathlib.Core.Path.{_≡_}
+use mathlib.Core.Bool.{true}
+use mathlib.Core.List.{List, []}
+use lib.ListN.{length}
+use Rattle.octets.specs.Bytes.{Octets, over, be}
+use Rattle.fragments.specs.Fragments.{All, Distinct, laid, encoded}
+use Rattle.fragments.proofs.Theorems.{any-m-of-n}
+use Rattle.terms.specs.Stamp.{stamp}
+use Rattle.terms.specs.Terms.{planOk, recordLength}
+use Rattle.terms.specs.declared.Ask.{Ask}
+use Rattle.terms.specs.declared.Plan.{Plan}
+use Rattle.frame.specs.Frame.{kindOf, frameNode, askOf, bodyOf, frame}
+use Rattle.node.specs.declared.Answer.the-variants.{Replied}
+use Rattle.node.specs.Node.{NodeCall}
+use Rattle.session.specs.declared.opening.Opened.{Opened}
+use Rattle.session.specs.declared.opening.Opening.the-variants.{Accepted}
+use Rattle.session.specs.declared.Operation.the-variants.{Write, Read}
+use Rattle.session.specs.Opening.{OpenCall}
+use Rattle.report.specs.Figure1.{RECEIVE-TIME-REQUEST, RECEIVE-READ-LATEST, RECEIVE-READ-PREVIOUS}
+use Rattle.report.specs.Ours.{history, timeIn}
+use Rattle.report.specs.Run.{Answered, Reads, AllApart, closedOver, EachTells, Writes, untimed, EachWrites}
+use Rattle.report.proofs.Plans.{Ranges, Table2-of, accepted-is, accepted-back}
+use Rattle.report.proofs.Node.{Sends, Executes, time-acts, latest-acts, previous-acts, write-acts}
+use Rattle.report.proofs.Run.{opened-read}
+use Rattle.report.proofs.Write.{opened-write}
+
+-- A plan is accepted exactly when it is within document 01's ranges and Table 2 holds of it.
+pub plan-as-the-report : (p : Plan) → planOk p ≡ true → Ranges p × Table2-of p
+plan-as-the-report = accepted-is
+
+pub plan-by-the-report : (p : Plan) → Ranges p → Table2-of p → planOk p ≡ true
+plan-by-the-report = accepted-back
+
+-- Figure 1, by the kind of the request: what is sent, and the History after it.
+pub record AsFigure1 (p : Plan) (f b y b₂ y₂ : List ℕ) : Type 0 where
+  pub time : kindOf f ≡ 1 → (y₂ ≡ over (frame 2 (frameNode f) (askOf f) (be 8 (timeIn (RECEIVE-TIME-REQUEST (history p b))))) y) × (b₂ ≡ b)
+  pub latest : kindOf f ≡ 5 → Sends p f y y₂ (RECEIVE-READ-LATEST (history p b)) × (b₂ ≡ b)
+  pub previous : kindOf f ≡ 6 → Sends p f y y₂ (RECEIVE-READ-PREVIOUS (history p b) (stamp (bodyOf f))) × (b₂ ≡ b)
+  pub write : kindOf f ≡ 3 → Executes p f b y b₂ y₂
+
+pub node-as-the-report : (p : Plan) (f b y : List ℕ) → Octets f → Octets b → (n : ℕ) (b₂ y₂ : List ℕ) → NodeCall p f b y (Replied n) b₂ y₂
+    → AsFigure1 p f b y b₂ y₂
+node-as-the-report p f b y of ob n b₂ y₂ c =
+    record {
+      time = time-acts p f b y ob of n b₂ y₂ c;
+      latest = latest-acts p f b y ob of n b₂ y₂ c;
+      previous = previous-acts p f b y ob of n b₂ y₂ c;
+      write = write-acts p f b y ob of n b₂ y₂ c;
+    }
+
+-- Over any replies from an accepted opening on: the write round sends what Figure 2's WRITE sends for the times heard and the item, and
+-- "done" bears its timestamp.
+pub write-as-the-report : (p : Plan) (a : Ask) (r : Opened) (d : List ℕ) (cs : List Answered) → OpenCall Write p a r → r .answer ≡ Accepted
+    → Writes p (r .session) d cs → EachWrites p (r .session) d untimed cs
+write-as-the-report = opened-write
+
+-- Over any replies from an accepted opening on: each answer is what Figure 3's READ says of the response sets of the rounds closed so far,
+-- where no two cross checksums of one response set share a hash.
+pub read-as-the-report : (p : Plan) (a : Ask) (r : Opened) (d : List ℕ) (cs : List Answered) → OpenCall Read p a r → r .answer ≡ Accepted
+    → length d ≡ p .n * recordLength p → Octets d → Reads p (r .session) d cs → AllApart (closedOver p (r .session) d [] cs)
+    → EachTells p (r .session) d [] cs
+read-as-the-report p a r d cs call e l o h k = opened-read p a r d cs call e l o h k .0
+
+-- An item of m·F bytes, encoded into n fragments of F bytes wherever in a buffer, comes back from any m of them.
+pub comes-back : (m F : ℕ) (item : List ℕ) → m ≤ 256 → Octets item → length item ≡ m * F → (n : ℕ) (desk : List ℕ) (first stride : ℕ) → F ≤ stride
+    → ((k : ℕ) → k < n → first + k * stride + F ≤ length desk) → n ≤ 256 → (nodes : List ℕ) → Distinct nodes → All (λ (z : ℕ). z < n) nodes
+    → length nodes ≡ m → (out : List ℕ) → length out ≡ m * F → laid (encoded m F item first stride n desk) first stride F nodes 0 F m out ≡ item
+comes-back = any-m-of-n

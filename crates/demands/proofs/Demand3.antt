@@ -1,0 +1,29 @@
+-- DEMAND 3. Order of arrival does not matter: at the nodes' books (books-in-any-order), and in a read round (replies-in-any-order).
+-- Assumes nothing.
+use Prim.Native.Nat.{ℕ, _≤_, _<_}
+use mathlib.Core.Path.{_≡_}
+use mathlib.Core.List.{List}
+use lib.ListN.{length}
+use Rattle.terms.specs.declared.Plan.{Plan}
+use Rattle.session.specs.declared.Session.{Session}
+use Rattle.session.specs.Session.{replies}
+use Rattle.conduct.specs.Deliver.{Delivery, after}
+use Rattle.conduct.specs.Turns.{Turn, Turns}
+use Rattle.conduct.specs.Round.{opened, RoundOpens, Accepted, SameReplies, Lent, repliesOf, answersOf, leftBy}
+use Rattle.conduct.proofs.Books.{Setting, any-order}
+use Rattle.conduct.proofs.RoundCalls.{any-order-calls}
+
+-- "Take good books and a set of write requests. Each book and reply buffer has room, and at one node no two requests that pass the checks,
+-- and no such request and held record, share a timestamp but not the record (Setting). Then delivering all of them, in any order and with
+-- repeats, leaves the same bytes in all N books: the old records and the accepted ones, each once, by timestamp" (what-is-left of conduct).
+pub books-in-any-order : (p : Plan) (books : ℕ → List ℕ) (requests : List (List ℕ)) (one other : List Delivery)
+    → Setting p books requests one → Setting p books requests other → (i : ℕ) → i < p .n → after p one books i ≡ after p other books i
+books-in-any-order = any-order
+
+-- "From one session, desk and sheet buffer, a read round that opens there and hears the same N - t acceptable replies, one a node, ends alike
+-- in whichever order they come": the same answers in turn, and at the end the same session, desk and item. Acceptability is asked of one
+-- order only: none of its calls was refused. At most N-t replies: those beyond meet the next round, or an ended session.
+pub replies-in-any-order : (p : Plan) (s : Session) (desk item : List ℕ) (one other : List Turn) → RoundOpens s → Turns p s desk one → Lent item one
+    → Turns p s desk other → Lent item other → length (repliesOf one) ≤ replies p → Accepted (answersOf one) → SameReplies (repliesOf one) (repliesOf other)
+    → (leftBy (opened s desk item) other ≡ leftBy (opened s desk item) one) × (answersOf other ≡ answersOf one)
+replies-in-any-order = any-order-calls

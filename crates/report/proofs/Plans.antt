@@ -1,6 +1,6 @@
 -- Table 2 and equations (2) and (3): a plan is accepted exactly when it is within document 01's ranges and Table 2 holds of it
 -- (accepted-is, accepted-back), and the two thresholds are the report's (equation-2, equation-3). Assumes nothing.
-use Prim.Native.Nat.{ℕ, _+_, _-_, _*_, _≤_, _<_}
+use Prim.Native.Nat.{ℕ, _-_, _≤_, _<_}
 use mathlib.Core.Path.{_≡_, sym}
 use mathlib.Core.Bool.{true}
 use native.Mathlib.Omega.{arith}
@@ -38,8 +38,7 @@ Table2-of p = Table2 (p .member) (p .n) (p .t) (p .b) (p .q) (p .m)
 -- AN ACCEPTED PLAN IS WITHIN ITS RANGES, AND TABLE 2 HOLDS OF IT
 pub accepted-is : (p : Plan) → planOk p ≡ true → Ranges p × Table2-of p
 accepted-is p e =
-    let q = plan-is p e in
-    (
+    let q = plan-is p e in (
       record { n-low = q .n-low; n-high = q .n-high; b-t = q .b-t; f-low = q .f-low; f-high = q .f-high; w-low = q .w-low; w-high = q .w-high },
       table (p .member) (p .n) (p .t) (p .b) (p .q) (p .m) (q .column),
     )

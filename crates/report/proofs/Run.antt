@@ -2,10 +2,10 @@
 -- (read-run, opened-read), and each accepted reply is a turn of DO_READ's loop (record-hears, first-hears). Assumes nothing.
 use Prim.{Unit, tt}
 use Prim.Native.Nat.{ℕ, zero, suc, _+_, _-_, _*_, _≤_, _<_}
-use mathlib.Core.Path.{_≡_, refl, sym, ap, ap₂, _∙_, subst}
-use mathlib.Core.Bool.{Bool, true, false, cond, not}
-use mathlib.Core.List.{List, [], _∷_, _++_}
-use mathlib.Core.Logic.{_⊎_, inl, inr}
+use mathlib.Core.Path.{_≡_, refl, sym, ap, _∙_, subst}
+use mathlib.Core.Bool.{Bool, true, false, cond}
+use mathlib.Core.List.{List, [], _∷_}
+use mathlib.Core.Logic.{inl, inr}
 use native.Mathlib.Decide.{ℕ-discrete}
 use native.Mathlib.Omega.{arith}
 use borrow.Author.Tests.{ltb-true, ltb-false, leb-true, leb-false, eqb-true, eqb-false, lt-ltb, not-false}
@@ -13,7 +13,7 @@ use lib.Dec.{ltb, leb, eqb}
 use lib.ListN.{length, set, length-drop, length-set}
 use Rattle.octets.specs.Bytes.{part, put, Octets}
 use Rattle.octets.proofs.Laws.{length-put}
-use Rattle.terms.specs.Ladder.{first, _and_, _or_}
+use Rattle.terms.specs.Ladder.{first, _and_}
 use Rattle.terms.specs.Stamp.{stamp, time, stampNumber}
 use Rattle.terms.specs.Terms.{planOk, recordLength}
 use Rattle.terms.specs.declared.Plan.{Plan}
@@ -21,27 +21,26 @@ use Rattle.terms.specs.declared.Ask.{Ask}
 use Rattle.terms.proofs.Rungs.{None, both, clash}
 use Rattle.terms.proofs.Plans.{plan-is}
 use Rattle.terms.proofs.Facts.{facts}
-use Rattle.fragments.specs.Fragments.{among, from, regenerated, laid, Sources}
+use Rattle.fragments.specs.Fragments.{from, regenerated, Sources}
 use Rattle.fragments.proofs.Laws.{among-from, length-from, getD-from, itself, length-regenerated}
-use Rattle.frame.specs.Frame.{kindOf, frameNode, bodyOf, goodReply}
+use Rattle.frame.specs.Frame.{frameNode, bodyOf, goodReply}
 use Rattle.frame.proofs.Frames.{reply-is}
 use Rattle.record.specs.Record.{hashesOk, timeZero}
 use Rattle.record.specs.Desk.{slotOf, fragmentIn}
 use Rattle.record.proofs.Records.{record-length}
 use Rattle.record.proofs.Desks.{slot-fits}
-use Rattle.rounds.specs.declared.Heard.{Heard}
 use Rattle.rounds.specs.declared.Heard.the-variants.{Unheard, First, Record}
 use Rattle.rounds.specs.declared.Mark.{Mark}
-use Rattle.rounds.specs.declared.Bound.the-variants.{Free, Under}
+use Rattle.rounds.specs.declared.Bound.the-variants.{Free}
 use Rattle.rounds.specs.Rounds.{bitOf, heardCount, markOf, restUnheard, underOf}
 use Rattle.session.specs.declared.Session.{Session}
 use Rattle.session.specs.declared.Stage.{Stage}
 use Rattle.session.specs.declared.Stage.the-variants.{Asking, Storing, Ended}
 use Rattle.session.specs.declared.Operation.the-variants.{Read}
-use Rattle.session.specs.Session.{isRead, isStoring, isEnded, replies, markedOf, endedOf, nextOf, storingOf, Said, refused, stillOpen, done, neverWritten, aborted, roundsSpent, saidOf}
+use Rattle.session.specs.Session.{isRead, isStoring, isEnded, replies, markedOf, endedOf, refused, stillOpen, done, saidOf}
 use Rattle.session.specs.Ranges.{inRange}
 use Rattle.session.specs.Reply.{bears, lengthsOk, isHeard, replyLadder, recordLadder}
-use Rattle.session.specs.Reader.{Outcome, outcome, headLength, collected, acted, closed, settled, heard, stored, accepted, readReply, ReadReplyCall}
+use Rattle.session.specs.Reader.{Outcome, outcome, collected, acted, closed, settled, heard, stored, accepted, readReply}
 use Rattle.session.proofs.Checks.{none-applies, outcome-all, first-map}
 use Rattle.session.proofs.Made.{StandingIs, OpenIs, in-range-facts, rest-set}
 use Rattle.session.proofs.Rules.{Lengths, lengths-are}
@@ -50,12 +49,12 @@ use Rattle.session.specs.declared.opening.Opened.{Opened}
 use Rattle.session.specs.declared.opening.Opening.the-variants.{Accepted}
 use Rattle.session.specs.Opening.{OpenCall, freshOf}
 use Rattle.session.proofs.Readers.{bears-is}
-use Rattle.report.specs.Triple.{Message, Same, null, strung}
+use Rattle.report.specs.Triple.{Message, Same, strung}
 use Rattle.report.specs.Figure3.{READ-LATEST, READ-PREVIOUS, Decision, returned, repaired, ABORT, reading, receives, LOOP, READ, goes-on}
 use Rattle.report.specs.Ours.{family, responses, sending, commandOf}
-use Rattle.report.specs.Decides.{Returns, Repairs, Reads, Decides}
+use Rattle.report.specs.Decides.{Decides}
 use Rattle.report.specs.Run as run
-use Rattle.report.specs.Run.{Answered, closedBy, closing, closedOver, RepairedTo, Spent, Tells, Repairing, EachTells, AllFull, AllApart}
+use Rattle.report.specs.Run.{Answered, closedBy, closing, closedOver, Tells, Repairing, EachTells, AllFull, AllApart}
 use Rattle.report.proofs.Lists.{strung-same}
 use Rattle.report.proofs.Triples.{octets-drop, octets-put}
 use Rattle.report.proofs.Sets.{size-is}

@@ -1,21 +1,20 @@
 -- A WHOLE WRITE IS FIGURE 2'S. Over any calls from opening, the write round sends what WRITE sends for the times of the time round and the
 -- item, and done bears WRITE's timestamp (write-run, opened-write). Assumes nothing.
 use Prim.{Unit, tt}
-use Prim.Native.Nat.{ℕ, zero, suc, _+_, _-_, _*_, _≤_, _<_}
-use mathlib.Core.Path.{_≡_, refl, sym, ap, ap₂, _∙_, subst}
+use Prim.Native.Nat.{ℕ, suc, _+_, _-_, _*_, _≤_, _<_}
+use mathlib.Core.Path.{_≡_, refl, sym, ap, _∙_, subst}
 use mathlib.Core.Bool.{Bool, true, false, cond, not}
 use mathlib.Core.List.{List, [], _∷_, _++_, append-nil, append-assoc}
 use native.Mathlib.Omega.{arith}
 use borrow.Author.Tests.{ltb-true, ltb-false, eqb-true, not-false}
 use lib.Dec.{ltb, eqb}
 use lib.ListN.{length, set, length-append, length-set}
-use Rattle.octets.specs.Bytes.{part, num, be, Octets}
+use Rattle.octets.specs.Bytes.{part, num, be}
 use Rattle.octets.proofs.Laws.{length-be, part-all, part-middle}
 use Rattle.sha256.specs.Sha256.{sha256}
 use Rattle.sha256.proofs.Laws.{sha256-length}
 use Rattle.terms.specs.Ladder.{first, _and_}
-use Rattle.terms.specs.Stamp.{stamp, time, stampAt, stampNumber}
-use Rattle.terms.specs.Terms.{planOk, recordLength}
+use Rattle.terms.specs.Stamp.{stamp, time, stampNumber}
 use Rattle.terms.specs.declared.Plan.{Plan}
 use Rattle.terms.specs.declared.Ask.{Ask}
 use Rattle.terms.proofs.Rungs.{None, both, clash}
@@ -24,7 +23,7 @@ use Rattle.terms.proofs.Stamps.{stamp-at-number}
 use Rattle.fragments.specs.Fragments.{fragment, from, Sources}
 use Rattle.fragments.proofs.Laws.{fragment-is, length-regenerated, length-from, getD-from, run-fits}
 use Rattle.record.specs.Record.{crossOf, fragmentOf, fragmentHash}
-use Rattle.record.specs.Desk.{slotOf, crossMade, row, stampMade}
+use Rattle.record.specs.Desk.{slotOf, crossMade, stampMade}
 use Rattle.record.proofs.Desks.{length-cross}
 use Rattle.frame.specs.Frame.{frameNode, bodyOf}
 use Rattle.rounds.specs.declared.Heard.the-variants.{Unheard, Record}
@@ -290,8 +289,7 @@ write-run p s d w [] k r = tt
 write-run p s d w (c ∷ cs) k r =
     let x : Timed = timing p s (c .frame) d (c .item) w in
     let q : Right p (leaves (saidOf (c .took .answer)) (c .took .session) (c .desk)) (timing p s (c .frame) d (c .item) w) =
-    subst (λ (o : Leaves). Right p o (timing p s (c .frame) d (c .item) w)) (sym (r .1 .is)) (call-right p s (c .frame) d (c .item) w k) in
-    (
+    subst (λ (o : Leaves). Right p o (timing p s (c .frame) d (c .item) w)) (sym (r .1 .is)) (call-right p s (c .frame) d (c .item) w k) in (
       q .wrote,
       (λ e. subst (λ (y : Stage). KeepsAt y p (c .took .session) (c .desk) (timing p s (c .frame) d (c .item) w)) e (q .keeps)),
       write-run p (c .took .session) (c .desk) (timing p s (c .frame) d (c .item) w) cs (q .keeps) (r .2),

@@ -17,16 +17,16 @@ abbrev pub stamps : List Triple → List ℕ
 stamps History = each (λ (X : Triple). X .ts) History
 
 abbrev pub INITIALIZE : List Triple
-INITIALIZE = initial ∷ []                                                                                       -- 3
+INITIALIZE = initial ∷ []  -- 3
 
 unfoldable pub RECEIVE-TIME-REQUEST : List Triple → ℕ
-RECEIVE-TIME-REQUEST History = MAX (stamps History)                                                             -- 1
+RECEIVE-TIME-REQUEST History = MAX (stamps History)  -- 1
 
 unfoldable pub VALIDATE : Family → ℕ → Triple → Bool
 VALIDATE f S X =
-    cond (not (alike (f .HASH (X .CC)) (f .Verifier (X .ts))) or not (alike (f .HASH (X .D)) (f .entry (X .CC) S))) -- 1
-    false                                                                                                       -- 2
-    true                                                                                                        -- 5
+    cond (not (alike (f .HASH (X .CC)) (f .Verifier (X .ts))) or not (alike (f .HASH (X .D)) (f .entry (X .CC) S)))  -- 1
+    false  -- 2
+    true  -- 5
 
 -- History ∪ X, as a list
 abbrev pub with-it : Triple → List Triple → List Triple
@@ -39,19 +39,19 @@ pub record Written : Type 0 where
 
 unfoldable pub RECEIVE-WRITE-REQUEST : Family → ℕ → List Triple → Triple → Written
 RECEIVE-WRITE-REQUEST f S History X =
-    cond (VALIDATE f S X)                                                                                       -- 1
-    (record { History = with-it X History; sent = true })                                                       -- 3, 4
-    (record { History = History; sent = false })                                                                -- 5
+    cond (VALIDATE f S X)  -- 1
+    (record { History = with-it X History; sent = true })  -- 3, 4
+    (record { History = History; sent = false })  -- 5
 
 -- (X : X.ts = MAX[History.ts], X ∈ History); "Note, Latest is a singleton"
 unfoldable pub Latest : List Triple → List Triple
 Latest History = those (λ (X : Triple). eqb (X .ts) (MAX (stamps History))) History
 
 unfoldable pub RECEIVE-READ-LATEST : List Triple → List Triple
-RECEIVE-READ-LATEST History = Latest History                                                                    -- 2, 3
+RECEIVE-READ-LATEST History = Latest History  -- 2, 3
 
 unfoldable pub PreHistory : List Triple → ℕ → List Triple
-PreHistory History ts = those (λ (X : Triple). ltb (X .ts) ts) History                                          -- 1
+PreHistory History ts = those (λ (X : Triple). ltb (X .ts) ts) History  -- 1
 
 unfoldable pub RECEIVE-READ-PREVIOUS : List Triple → ℕ → List Triple
-RECEIVE-READ-PREVIOUS History ts = Latest (PreHistory History ts)                                               -- 3, 4
+RECEIVE-READ-PREVIOUS History ts = Latest (PreHistory History ts)  -- 3, 4

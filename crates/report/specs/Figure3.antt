@@ -44,11 +44,11 @@ with-it x ResponseSet = x ∷ ResponseSet
 
 unfoldable pub receives : Family → Command → List Message → Message → List Message
 receives f command ResponseSet x =
-    cond (VALIDATE f x)                                                                                         -- 8
-    (cond (in-time command (x .Response .ts))                                                                   -- 9
-    (cond (has (x .S) ResponseSet)                                                                              -- 10
+    cond (VALIDATE f x)  -- 8
+    (cond (in-time command (x .Response .ts))  -- 9
+    (cond (has (x .S) ResponseSet)  -- 10
     ResponseSet
-    (with-it x ResponseSet))                                                                                    -- 11
+    (with-it x ResponseSet))  -- 11
     ResponseSet)
     ResponseSet
 
@@ -72,9 +72,9 @@ of-first-triple (x ∷ xs) = first-triple (x .Response)
 
 unfoldable pub VALIDATE-CANDIDATE-SET : Family → List Message → Bool
 VALIDATE-CANDIDATE-SET f cs =
-    cond (f .ByzantineClients)                                                                                  -- 1
-    (of-first-triple cs or alike (MAKE-CROSS-CHECKSUM f (f .GENERATE-FRAGMENTS cs)) (CC-of cs))                 -- 2 to 8
-    true                                                                                                        -- 10
+    cond (f .ByzantineClients)  -- 1
+    (of-first-triple cs or alike (MAKE-CROSS-CHECKSUM f (f .GENERATE-FRAGMENTS cs)) (CC-of cs))  -- 2 to 8
+    true  -- 10
 
 -- ---- READ
 pub data Decision : Type 0 where
@@ -89,24 +89,24 @@ pub data Decision : Type 0 where
 
 -- (01) "Repair uses the set's cross checksum (the report leaves it unset for crash clients)"; for Byzantine clients CC_valid is that
 abbrev pub repairs : Family → List Message → ℕ → List Message
-repairs f cs ts = DO-WRITE f (f .GENERATE-FRAGMENTS cs) ts (CC-of cs)                                           -- 14, 15
+repairs f cs ts = DO-WRITE f (f .GENERATE-FRAGMENTS cs) ts (CC-of cs)  -- 14, 15
 
 abbrev pub choose : Family → List Message → ℕ → Decision
 choose f cs ts =
-    cond (leb (f .COMPLETE) (length cs))                                                                        -- 4
-    (cond (VALIDATE-CANDIDATE-SET f cs)                                                                         -- 6
-    (returned ts (f .DECODE cs))                                                                                -- 7, 8
-    (reading (READ-PREVIOUS ts)))                                                                               -- 24
-    (cond (leb (f .INCOMPLETE) (length cs))                                                                     -- 10
-    (cond (f .Repair)                                                                                           -- 12
-    (cond (VALIDATE-CANDIDATE-SET f cs)                                                                         -- 13
-    (repaired (repairs f cs ts) ts (f .DECODE (repairs f cs ts)))                                               -- 14 to 17
-    (reading (READ-PREVIOUS ts)))                                                                               -- 24
-    ABORT)                                                                                                      -- 20
-    (reading (READ-PREVIOUS ts)))                                                                               -- 24
+    cond (leb (f .COMPLETE) (length cs))  -- 4
+    (cond (VALIDATE-CANDIDATE-SET f cs)  -- 6
+    (returned ts (f .DECODE cs))  -- 7, 8
+    (reading (READ-PREVIOUS ts)))  -- 24
+    (cond (leb (f .INCOMPLETE) (length cs))  -- 10
+    (cond (f .Repair)  -- 12
+    (cond (VALIDATE-CANDIDATE-SET f cs)  -- 13
+    (repaired (repairs f cs ts) ts (f .DECODE (repairs f cs ts)))  -- 14 to 17
+    (reading (READ-PREVIOUS ts)))  -- 24
+    ABORT)  -- 20
+    (reading (READ-PREVIOUS ts)))  -- 24
 
 unfoldable pub LOOP : Family → List Message → Decision
-LOOP f ResponseSet = choose f (CandidateSet ResponseSet) (ts-candidate ResponseSet)                             -- 3 to 24
+LOOP f ResponseSet = choose f (CandidateSet ResponseSet) (ts-candidate ResponseSet)  -- 3 to 24
 
 -- a read that has returned goes no further
 abbrev pub goes-on : Family → Decision → List Message → Decision
@@ -116,5 +116,5 @@ goes-on f (repaired sent ts Data) ResponseSet = repaired sent ts Data
 goes-on f ABORT ResponseSet = ABORT
 
 unfoldable pub READ : Family → List (List Message) → Decision
-READ f [] = reading READ-LATEST                                                                                 -- 1
-READ f (ResponseSet ∷ before) = goes-on f (READ f before) ResponseSet                                           -- 2 to 25
+READ f [] = reading READ-LATEST  -- 1
+READ f (ResponseSet ∷ before) = goes-on f (READ f before) ResponseSet  -- 2 to 25

@@ -81,6 +81,7 @@ pub record Stores (p : Plan) (s : Session) (d : List ℕ) (closed : List (List M
   pub sends : sending p d ≡ sent
   pub holds : strung (fragmentIn p d) (p .m) ≡ Data
   pub rounds : s .round ≡ length closed
+  pub size : length (s .marks) ≡ 16
 
 abbrev pub KeepsAt : Stage → Plan → Session → List ℕ → List (List Message) → Type 0
 KeepsAt Asking p s d closed = Asks p s d closed
@@ -93,7 +94,7 @@ Keeps p s d closed = KeepsAt (s .stage) p s d closed
 -- what a call leaves, and what it says
 pub record Leaves (p : Plan) (o : Outcome) (closed : List (List Message)) : Type 0 where
   pub keeps : Keeps p (o .session) (o .desk) closed
-  pub tells : Tells p (o .said) (o .item) closed
+  pub tells : Tells p (o .session) (o .said) (o .item) closed
   pub sized : AllFull p closed
 
 -- ---- a read round after a mark
@@ -157,6 +158,7 @@ module _ (p : Plan) (s : Session) (d i : List ℕ) (sets : List (List Message)) 
                 sends = c .sends;
                 holds = c .holds;
                 rounds = counted;
+                size = refl;
               };
           tells = tt;
           sized = full-now;
@@ -224,24 +226,39 @@ module _ (p : Plan) (d i : List ℕ) (ok : planOk p ≡ true) (ld : length d ≡
       own : (k : ℕ) → k < p .m → regenerated d head (recordLength p) (p .f) (from 0 (p .m)) k ≡ fragmentIn p d k
       own k h = sym (itself d head (recordLength p) (p .f) (from 0 (p .m)) k (sym (among-from k (p .m) ∙ lt-ltb k (p .m) h))) ∙ sym (fragment-place p d k)
 
-  stores : (s : Session) (f : List ℕ) (sets : List (List Message)) → s .stage ≡ Storing → Stores p s d sets → AllFull p sets → Leaves p (stored p s f d i) sets
+  stores : (s : Session) (f : List ℕ) (sets : List (List Message)) → s .stage ≡ Storing → Stores p s d sets → AllFull p sets
+      → heardCount (markedOf s (frameNode f) Record .marks) ≤ replies p → Leaves p (stored p s f d i) sets
   unfolding stored
-  stores s f sets st k sz = go (ltb (heardCount (markedOf s (frameNode f) Record .marks)) (replies p))
+  stores s f sets st k sz most = go (ltb (heardCount (markedOf s (frameNode f) Record .marks)) (replies p)) refl
     where
-      go : (t : Bool) → Leaves p (cond t (outcome stillOpen (markedOf s (frameNode f) Record) d i)
+      go : (t : Bool) → ltb (heardCount (markedOf s (frameNode f) Record .marks)) (replies p) ≡ t
+          → Leaves p (cond t (outcome stillOpen (markedOf s (frameNode f) Record) d i)
           (outcome (done (stampNumber (s .stamp)) (s .round)) (endedOf (markedOf s (frameNode f) Record)) d (collected p d i))) sets
-      go true =
+      go true e =
           record {
             keeps = subst (λ (x : Stage). KeepsAt x p (markedOf s (frameNode f) Record) d sets) (sym st)
-                (record { sent = k .sent; Data = k .Data; decision = k .decision; sends = k .sends; holds = k .holds; rounds = k .rounds });
+                (record {
+                  sent = k .sent;
+                  Data = k .Data;
+                  decision = k .decision;
+                  sends = k .sends;
+                  holds = k .holds;
+                  rounds = k .rounds;
+                  size = length-set (s .marks) (frameNode f) (record { is = Record }) ∙ k .size;
+                });
             tells = tt;
             sized = sz;
           }
-      go false =
+      go false e =
+          let l = ltb-false (heardCount (markedOf s (frameNode f) Record .marks)) (replies p) e in
           record {
             keeps = tt;
             tells = (
-              inr (record { sent = k .sent; is = k .decision ∙ ap (repaired (k .sent) (stampNumber (s .stamp))) (sym (k .holds) ∙ sym collected-is) }),
+              inr (record {
+                sent = k .sent;
+                is = k .decision ∙ ap (repaired (k .sent) (stampNumber (s .stamp))) (sym (k .holds) ∙ sym collected-is);
+                acknowledged = omega (arith, most, l);
+              }),
               k .rounds,
             );
             sized = sz;
@@ -449,6 +466,9 @@ module _ (p : Plan) (s : Session) (f d i : List ℕ) (sets : List (List Message)
   Right t = AllApart (t .sets) → Leaves p (t .now) (t .sets)
 
   module _ (of : Octets f) (keep : Keeps p s d sets) (sz : AllFull p sets) where
+    storing-size : s .stage ≡ Storing → Keeps p s d sets → length (s .marks) ≡ 16
+    storing-size st k = let q : Stores p s d sets = subst (λ (x : Stage). KeepsAt x p s d sets) st k in q .size
+
     taken-right : first (replyLadder Read p s f d (length i)) (λ (j : ℕ). j) 0 ≡ 0 → first (recordLadder p s f) (λ (j : ℕ). j) 0 ≡ 0 → Right taken
     taken-right e₁ e₂ = go (s .stage) refl
       where
@@ -461,6 +481,7 @@ module _ (p : Plan) (s : Session) (f d i : List ℕ) (sets : List (List Message)
         go Storing st = λ a.
             stores p d i (plan-ok p s f d i sets of keep sz e₁ e₂) (lengths p s f d i sets of keep sz e₁ e₂ .desk-is) (lengths p s f d i sets of keep sz e₁ e₂ .item-is)
             s f sets st (subst (λ (x : Stage). KeepsAt x p s d sets) st keep) sz
+            (most-after p s f d i sets of keep sz e₁ e₂ (record { is = Record }) refl (storing-size st keep))
         go Ended st = λ a. absurd (clash (sym (ap isEnded st) ∙ n₁ p s f d i sets of keep sz e₁ e₂ .1 .1 .1 .0))
 
     call-leaves : AllApart (closing p s f d (length i) sets) → Leaves p (readReply p s f d i) (closing p s f d (length i) sets)

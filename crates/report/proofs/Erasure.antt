@@ -1,7 +1,7 @@
 -- The erasure code of the figures is ours: what is generated from a candidate set is what is regenerated from the slots (generated-is), what
 -- is decoded is what is laid into the item (laid-is, decode-is), and N fragments decode to the first m (requests-decode). Assumes nothing.
 use Prim.Native.Nat.{ℕ, zero, suc, _+_, _*_, _≤_, _<_}
-use mathlib.Core.Path.{_≡_, refl, sym, ap, ap₂, _∙_, subst}
+use mathlib.Core.Path.{_≡_, refl, sym, ap, _∙_}
 use mathlib.Core.Bool.{Bool, true, false, cond}
 use mathlib.Core.List.{List, [], _∷_, _++_, append-nil}
 use native.Mathlib.Nat.{zero-mul, suc-mul, zero-add}
@@ -9,19 +9,18 @@ use native.Mathlib.Decide.{ℕ-discrete}
 use native.Mathlib.Omega.{arith}
 use borrow.Author.Tests.{eq-eqb, ne-eqb, eqb-true}
 use lib.Dec.{eqb}
-use lib.ListN.{length, getD, take, drop, length-append, drop-of-length-le}
-use Rattle.octets.specs.Bytes.{part, put, over}
+use lib.ListN.{length, getD, length-append, drop-of-length-le}
+use Rattle.octets.specs.Bytes.{part, over}
 use Rattle.octets.proofs.Meaning.{over-more, getD-part}
 use Rattle.terms.proofs.Rungs.{clash}
 use Rattle.terms.specs.Terms.{recordLength}
 use Rattle.terms.specs.declared.Plan.{Plan}
-use Rattle.fragments.specs.Fragments.{All, among, tabulate, value, regenerated, laid}
+use Rattle.fragments.specs.Fragments.{among, tabulate, value, regenerated, laid}
 use Rattle.fragments.proofs.Lists.{tabulate-ext}
 use Rattle.fragments.proofs.Interp.{all-map, value-ext}
-use Rattle.record.specs.Record.{fragmentOf}
-use Rattle.record.specs.Desk.{slotOf, fragmentIn}
+use Rattle.record.specs.Desk.{fragmentIn}
 use Rattle.record.proofs.Records.{fragment-at}
-use Rattle.report.specs.Triple.{Message, null, each, listed, strung}
+use Rattle.report.specs.Triple.{Message, each, listed, strung}
 use Rattle.report.specs.Figure3.{of-first-triple}
 use Rattle.report.specs.Ours.{numbers, fragmentFrom, generatedBy, generated, decodedFrom, bearing}
 use Rattle.report.proofs.Lists.{each-append, take-listed, strung-same}

@@ -2,22 +2,20 @@
 -- refusal 12 (in-time-is), and S is in the set exactly where refusal 11 finds the node heard (heard-has, unheard-has). What fails one of them
 -- is left out (heard-hears, hash-hears, late-hears); what passes all is put in (puts), and a node that is marked then is in the set
 -- (record-after, first-after). Assumes nothing.
-use Prim.Native.Nat.{ℕ, zero, suc, _+_, _*_, _^_, _≤_, _<_}
-use mathlib.Core.Path.{_≡_, refl, sym, ap, ap₂, _∙_, subst}
-use mathlib.Core.Bool.{Bool, true, false, cond, not}
+use Prim.Native.Nat.{ℕ, zero, suc, _+_, _*_, _≤_, _<_}
+use mathlib.Core.Path.{_≡_, refl, sym, ap, _∙_, subst}
+use mathlib.Core.Bool.{Bool, true, false, cond}
 use mathlib.Core.List.{List, [], _∷_, _++_}
 use mathlib.Core.Logic.{_⊎_, inl, inr}
 use native.Mathlib.Decide.{ℕ-discrete}
 use native.Mathlib.Omega.{arith}
-use borrow.Author.Tests.{lt-ltb, leb-true, eq-eqb, ne-eqb, eqb-false}
+use borrow.Author.Tests.{lt-ltb, leb-true, eq-eqb, ne-eqb}
 use lib.Dec.{ltb, leb, eqb}
 use lib.ListN.{length, set}
-use Rattle.octets.specs.Bytes.{part, put, Octets}
-use Rattle.terms.specs.Ladder.{_and_, _or_}
+use Rattle.octets.specs.Bytes.{put, Octets}
 use Rattle.terms.specs.Stamp.{stamp, time, then, stampNumber}
 use Rattle.terms.specs.Terms.{recordLength}
 use Rattle.terms.specs.declared.Plan.{Plan}
-use Rattle.terms.specs.declared.Timestamp.{Timestamp}
 use Rattle.terms.proofs.Rungs.{both, clash}
 use Rattle.record.specs.Record.{hashesOk}
 use Rattle.record.specs.Desk.{slotOf}
@@ -28,11 +26,10 @@ use Rattle.rounds.specs.declared.Bound.{Bound}
 use Rattle.rounds.specs.declared.Bound.the-variants.{Free, Under}
 use Rattle.rounds.specs.Rounds.{bitOf, markOf, underOf}
 use Rattle.session.specs.Ranges.{boundOk}
-use Rattle.report.specs.Triple.{Triple, Message, In, Same}
-use Rattle.report.specs.Figure1 as node
+use Rattle.report.specs.Triple.{Message, In, Same}
 use Rattle.report.specs.Figure1.{initial}
 use Rattle.report.specs.Figure3.{Command, VALIDATE, in-time, has, with-it, receives}
-use Rattle.report.specs.Ours.{family, tripleOf, bearing, responseOf, responses, commandOf}
+use Rattle.report.specs.Ours.{family, tripleOf, responseOf, responses, commandOf}
 use Rattle.report.proofs.Lists.{in-append, in-split}
 use Rattle.report.proofs.Triples.{stamp-low, validate-is}
 use Rattle.report.proofs.Marks.{mark-set, mark-other, slot-own, slot-other}

@@ -1,11 +1,11 @@
 -- WE ACT AS FIGURE 1. A fresh book is INITIALIZE (fresh-acts). The reply to each request is Figure 1's on the node's History (time-acts,
 -- latest-acts, previous-acts, write-acts), and the History after a write is Figure 1's. A refused request leaves the History and sends
--- nothing (refused-acts); what VALIDATE turns away is refused (invalid-acts), and what it lets through is executed unless one of the
+-- nothing (refused-acts), and so does one that VALIDATE turns away (invalid-acts); one that it lets through is executed unless one of the
 -- conditions that document 01 adds stands against it (valid-acts). Assumes nothing.
-use Prim.Native.Nat.{ℕ, zero, suc, _+_, _*_, _≤_, _<_}
+use Prim.Native.Nat.{ℕ, zero, suc, _+_, _*_, _≤_}
 use Prim.{tt}
 use mathlib.Core.Path.{_≡_, refl, sym, ap, _∙_, subst}
-use mathlib.Core.Bool.{Bool, true, false, cond, not}
+use mathlib.Core.Bool.{Bool, true, false, not}
 use mathlib.Core.List.{List, [], _∷_}
 use mathlib.Core.Logic.{_⊎_, inl, inr}
 use native.Mathlib.Nat.{suc-mul}
@@ -13,15 +13,13 @@ use native.Mathlib.Omega.{arith}
 use borrow.Author.Tests.{eq-eqb, eqb-false, not-false, leb-true, ltb-true}
 use lib.Dec.{leb, eqb}
 use lib.ListN.{length, length-drop}
-use lib.Seq.{getD-drop}
 use Rattle.octets.specs.Bytes.{part, be, over, Octets}
 use Rattle.octets.proofs.Laws.{length-part}
-use Rattle.octets.proofs.Meaning.{getD-part}
 use Rattle.terms.proofs.Rungs as rungs
 use Rattle.terms.proofs.Rungs.{both, clash}
 use Rattle.terms.specs.Ladder.{first}
 use Rattle.terms.specs.Stamp.{stamp, time}
-use Rattle.terms.specs.Terms.{planOk, recordLength, refusalNumber}
+use Rattle.terms.specs.Terms.{planOk, recordLength}
 use Rattle.terms.specs.declared.Plan.{Plan}
 use Rattle.terms.specs.declared.Refusal.{Refusal}
 use Rattle.frame.specs.Frame.{kindOf, frameNode, askOf, bodyOf, frame, goodRequest}
@@ -34,7 +32,7 @@ use Rattle.book.proofs.Laid as laid
 use Rattle.book.proofs.Laws as books
 use Rattle.node.specs.declared.Answer.the-variants.{Refused, Replied}
 use Rattle.node.specs.declared.Answer.{Answer}
-use Rattle.node.specs.Node.{NodeCall, served, answered, replies, replyTo, bookAfter, said, replied, refused, Outcome, outcome, nodeLadder, writes, lengthsOk, zeroTime, hashFails, otherHeld, noRoom}
+use Rattle.node.specs.Node.{NodeCall, served, answered, replies, replyTo, said, replied, refused, Outcome, outcome, nodeLadder, writes, lengthsOk, zeroTime, hashFails, otherHeld, noRoom}
 use Rattle.node.specs.declared.Made.the-variants.{Fresh}
 use Rattle.node.specs.Fresh.{FreshCall, FreshOutcome, freshOutcome, made, freshened, freshLadder}
 use Rattle.node.specs.Fresh as fresh
@@ -214,12 +212,13 @@ module _ (p : Plan) (f b y : List ℕ) (ob : Octets b) (of : Octets f) where
       let q = calls.refused-is p f b y r b₂ y₂ c in
       (ap (history p) (q .1), q .2)
 
-  -- a write request that VALIDATE turns away is refused
+  -- a write request that VALIDATE turns away: the same
   pub invalid-acts : goodRequest p (nodeOf b) f ≡ true → kindOf f ≡ 3 → VALIDATE (family p) (nodeOf b) (tripleOf p (bodyOf f)) ≡ false
-      → (n : ℕ) (b₂ y₂ : List ℕ) → NodeCall p f b y (Replied n) b₂ y₂ → ⊥
-  invalid-acts r k v n b₂ y₂ c =
+      → (a : Answer) (b₂ y₂ : List ℕ) → NodeCall p f b y a b₂ y₂ → (history p b₂ ≡ history p b) × (y₂ ≡ y)
+  invalid-acts r k v (Refused e) b₂ y₂ c = refused-acts e b₂ y₂ c
+  invalid-acts r k v (Replied n) b₂ y₂ c =
       let q = calls.clear p f b y (calls.replied-is p f b y n b₂ y₂ c .0) in
-      clash (sym (ap not v) ∙ validates r k ∙ q .hash)
+      absurd (clash (sym (ap not v) ∙ validates r k ∙ q .hash))
 
   -- one that it lets through is executed, where none of the conditions that document 01 adds stands against it: 1 to 4 of plan, lengths, book and
   -- frame; 5, a time of 0; 7, other bytes held at this timestamp; 8, no room

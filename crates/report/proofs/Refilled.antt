@@ -15,7 +15,7 @@ use Rattle.octets.specs.Bytes.{part, put}
 use Rattle.octets.proofs.Laws.{length-part, length-put, part-part, part-put-same, part-put-before, part-put-after, part-middle}
 use Rattle.octets.proofs.Meaning.{part-add, getD-part}
 use Rattle.terms.proofs.Rungs.{clash}
-use Rattle.fragments.specs.Fragments.{All, among, tabulate, value, regenerated, Sources}
+use Rattle.fragments.specs.Fragments.{All, among, value, regenerated, Sources}
 use Rattle.fragments.proofs.Lists.{tabulate-ext}
 use Rattle.fragments.proofs.Interp.{all-map, all-map2, value-ext}
 use Rattle.fragments.proofs.Laws.{length-regenerated}

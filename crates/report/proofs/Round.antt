@@ -4,17 +4,16 @@ use Prim.{tt}
 use Prim.Native.Nat.{ℕ, zero, suc, _+_, _-_, _*_, _≤_, _<_}
 use mathlib.Core.Path.{_≡_, refl, sym, ap, ap₂, _∙_, subst}
 use mathlib.Core.Bool.{Bool, true, false, cond}
-use mathlib.Core.List.{List, [], _∷_, _++_}
+use mathlib.Core.List.{List, [], _∷_}
 use native.Mathlib.Nat.{add-zero}
 use native.Mathlib.Omega.{arith}
 use borrow.Author.Tests.{le-leb, lt-leb, leb-true, leb-false, ne-eqb}
-use lib.Dec.{leb, eqb}
+use lib.Dec.{leb}
 use lib.ListN.{length, getD, take}
 use Rattle.octets.specs.Bytes.{part, num, alike, Octets}
 use Rattle.octets.proofs.Laws.{part-part}
 use Rattle.octets.proofs.Meaning.{alike-is}
 use Rattle.sha256.specs.Sha256.{sha256}
-use Rattle.terms.specs.Ladder.{_or_}
 use Rattle.terms.specs.Stamp.{stamp, time, stampAt, stampNumber}
 use Rattle.terms.specs.Terms.{planOk, recordLength, complete, incomplete, classOf, verdictOf, unsure, decided}
 use Rattle.terms.specs.declared.Plan.{Plan}
@@ -29,7 +28,7 @@ use Rattle.terms.specs.declared.Verdict.the-variants as verdict
 use Rattle.terms.proofs.Rungs.{clash}
 use Rattle.terms.proofs.Facts.{facts, is-complete, is-incomplete, is-unclassifiable, decided-is}
 use Rattle.terms.proofs.Stamps.{stamp-at-number}
-use Rattle.fragments.specs.Fragments.{All, Distinct, among, regenerated, Sources}
+use Rattle.fragments.specs.Fragments.{All, regenerated, Sources}
 use Rattle.fragments.proofs.Interp.{all-map}
 use Rattle.fragments.proofs.Laws.{length-regenerated}
 use Rattle.record.specs.Record.{crossOf, fragmentOf, fragmentHash}
@@ -44,18 +43,18 @@ use Rattle.rounds.proofs.Laws.{slot-room, lead-room}
 use Rattle.rounds.proofs.Closes.{candidate, no-candidate, members-are}
 use Rattle.recover.specs.Recover.{validates, recordFrom, refilled}
 use Rattle.session.specs.declared.Session.{Session}
-use Rattle.session.specs.Session.{replies, endedOf, nextOf, storingOf, stillOpen, done, neverWritten, aborted, roundsSpent}
-use Rattle.session.specs.Reader.{Outcome, outcome, headLength, lowest, trusted, sound, decoded, repaired as refill, failing, actOn, actFor, acted, closed}
-use Rattle.report.specs.Triple.{Triple, Message, null, each, listed, strung, MAX}
+use Rattle.session.specs.Session.{replies, endedOf, storingOf, stillOpen, done, neverWritten}
+use Rattle.session.specs.Reader.{Outcome, outcome, headLength, trusted, sound, decoded, repaired as refill, failing, actOn, actFor, acted, closed}
+use Rattle.report.specs.Triple.{Triple, Message, null, each, strung}
 use Rattle.report.specs.Figure2.{MAKE-CROSS-CHECKSUM, DO-WRITE}
 use Rattle.report.specs.Figure3.{READ-PREVIOUS, Decision, returned, repaired, ABORT, reading, ts-candidate, CandidateSet, CC-of, of-first-triple, VALIDATE-CANDIDATE-SET, repairs, choose, LOOP}
-use Rattle.report.specs.Ours.{family, lies, repairs as repairable, generated, generatedBy, decodedFrom, bearing, responses, sending, tripleOf}
-use Rattle.report.specs.Decides.{Returns, Repairs, Reads, Decides, OneCross}
+use Rattle.report.specs.Ours.{family, lies, repairs as repairable, generated, generatedBy, decodedFrom, bearing, responses, tripleOf}
+use Rattle.report.specs.Decides.{Repairs, Reads, Decides, OneCross}
 use Rattle.report.proofs.Lists.{take-each, length-each, strung-row, strung-same, listed-same}
 use Rattle.report.proofs.Triples.{stamp-low}
 use Rattle.report.proofs.Sets.{size-is, slot-stamp, max-is, all-first, heads-first, in-responses, set-is}
 use Rattle.report.proofs.Refilled as repair
-use Rattle.report.proofs.Erasure.{fragment-place, generated-is, laid-is, request, requests-decode}
+use Rattle.report.proofs.Erasure.{generated-is, laid-is, request, requests-decode}
 
 all-take : (P : ℕ → Type 0) (n : ℕ) (l : List ℕ) → All P l → All P (take n l)
 all-take P zero l a = tt

@@ -2,10 +2,10 @@
 -- (read-run, opened-read), and each accepted reply is a turn of DO_READ's loop (record-hears, first-hears). Assumes nothing.
 use Prim.{Unit, tt}
 use Prim.Native.Nat.{ℕ, zero, suc, _+_, _-_, _*_, _≤_, _<_}
-use mathlib.Core.Path.{_≡_, refl, sym, ap, ap₂, _∙_, subst}
-use mathlib.Core.Bool.{Bool, true, false, cond, not}
-use mathlib.Core.List.{List, [], _∷_, _++_}
-use mathlib.Core.Logic.{_⊎_, inl, inr}
+use mathlib.Core.Path.{_≡_, refl, sym, ap, _∙_, subst}
+use mathlib.Core.Bool.{Bool, true, false, cond}
+use mathlib.Core.List.{List, [], _∷_}
+use mathlib.Core.Logic.{inl, inr}
 use native.Mathlib.Decide.{ℕ-discrete}
 use native.Mathlib.Omega.{arith}
 use borrow.Author.Tests.{ltb-true, ltb-false, leb-true, leb-false, eqb-true, eqb-false, lt-ltb, not-false}
@@ -13,7 +13,7 @@ use lib.Dec.{ltb, leb, eqb}
 use lib.ListN.{length, set, length-drop, length-set}
 use Rattle.octets.specs.Bytes.{part, put, Octets}
 use Rattle.octets.proofs.Laws.{length-put}
-use Rattle.terms.specs.Ladder.{first, _and_, _or_}
+use Rattle.terms.specs.Ladder.{first, _and_}
 use Rattle.terms.specs.Stamp.{stamp, time, stampNumber}
 use Rattle.terms.specs.Terms.{planOk, recordLength}
 use Rattle.terms.specs.declared.Plan.{Plan}
@@ -21,27 +21,26 @@ use Rattle.terms.specs.declared.Ask.{Ask}
 use Rattle.terms.proofs.Rungs.{None, both, clash}
 use Rattle.terms.proofs.Plans.{plan-is}
 use Rattle.terms.proofs.Facts.{facts}
-use Rattle.fragments.specs.Fragments.{among, from, regenerated, laid, Sources}
+use Rattle.fragments.specs.Fragments.{from, regenerated, Sources}
 use Rattle.fragments.proofs.Laws.{among-from, length-from, getD-from, itself, length-regenerated}
-use Rattle.frame.specs.Frame.{kindOf, frameNode, bodyOf, goodReply}
+use Rattle.frame.specs.Frame.{frameNode, bodyOf, goodReply}
 use Rattle.frame.proofs.Frames.{reply-is}
 use Rattle.record.specs.Record.{hashesOk, timeZero}
 use Rattle.record.specs.Desk.{slotOf, fragmentIn}
 use Rattle.record.proofs.Records.{record-length}
 use Rattle.record.proofs.Desks.{slot-fits}
-use Rattle.rounds.specs.declared.Heard.{Heard}
 use Rattle.rounds.specs.declared.Heard.the-variants.{Unheard, First, Record}
 use Rattle.rounds.specs.declared.Mark.{Mark}
-use Rattle.rounds.specs.declared.Bound.the-variants.{Free, Under}
+use Rattle.rounds.specs.declared.Bound.the-variants.{Free}
 use Rattle.rounds.specs.Rounds.{bitOf, heardCount, markOf, restUnheard, underOf}
 use Rattle.session.specs.declared.Session.{Session}
 use Rattle.session.specs.declared.Stage.{Stage}
 use Rattle.session.specs.declared.Stage.the-variants.{Asking, Storing, Ended}
 use Rattle.session.specs.declared.Operation.the-variants.{Read}
-use Rattle.session.specs.Session.{isRead, isStoring, isEnded, replies, markedOf, endedOf, nextOf, storingOf, Said, refused, stillOpen, done, neverWritten, aborted, roundsSpent, saidOf}
+use Rattle.session.specs.Session.{isRead, isStoring, isEnded, replies, markedOf, endedOf, refused, stillOpen, done, saidOf}
 use Rattle.session.specs.Ranges.{inRange}
 use Rattle.session.specs.Reply.{bears, lengthsOk, isHeard, replyLadder, recordLadder}
-use Rattle.session.specs.Reader.{Outcome, outcome, headLength, collected, acted, closed, settled, heard, stored, accepted, readReply, ReadReplyCall}
+use Rattle.session.specs.Reader.{Outcome, outcome, collected, acted, closed, settled, heard, stored, accepted, readReply}
 use Rattle.session.proofs.Checks.{none-applies, outcome-all, first-map}
 use Rattle.session.proofs.Made.{StandingIs, OpenIs, in-range-facts, rest-set}
 use Rattle.session.proofs.Rules.{Lengths, lengths-are}
@@ -50,12 +49,12 @@ use Rattle.session.specs.declared.opening.Opened.{Opened}
 use Rattle.session.specs.declared.opening.Opening.the-variants.{Accepted}
 use Rattle.session.specs.Opening.{OpenCall, freshOf}
 use Rattle.session.proofs.Readers.{bears-is}
-use Rattle.report.specs.Triple.{Message, Same, null, strung}
+use Rattle.report.specs.Triple.{Message, Same, strung}
 use Rattle.report.specs.Figure3.{READ-LATEST, READ-PREVIOUS, Decision, returned, repaired, ABORT, reading, receives, LOOP, READ, goes-on}
 use Rattle.report.specs.Ours.{family, responses, sending, commandOf}
-use Rattle.report.specs.Decides.{Returns, Repairs, Reads, Decides}
+use Rattle.report.specs.Decides.{Decides}
 use Rattle.report.specs.Run as run
-use Rattle.report.specs.Run.{Answered, closedBy, closing, closedOver, RepairedTo, Spent, Tells, Repairing, EachTells, AllFull, AllApart}
+use Rattle.report.specs.Run.{Answered, closedBy, closing, closedOver, Tells, Repairing, EachTells, AllFull, AllApart}
 use Rattle.report.proofs.Lists.{strung-same}
 use Rattle.report.proofs.Triples.{octets-drop, octets-put}
 use Rattle.report.proofs.Sets.{size-is}
@@ -82,6 +81,7 @@ pub record Stores (p : Plan) (s : Session) (d : List ℕ) (closed : List (List M
   pub sends : sending p d ≡ sent
   pub holds : strung (fragmentIn p d) (p .m) ≡ Data
   pub rounds : s .round ≡ length closed
+  pub size : length (s .marks) ≡ 16
 
 abbrev pub KeepsAt : Stage → Plan → Session → List ℕ → List (List Message) → Type 0
 KeepsAt Asking p s d closed = Asks p s d closed
@@ -94,7 +94,7 @@ Keeps p s d closed = KeepsAt (s .stage) p s d closed
 -- what a call leaves, and what it says
 pub record Leaves (p : Plan) (o : Outcome) (closed : List (List Message)) : Type 0 where
   pub keeps : Keeps p (o .session) (o .desk) closed
-  pub tells : Tells p (o .said) (o .item) closed
+  pub tells : Tells p (o .session) (o .said) (o .item) closed
   pub sized : AllFull p closed
 
 -- ---- a read round after a mark
@@ -158,6 +158,7 @@ module _ (p : Plan) (s : Session) (d i : List ℕ) (sets : List (List Message)) 
                 sends = c .sends;
                 holds = c .holds;
                 rounds = counted;
+                size = refl;
               };
           tells = tt;
           sized = full-now;
@@ -225,24 +226,39 @@ module _ (p : Plan) (d i : List ℕ) (ok : planOk p ≡ true) (ld : length d ≡
       own : (k : ℕ) → k < p .m → regenerated d head (recordLength p) (p .f) (from 0 (p .m)) k ≡ fragmentIn p d k
       own k h = sym (itself d head (recordLength p) (p .f) (from 0 (p .m)) k (sym (among-from k (p .m) ∙ lt-ltb k (p .m) h))) ∙ sym (fragment-place p d k)
 
-  stores : (s : Session) (f : List ℕ) (sets : List (List Message)) → s .stage ≡ Storing → Stores p s d sets → AllFull p sets → Leaves p (stored p s f d i) sets
+  stores : (s : Session) (f : List ℕ) (sets : List (List Message)) → s .stage ≡ Storing → Stores p s d sets → AllFull p sets
+      → heardCount (markedOf s (frameNode f) Record .marks) ≤ replies p → Leaves p (stored p s f d i) sets
   unfolding stored
-  stores s f sets st k sz = go (ltb (heardCount (markedOf s (frameNode f) Record .marks)) (replies p))
+  stores s f sets st k sz most = go (ltb (heardCount (markedOf s (frameNode f) Record .marks)) (replies p)) refl
     where
-      go : (t : Bool) → Leaves p (cond t (outcome stillOpen (markedOf s (frameNode f) Record) d i)
+      go : (t : Bool) → ltb (heardCount (markedOf s (frameNode f) Record .marks)) (replies p) ≡ t
+          → Leaves p (cond t (outcome stillOpen (markedOf s (frameNode f) Record) d i)
           (outcome (done (stampNumber (s .stamp)) (s .round)) (endedOf (markedOf s (frameNode f) Record)) d (collected p d i))) sets
-      go true =
+      go true e =
           record {
             keeps = subst (λ (x : Stage). KeepsAt x p (markedOf s (frameNode f) Record) d sets) (sym st)
-                (record { sent = k .sent; Data = k .Data; decision = k .decision; sends = k .sends; holds = k .holds; rounds = k .rounds });
+                (record {
+                  sent = k .sent;
+                  Data = k .Data;
+                  decision = k .decision;
+                  sends = k .sends;
+                  holds = k .holds;
+                  rounds = k .rounds;
+                  size = length-set (s .marks) (frameNode f) (record { is = Record }) ∙ k .size;
+                });
             tells = tt;
             sized = sz;
           }
-      go false =
+      go false e =
+          let l = ltb-false (heardCount (markedOf s (frameNode f) Record .marks)) (replies p) e in
           record {
             keeps = tt;
             tells = (
-              inr (record { sent = k .sent; is = k .decision ∙ ap (repaired (k .sent) (stampNumber (s .stamp))) (sym (k .holds) ∙ sym collected-is) }),
+              inr (record {
+                sent = k .sent;
+                is = k .decision ∙ ap (repaired (k .sent) (stampNumber (s .stamp))) (sym (k .holds) ∙ sym collected-is);
+                acknowledged = omega (arith, most, l);
+              }),
               k .rounds,
             );
             sized = sz;
@@ -450,6 +466,9 @@ module _ (p : Plan) (s : Session) (f d i : List ℕ) (sets : List (List Message)
   Right t = AllApart (t .sets) → Leaves p (t .now) (t .sets)
 
   module _ (of : Octets f) (keep : Keeps p s d sets) (sz : AllFull p sets) where
+    storing-size : s .stage ≡ Storing → Keeps p s d sets → length (s .marks) ≡ 16
+    storing-size st k = let q : Stores p s d sets = subst (λ (x : Stage). KeepsAt x p s d sets) st k in q .size
+
     taken-right : first (replyLadder Read p s f d (length i)) (λ (j : ℕ). j) 0 ≡ 0 → first (recordLadder p s f) (λ (j : ℕ). j) 0 ≡ 0 → Right taken
     taken-right e₁ e₂ = go (s .stage) refl
       where
@@ -462,6 +481,7 @@ module _ (p : Plan) (s : Session) (f d i : List ℕ) (sets : List (List Message)
         go Storing st = λ a.
             stores p d i (plan-ok p s f d i sets of keep sz e₁ e₂) (lengths p s f d i sets of keep sz e₁ e₂ .desk-is) (lengths p s f d i sets of keep sz e₁ e₂ .item-is)
             s f sets st (subst (λ (x : Stage). KeepsAt x p s d sets) st keep) sz
+            (most-after p s f d i sets of keep sz e₁ e₂ (record { is = Record }) refl (storing-size st keep))
         go Ended st = λ a. absurd (clash (sym (ap isEnded st) ∙ n₁ p s f d i sets of keep sz e₁ e₂ .1 .1 .1 .0))
 
     call-leaves : AllApart (closing p s f d (length i) sets) → Leaves p (readReply p s f d i) (closing p s f d (length i) sets)

@@ -1,21 +1,20 @@
 -- A WHOLE WRITE IS FIGURE 2'S. Over any calls from opening, the write round sends what WRITE sends for the times of the time round and the
 -- item, and done bears WRITE's timestamp (write-run, opened-write). Assumes nothing.
 use Prim.{Unit, tt}
-use Prim.Native.Nat.{ℕ, zero, suc, _+_, _-_, _*_, _≤_, _<_}
-use mathlib.Core.Path.{_≡_, refl, sym, ap, ap₂, _∙_, subst}
+use Prim.Native.Nat.{ℕ, suc, _+_, _-_, _*_, _≤_, _<_}
+use mathlib.Core.Path.{_≡_, refl, sym, ap, _∙_, subst}
 use mathlib.Core.Bool.{Bool, true, false, cond, not}
 use mathlib.Core.List.{List, [], _∷_, _++_, append-nil, append-assoc}
 use native.Mathlib.Omega.{arith}
 use borrow.Author.Tests.{ltb-true, ltb-false, eqb-true, not-false}
 use lib.Dec.{ltb, eqb}
 use lib.ListN.{length, set, length-append, length-set}
-use Rattle.octets.specs.Bytes.{part, num, be, Octets}
+use Rattle.octets.specs.Bytes.{part, num, be}
 use Rattle.octets.proofs.Laws.{length-be, part-all, part-middle}
 use Rattle.sha256.specs.Sha256.{sha256}
 use Rattle.sha256.proofs.Laws.{sha256-length}
 use Rattle.terms.specs.Ladder.{first, _and_}
-use Rattle.terms.specs.Stamp.{stamp, time, stampAt, stampNumber}
-use Rattle.terms.specs.Terms.{planOk, recordLength}
+use Rattle.terms.specs.Stamp.{stamp, time, stampNumber}
 use Rattle.terms.specs.declared.Plan.{Plan}
 use Rattle.terms.specs.declared.Ask.{Ask}
 use Rattle.terms.proofs.Rungs.{None, both, clash}
@@ -24,7 +23,7 @@ use Rattle.terms.proofs.Stamps.{stamp-at-number}
 use Rattle.fragments.specs.Fragments.{fragment, from, Sources}
 use Rattle.fragments.proofs.Laws.{fragment-is, length-regenerated, length-from, getD-from, run-fits}
 use Rattle.record.specs.Record.{crossOf, fragmentOf, fragmentHash}
-use Rattle.record.specs.Desk.{slotOf, crossMade, row, stampMade}
+use Rattle.record.specs.Desk.{slotOf, crossMade, stampMade}
 use Rattle.record.proofs.Desks.{length-cross}
 use Rattle.frame.specs.Frame.{frameNode, bodyOf}
 use Rattle.rounds.specs.declared.Heard.the-variants.{Unheard, Record}
@@ -129,7 +128,7 @@ pub record Times (p : Plan) (s : Session) (w : Timed) : Type 0 where
 
 abbrev pub KeepsAt : Stage → Plan → Session → List ℕ → Timed → Type 0
 KeepsAt Asking p s d w = Times p s w
-KeepsAt Storing p s d w = Sending p s d w
+KeepsAt Storing p s d w = Sending p s d w × (length (s .marks) ≡ 16)
 KeepsAt Ended p s d w = Unit {0}
 
 abbrev pub Keeps : Plan → Session → List ℕ → Timed → Type 0
@@ -137,7 +136,7 @@ Keeps p s d w = KeepsAt (s .stage) p s d w
 
 pub record Right (p : Plan) (o : Leaves) (w : Timed) : Type 0 where
   pub keeps : Keeps p (o .session) (o .desk) w
-  pub wrote : Wrote p (o .said) w
+  pub wrote : Wrote p (o .session) (o .said) w
 
 -- ---- a time round after a reply; no more than N-t were heard
 module _ (p : Plan) (s : Session) (d i : List ℕ) (ts : List ℕ) (st : s .stage ≡ Asking) (li : length i ≡ p .m * p .f)
@@ -166,7 +165,7 @@ module _ (p : Plan) (s : Session) (d i : List ℕ) (ts : List ℕ) (st : s .stag
             → Right p (cond t (leaves clockSpent (endedOf s) d)
             (leaves stillOpen (storingOf s (stampFor p (newTime (s .greatest .0)) i)) (recordsFor p (newTime (s .greatest .0)) i))) with-item
         go true e = record { keeps = tt; wrote = sym (k .greatest) ∙ eqb-true (s .greatest .0) 18446744073709551615 e }
-        go false e = record { keeps = sending-so l; wrote = tt }
+        go false e = record { keeps = (sending-so l, refl); wrote = tt }
 
     times-on : Right p (timeTurn p s d i) with-item
     unfolding timeTurn
@@ -177,13 +176,17 @@ module _ (p : Plan) (s : Session) (d i : List ℕ) (ts : List ℕ) (st : s .stag
         go false e = time-ends (ltb-false (heardCount (s .marks)) (replies p) e)
 
 -- ---- a write round after a reply
-writes-on : (p : Plan) (s : Session) (d : List ℕ) (w : Timed) → s .stage ≡ Storing → Sending p s d w → Right p (writeTurn p s d) w
+writes-on : (p : Plan) (s : Session) (d : List ℕ) (w : Timed) → s .stage ≡ Storing → Sending p s d w × (length (s .marks) ≡ 16)
+    → heardCount (s .marks) ≤ replies p → Right p (writeTurn p s d) w
 unfolding writeTurn
-writes-on p s d w st k = go (ltb (heardCount (s .marks)) (replies p))
+writes-on p s d w st k most = go (ltb (heardCount (s .marks)) (replies p)) refl
   where
-    go : (t : Bool) → Right p (cond t (leaves stillOpen s d) (leaves (done (stampNumber (s .stamp)) 0) (endedOf s) d)) w
-    go true = record { keeps = subst (λ (x : Stage). KeepsAt x p s d w) (sym st) k; wrote = tt }
-    go false = record { keeps = tt; wrote = k .stamp }
+    go : (t : Bool) → ltb (heardCount (s .marks)) (replies p) ≡ t
+        → Right p (cond t (leaves stillOpen s d) (leaves (done (stampNumber (s .stamp)) 0) (endedOf s) d)) w
+    go true e = record { keeps = subst (λ (x : Stage). KeepsAt x p s d w) (sym st) k; wrote = tt }
+    go false e =
+        let l = ltb-false (heardCount (s .marks)) (replies p) e in
+        record { keeps = tt; wrote = (k .0 .stamp, omega (arith, most, l)) }
 
 -- ---- a call
 pub record Turn : Type 0 where
@@ -246,18 +249,18 @@ module _ (p : Plan) (s : Session) (f d i : List ℕ) (w : Timed) where
     unfolding isHeard
     no-mark = not-heard (markOf (s .marks) (frameNode f)) (n .1 .1 .1 .1 .1 .1 .0)
 
-    module _ (k : Times p s w) where
-      counted : heardCount (set (s .marks) (frameNode f) (record { is = Record })) ≡ suc (heardCount (s .marks))
-      counted =
-          let n16 = plan-is p (q .plan-ok) .n-high in
-          count-set (s .marks) (frameNode f) (record { is = Record }) (omega (arith, q .reply .node-low, k .size)) no-mark refl
+    counted : length (s .marks) ≡ 16 → heardCount (set (s .marks) (frameNode f) (record { is = Record })) ≡ suc (heardCount (s .marks))
+    counted l =
+        let n16 = plan-is p (q .plan-ok) .n-high in
+        count-set (s .marks) (frameNode f) (record { is = Record }) (omega (arith, q .reply .node-low, l)) no-mark refl
 
+    module _ (k : Times p s w) where
       times-after : Times p (timedOf s (frameNode f) (time (bodyOf f))) heardTime
       unfolding MAX
       times-after =
           record {
             greatest = ap (λ (x : ℕ). larger x (time (bodyOf f))) (k .greatest);
-            count = counted ∙ ap suc (k .count);
+            count = counted (k .size) ∙ ap suc (k .count);
             size = length-set (s .marks) (frameNode f) (record { is = Record }) ∙ k .size;
           }
 
@@ -270,10 +273,12 @@ module _ (p : Plan) (s : Session) (f d i : List ℕ) (w : Timed) where
         go Asking st =
             let k : Times p s w = subst (λ (x : Stage). KeepsAt x p s d w) st keep in
             times-on p (timedOf s (frameNode f) (time (bodyOf f))) d i (time (bodyOf f) ∷ w .Times) st (q .lengths .item-is)
-            (omega (arith, counted k, few)) (times-after k)
+            (omega (arith, counted (k .size), few)) (times-after k)
         go Storing st =
-            let k : Sending p s d w = subst (λ (x : Stage). KeepsAt x p s d w) st keep in
-            writes-on p (markedOf s (frameNode f) Record) d w st (record { times = k .times; stamp = k .stamp; sends = k .sends })
+            let k : Sending p s d w × (length (s .marks) ≡ 16) = subst (λ (x : Stage). KeepsAt x p s d w) st keep in
+            writes-on p (markedOf s (frameNode f) Record) d w st
+            (record { times = k .0 .times; stamp = k .0 .stamp; sends = k .0 .sends }, length-set (s .marks) (frameNode f) (record { is = Record }) ∙ k .1)
+            (omega (arith, counted (k .1), few))
         go Ended st = absurd (clash (sym (ap isEnded st) ∙ n .1 .1 .1 .0))
 
   call-right : Keeps p s d w → Right p (writeReply p s f d i) (timing p s f d i w)
@@ -284,15 +289,17 @@ module _ (p : Plan) (s : Session) (f d i : List ℕ) (w : Timed) where
       (λ e. taken-right keep e)))
 
 -- ---- the run
+sent : (p : Plan) (s : Session) (d : List ℕ) (w : Timed) → s .stage ≡ Storing → Keeps p s d w → Sending p s d w
+sent p s d w e k = let q : Sending p s d w × (length (s .marks) ≡ 16) = subst (λ (y : Stage). KeepsAt y p s d w) e k in q .0
+
 -- EACH CALL OF A WRITE SENDS AND TELLS WHAT FIGURE 2'S WRITE DOES
 pub write-run : (p : Plan) (s : Session) (d : List ℕ) (w : Timed) (cs : List Answered) → Keeps p s d w → Writes p s d cs → EachWrites p s d w cs
 write-run p s d w [] k r = tt
 write-run p s d w (c ∷ cs) k r =
-    let x : Timed = timing p s (c .frame) d (c .item) w in
     let q : Right p (leaves (saidOf (c .took .answer)) (c .took .session) (c .desk)) (timing p s (c .frame) d (c .item) w) =
     subst (λ (o : Leaves). Right p o (timing p s (c .frame) d (c .item) w)) (sym (r .1 .is)) (call-right p s (c .frame) d (c .item) w k) in (
       q .wrote,
-      (λ e. subst (λ (y : Stage). KeepsAt y p (c .took .session) (c .desk) (timing p s (c .frame) d (c .item) w)) e (q .keeps)),
+      (λ e. sent p (c .took .session) (c .desk) (timing p s (c .frame) d (c .item) w) e (q .keeps)),
       write-run p (c .took .session) (c .desk) (timing p s (c .frame) d (c .item) w) cs (q .keeps) (r .2),
     )
 

@@ -18,7 +18,7 @@ use Rattle.session.specs.declared.Session.{Session}
 use Rattle.session.specs.Session.{endedOf, nextOf, storingOf, stillOpen, done, neverWritten, aborted, roundsSpent}
 use Rattle.session.specs.Reader.{Outcome, outcome}
 use Rattle.report.specs.Triple.{Message, null, strung, In}
-use Rattle.report.specs.Figure3.{Command, READ-LATEST, READ-PREVIOUS, Decision, returned, repaired, ABORT, reading}
+use Rattle.report.specs.Figure3.{READ-LATEST, READ-PREVIOUS, Decision, returned, repaired, ABORT, reading}
 use Rattle.report.specs.Ours.{sending}
 
 pub record Returns (p : Plan) (s : Session) (d i : List ℕ) (o : Outcome) (ts : ℕ) (Data : List ℕ) : Type 0 where

@@ -1,10 +1,9 @@
--- Figure 2 of CMU-PDL-03-105: client-side write operation pseudo-code. SEND and POLL are the network's; what a loop gathers is given, and
--- what is sent is the result.
+-- Figure 2 of CMU-PDL-03-105: client-side write operation pseudo-code. A line's number stands beside it. SEND and POLL are the network's:
+-- what a loop gathers is given, and what is sent is the result.
 --   READ-TIMESTAMP MAKE-CROSS-CHECKSUM MAKE-TIMESTAMP DO-WRITE WRITE
 -- Assumes nothing.
 use Prim.Native.Nat.{ℕ, _+_, _-_}
 use mathlib.Core.List.{List}
-use lib.ListN.{length}
 use Rattle.report.specs.Triple.{Message, MAX, listed, strung, Family}
 
 -- line 12 of both loops: until (|ResponseSet| = N - t)

@@ -1,5 +1,5 @@
--- Figure 3 of CMU-PDL-03-105: client-side read operation pseudo-code. READ's loop is a recursion over the response sets that DO_READ
--- returned, the last one first.
+-- Figure 3 of CMU-PDL-03-105: client-side read operation pseudo-code. A line's number stands beside it. READ's loop is a recursion over the
+-- response sets that DO_READ returned, the last one first.
 --   VALIDATE, receives    DO_READ: one turn of its loop
 --   ts-candidate CandidateSet    CHOOSE_CANDIDATE
 --   VALIDATE-CANDIDATE-SET

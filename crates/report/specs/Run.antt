@@ -70,10 +70,11 @@ closedOver p s d before [] = before
 closedOver p s d before (c ∷ cs) =
     closedOver p (c .took .session) (c .desk) (closing p s (c .frame) d (length (c .item)) before) cs
 
--- done with a timestamp and the item that was left; or done by repair, once DO_WRITE has its N-t responses
-pub record RepairedTo (p : Plan) (closed : List (List Message)) (ts : ℕ) (item : List ℕ) : Type 0 where
+-- done by repair, once DO_WRITE has its N-t responses; the session handed back has their marks
+pub record RepairedTo (p : Plan) (s : Session) (closed : List (List Message)) (ts : ℕ) (item : List ℕ) : Type 0 where
   pub sent : List Message
   pub is : READ (family p) closed ≡ repaired sent ts item
+  pub acknowledged : heardCount (s .marks) ≡ enough (family p)
 
 -- (01) cut: line 24 of round W sends nothing more
 pub record Spent (p : Plan) (closed : List (List Message)) (rounds : ℕ) : Type 0 where
@@ -81,15 +82,15 @@ pub record Spent (p : Plan) (closed : List (List Message)) (rounds : ℕ) : Type
   pub is : READ (family p) closed ≡ reading (READ-PREVIOUS ts)
   pub cut : rounds ≡ p .w
 
--- an answer, the item that was left, and the rounds closed so far; the rounds reported are their number
-abbrev pub Tells : Plan → Said → List ℕ → List (List Message) → Type 0
-Tells p (refused k) item closed = Unit {0}
-Tells p stillOpen item closed = Unit {0}
-Tells p (done ts rounds) item closed = ((READ (family p) closed ≡ returned ts item) ⊎ RepairedTo p closed ts item) × (rounds ≡ length closed)
-Tells p (neverWritten rounds) item closed = (READ (family p) closed ≡ returned 0 null) × (rounds ≡ length closed)
-Tells p (aborted rounds) item closed = (READ (family p) closed ≡ ABORT) × (rounds ≡ length closed)
-Tells p (roundsSpent rounds) item closed = Spent p closed rounds × (rounds ≡ length closed)
-Tells p clockSpent item closed = ⊥
+-- an answer, with the session and the item handed back, and the rounds closed so far; the rounds reported are their number
+abbrev pub Tells : Plan → Session → Said → List ℕ → List (List Message) → Type 0
+Tells p s (refused k) item closed = Unit {0}
+Tells p s stillOpen item closed = Unit {0}
+Tells p s (done ts rounds) item closed = ((READ (family p) closed ≡ returned ts item) ⊎ RepairedTo p s closed ts item) × (rounds ≡ length closed)
+Tells p s (neverWritten rounds) item closed = (READ (family p) closed ≡ returned 0 null) × (rounds ≡ length closed)
+Tells p s (aborted rounds) item closed = (READ (family p) closed ≡ ABORT) × (rounds ≡ length closed)
+Tells p s (roundsSpent rounds) item closed = Spent p closed rounds × (rounds ≡ length closed)
+Tells p s clockSpent item closed = ⊥
 
 -- in a repair round: READ is at line 15, and the desk holds what DO_WRITE sends
 pub record Repairing (p : Plan) (s : Session) (d : List ℕ) (closed : List (List Message)) : Type 0 where
@@ -99,7 +100,7 @@ pub record Repairing (p : Plan) (s : Session) (d : List ℕ) (closed : List (Lis
 abbrev pub EachTells : Plan → Session → List ℕ → List (List Message) → List Answered → Type 0
 EachTells p s d before [] = Unit {0}
 EachTells p s d before (c ∷ cs) =
-    Tells p (saidOf (c .took .answer)) (c .left) (closing p s (c .frame) d (length (c .item)) before)
+    Tells p (c .took .session) (saidOf (c .took .answer)) (c .left) (closing p s (c .frame) d (length (c .item)) before)
     × (c .took .session .stage ≡ Storing → Repairing p (c .took .session) (c .desk) (closing p s (c .frame) d (length (c .item)) before))
     × EachTells p (c .took .session) (c .desk) (closing p s (c .frame) d (length (c .item)) before) cs
 
@@ -135,15 +136,16 @@ timing p s f d item before =
     first (replyLadder Write p s f d (length item)) (λ (k : ℕ). before)
     (cond (isStoring (s .stage)) before (record { Times = time (bodyOf f) ∷ before .Times; Data = item }))
 
--- done is WRITE's timestamp; clock spent (01) is a greatest time of 2^64-1, whose next time has no 8 bytes; a write has no other ending
-abbrev pub Wrote : Plan → Said → Timed → Type 0
-Wrote p (refused k) w = Unit {0}
-Wrote p stillOpen w = Unit {0}
-Wrote p (done ts rounds) w = ts ≡ ts-written (family p) (w .Data) (w .Times)
-Wrote p (neverWritten rounds) w = ⊥
-Wrote p (aborted rounds) w = ⊥
-Wrote p (roundsSpent rounds) w = ⊥
-Wrote p clockSpent w = MAX (w .Times) ≡ 18446744073709551615
+-- done: WRITE's timestamp, and DO_WRITE has its N-t responses; clock spent (01): a greatest time of 2^64-1, whose next has no 8 bytes; a write
+-- has no other ending
+abbrev pub Wrote : Plan → Session → Said → Timed → Type 0
+Wrote p s (refused k) w = Unit {0}
+Wrote p s stillOpen w = Unit {0}
+Wrote p s (done ts rounds) w = (ts ≡ ts-written (family p) (w .Data) (w .Times)) × (heardCount (s .marks) ≡ enough (family p))
+Wrote p s (neverWritten rounds) w = ⊥
+Wrote p s (aborted rounds) w = ⊥
+Wrote p s (roundsSpent rounds) w = ⊥
+Wrote p s clockSpent w = MAX (w .Times) ≡ 18446744073709551615
 
 -- in a write round: the time round had N-t replies, and the desk holds what DO_WRITE sends
 pub record Sending (p : Plan) (s : Session) (d : List ℕ) (w : Timed) : Type 0 where
@@ -154,6 +156,6 @@ pub record Sending (p : Plan) (s : Session) (d : List ℕ) (w : Timed) : Type 0 
 abbrev pub EachWrites : Plan → Session → List ℕ → Timed → List Answered → Type 0
 EachWrites p s d before [] = Unit {0}
 EachWrites p s d before (c ∷ cs) =
-    Wrote p (saidOf (c .took .answer)) (timing p s (c .frame) d (c .item) before)
+    Wrote p (c .took .session) (saidOf (c .took .answer)) (timing p s (c .frame) d (c .item) before)
     × (c .took .session .stage ≡ Storing → Sending p (c .took .session) (c .desk) (timing p s (c .frame) d (c .item) before))
     × EachWrites p (c .took .session) (c .desk) (timing p s (c .frame) d (c .item) before) cs

@@ -12,7 +12,7 @@ use Rattle.terms.specs.declared.Plan.{Plan}
 use Rattle.book.specs.Records.{rising}
 use Rattle.book.specs.Book.{recordsOf, laidOut, usedOf}
 use Rattle.book.proofs.Laid as laid
-use Rattle.conduct.specs.Deliver.{Among, accepted, keptAll, gathered, finalBook, Delivery, sent, after, Ready, Delivers, Contents}
+use Rattle.conduct.specs.Deliver.{Among, accepted, keptAll, gathered, finalBook, Delivery, sent, delivered, Ready, Delivers, Contents}
 use Rattle.conduct.proofs.Order as order
 use Rattle.conduct.proofs.Order.{Agree, Of}
 use Rattle.conduct.proofs.One as one
@@ -42,7 +42,7 @@ module _ (p : Plan) (books : ℕ → List ℕ) (fs : List (List ℕ)) (i : ℕ) 
   room = subst (λ (l : List (List ℕ)). 11 + length l * recordLength p ≤ length (books i)) gathered-is (r .room)
 
   -- what a run leaves: the gathered records laid out over the old book
-  ends : (ds : List Delivery) → Delivers p fs ds i → one.Laid p i (books i) (after p ds books i) (keptAll (accepted p i fs) (recordsOf p (books i)))
+  ends : (ds : List Delivery) → Delivers p fs ds i → one.Laid p i (books i) (delivered p ds books i) (keptAll (accepted p i fs) (recordsOf p (books i)))
   ends ds h =
       let s : order.Same (accepted p i fs) (accepted p i (sent i ds)) =
       (λ z. (runs.accepted-in p i fs (sent i ds) (h .each) z, runs.accepted-in p i (sent i ds) fs (λ f m _. h .only f m) z)) in
@@ -50,7 +50,7 @@ module _ (p : Plan) (books : ℕ → List ℕ) (fs : List (List ℕ)) (i : ℕ) 
       let a : Agree (Of (recordsOf p (books i)) (accepted p i (sent i ds))) = (λ z w hz hw q. agree z w (turn s z hz) (turn s w hw) q) in
       let rm = subst (λ (l : List (List ℕ)). 11 + length l * recordLength p ≤ length (books i)) e room in
       let q = runs.run p i (books i) ds (books i) (recordsOf p (books i)) start (h .room) a rm in
-      subst (λ (l : List (List ℕ)). one.Laid p i (books i) (after p ds books i) l) (sym e)
+      subst (λ (l : List (List ℕ)). one.Laid p i (books i) (delivered p ds books i) l) (sym e)
       (subst (λ (x : List ℕ). one.Laid p i (books i) x (keptAll (accepted p i (sent i ds)) (recordsOf p (books i)))) (sym (runs.after-through p ds books i)) q)
     where
       turn : order.Same (accepted p i fs) (accepted p i (sent i ds)) → (z : List ℕ) → Of (recordsOf p (books i)) (accepted p i (sent i ds)) z
@@ -58,7 +58,7 @@ module _ (p : Plan) (books : ℕ → List ℕ) (fs : List (List ℕ)) (i : ℕ) 
       turn s z (inl h) = inl h
       turn s z (inr h) = inr (s z .1 h)
 
-  pub left : (ds : List Delivery) → Delivers p fs ds i → after p ds books i ≡ finalBook p (books i) fs
+  pub left : (ds : List Delivery) → Delivers p fs ds i → delivered p ds books i ≡ finalBook p (books i) fs
   left ds h = ends ds h .bytes ∙ sym final-is
 
   pub holding : (ds : List Delivery) → Delivers p fs ds i → Contents p (books i) fs
@@ -91,7 +91,7 @@ pub record Setting (p : Plan) (books : ℕ → List ℕ) (fs : List (List ℕ)) 
 
 -- Every one of the N books is left as the book that the definition gives from the old book and the set.
 pub every-book : (p : Plan) (books : ℕ → List ℕ) (fs : List (List ℕ)) (ds : List Delivery) → Setting p books fs ds → (i : ℕ) → i < p .n
-    → after p ds books i ≡ finalBook p (books i) fs
+    → delivered p ds books i ≡ finalBook p (books i) fs
 every-book p books fs ds g i l = left p books fs i (g .plan) (g .ready i l) ds (g .delivers i l)
 
 -- That book holds the old records and the accepted ones, each once, by timestamp; it is a good book, and past its bytes in use it is as it was.
@@ -101,5 +101,5 @@ what-is-left p books fs ds g i l = holding p books fs i (g .plan) (g .ready i l)
 
 -- So two runs, in whatever order and with whatever repeats, leave the same bytes in all N books.
 pub any-order : (p : Plan) (books : ℕ → List ℕ) (fs : List (List ℕ)) (ds es : List Delivery) → Setting p books fs ds → Setting p books fs es → (i : ℕ)
-    → i < p .n → after p ds books i ≡ after p es books i
+    → i < p .n → delivered p ds books i ≡ delivered p es books i
 any-order p books fs ds es g h i l = every-book p books fs ds g i l ∙ sym (every-book p books fs es h i l)

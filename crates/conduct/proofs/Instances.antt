@@ -36,8 +36,8 @@ use Rattle.node.specs.declared.Made.the-variants.{Fresh}
 use Rattle.node.specs.Fresh.{FreshCall, freshened}
 use Rattle.terms.specs.declared.Refusal.the-variants.{OutsidePlan}
 use Rattle.conduct.proofs.Node as calls
-use Rattle.node.specs.Node.{zeroTime, hashFails, served, answered, replies, replyTo, replied, Outcome, outcome, NodeCall, nodeLadder}
-use Rattle.conduct.specs.Deliver.{Among, passes, accepted, keptAll, gathered, Delivery, sent, after, Ready, Delivers}
+use Rattle.node.specs.Node.{zeroTime, hashFails, served, answered, sends, replyTo, replied, Outcome, outcome, NodeCall, nodeLadder}
+use Rattle.conduct.specs.Deliver.{Among, passes, accepted, keptAll, gathered, Delivery, sent, delivered, Ready, Delivers}
 use Rattle.conduct.specs.History.{Call, History}
 use Rattle.conduct.proofs.Order as order
 use Rattle.conduct.proofs.One as one
@@ -299,7 +299,7 @@ unfolding plan
 given-second =
     record { plan = accepted-plan; ready = at-zero (Ready plan books set) ready; delivers = at-zero (Delivers plan set second-run) second-delivers }
 
-pub same-bytes : after plan first-run books 0 ≡ after plan second-run books 0
+pub same-bytes : delivered plan first-run books 0 ≡ delivered plan second-run books 0
 unfolding plan
 same-bytes = theorems.any-order plan books set first-run second-run given-first given-second 0 (omega arith)
 
@@ -309,7 +309,7 @@ unfolding keptAll
 alone x = let a = kept-most (x ∷ []) [] in omega arith
 
 reply-length : answered plan (request 1) book (zeros 88) .answer ≡ replied 55
-unfolding answered replies replyTo
+unfolding answered sends replyTo
 reply-length =
     let k : kindOf (request 1) ≡ 3 = kind-is 1 (omega arith) (omega arith) in
     let l : length (bodyOf (request 1)) ≡ 73 = ap length (body-is 1 (omega arith) (omega arith)) ∙ length-record 1 in

@@ -22,7 +22,7 @@ use Rattle.node.specs.declared.Answer.{Answer}
 use Rattle.node.specs.declared.Answer.the-variants.{Refused, Replied}
 use Rattle.node.specs.declared.Made.{Made}
 use Rattle.node.specs.declared.Made.the-variants as make
-use Rattle.node.specs.Node.{NodeCall, served, answered, replies, bookAfter, said, Said, refused, replied, Outcome, outcome, nodeLadder, lengthsOk, zeroTime, hashFails, otherHeld, noRoom}
+use Rattle.node.specs.Node.{NodeCall, served, answered, sends, bookAfter, said, Said, refused, replied, Outcome, outcome, nodeLadder, lengthsOk, zeroTime, hashFails, otherHeld, noRoom}
 use Rattle.node.specs.Fresh.{FreshCall, FreshOutcome, made, freshOutcome, saidMade, freshened, freshLadder}
 use Rattle.node.specs.Fresh as fresh
 use Rattle.conduct.proofs.Ladders as ladders
@@ -51,7 +51,7 @@ module _ (p : Plan) (f b y : List ℕ) where
   IsReply (replied n) = _≡_ {A = ℕ} 0 0
 
   replies-so : IsReply (answered p f b y .answer)
-  unfolding answered replies
+  unfolding answered sends
   replies-so = refl
 
   -- A call that answers refusal k changes no byte of the book or the reply buffer; its condition holds, and none before it in the order 1 to 8.

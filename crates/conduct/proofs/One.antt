@@ -26,7 +26,7 @@ use Rattle.book.proofs.Lists.{length-insert}
 use Rattle.book.proofs.Laid as laid
 use Rattle.book.proofs.Back as back
 use Rattle.book.proofs.Laws as books
-use Rattle.node.specs.Node.{served, answered, replies, bookAfter, Outcome, outcome, refused, nodeLadder, writes, zeroTime, hashFails, otherHeld, noRoom, lengthsOk}
+use Rattle.node.specs.Node.{served, answered, sends, bookAfter, Outcome, outcome, refused, nodeLadder, writes, zeroTime, hashFails, otherHeld, noRoom, lengthsOk}
 use Rattle.node.proofs.Laws as nodes
 use Rattle.conduct.specs.Deliver.{Among, passes}
 use Rattle.conduct.proofs.Order as order
@@ -58,7 +58,7 @@ unfolding passes
 pass-back p node f q = rw (q .frame, q .kind, q .time, q .hash)
 
 pub answered-book : (p : Plan) (f b y : List ℕ) → answered p f b y .book ≡ bookAfter p f b
-unfolding answered replies
+unfolding answered sends
 answered-book p f b y = refl
 
 pub after-other : (p : Plan) (f b : List ℕ) → writes f ≡ false → bookAfter p f b ≡ b

@@ -15,7 +15,7 @@ use Rattle.frame.specs.Frame.{bodyOf}
 use Rattle.book.specs.Records.{holds, kept}
 use Rattle.book.proofs.Lists.{length-insert}
 use Rattle.node.specs.Node.{served}
-use Rattle.conduct.specs.Deliver.{Among, passes, accepted, keptAll, Delivery, sent, after, Roomy}
+use Rattle.conduct.specs.Deliver.{Among, passes, accepted, keptAll, Delivery, sent, delivered, Roomy}
 use Rattle.conduct.proofs.Order as order
 use Rattle.conduct.proofs.Order.{Agree, Of}
 use Rattle.conduct.proofs.One as one
@@ -25,8 +25,8 @@ unfoldable pub through : Plan → ℕ → List Delivery → List ℕ → List �
 through p i [] b = b
 through p i (d ∷ ds) b = through p i ds (cond (eqb i (d .node)) (served p (d .request) b (d .reply) .book) b)
 
-pub after-through : (p : Plan) (ds : List Delivery) (books : ℕ → List ℕ) (i : ℕ) → after p ds books i ≡ through p i ds (books i)
-unfolding after through
+pub after-through : (p : Plan) (ds : List Delivery) (books : ℕ → List ℕ) (i : ℕ) → delivered p ds books i ≡ through p i ds (books i)
+unfolding delivered through
 after-through p [] books i = refl
 after-through p (d ∷ ds) books i =
     after-through p ds (λ (j : ℕ). cond (eqb j (d .node)) (served p (d .request) (books j) (d .reply) .book) (books j)) i

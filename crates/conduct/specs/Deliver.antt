@@ -5,7 +5,7 @@
 --   Among                 z is one of a list
 --   passes, accepted      a request passes the checks of a node; the records of those that do
 --   gathered, finalBook   the old records and the accepted ones, each once, by timestamp; laid out over the old book
---   Delivery, sent, after a request brought to a node; those that a run brings to one node; the books after a run
+--   Delivery sent delivered   a request brought to a node; those that a run brings to one node; the books after a run
 --   Ready, Delivers       what the demand takes of a node's book and a set, and of a run
 --   Contents              what it says of the bytes that are left
 -- books i is the book of node i. Assumes nothing.
@@ -60,10 +60,10 @@ sent i [] = []
 sent i (d ∷ ds) = cond (eqb i (d .node)) (d .request ∷ sent i ds) (sent i ds)
 
 -- each delivery is one call at its node, which by its contract leaves this book there
-unfoldable pub after : Plan → List Delivery → (ℕ → List ℕ) → ℕ → List ℕ
-after p [] books i = books i
-after p (d ∷ ds) books i =
-    after p ds (λ (j : ℕ). cond (eqb j (d .node)) (served p (d .request) (books j) (d .reply) .book) (books j)) i
+unfoldable pub delivered : Plan → List Delivery → (ℕ → List ℕ) → ℕ → List ℕ
+delivered p [] books i = books i
+delivered p (d ∷ ds) books i =
+    delivered p ds (λ (j : ℕ). cond (eqb j (d .node)) (served p (d .request) (books j) (d .reply) .book) (books j)) i
 
 -- a good book of this node, with room for what the set brings; one timestamp is one record
 pub record Ready (p : Plan) (books : ℕ → List ℕ) (fs : List (List ℕ)) (i : ℕ) : Type 0 where

@@ -22,7 +22,7 @@ use Rattle.rounds.specs.Rounds.{heardCount}
 use Rattle.node.specs.declared.Answer.{Answer}
 use Rattle.node.specs.declared.Made.{Made}
 use Rattle.node.specs.Node as node
-use Rattle.node.specs.Node.{NodeCall, nodeLadder, served, answered, replies}
+use Rattle.node.specs.Node.{NodeCall, nodeLadder, served, answered}
 use Rattle.node.specs.Fresh as fresh
 use Rattle.node.specs.Fresh.{FreshCall, FreshOutcome, freshOutcome, freshLadder, freshened, saidMade}
 use Rattle.session.specs.declared.Session.{Session}

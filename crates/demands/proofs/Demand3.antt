@@ -7,7 +7,7 @@ use lib.ListN.{length}
 use Rattle.terms.specs.declared.Plan.{Plan}
 use Rattle.session.specs.declared.Session.{Session}
 use Rattle.session.specs.Session.{replies}
-use Rattle.conduct.specs.Deliver.{Delivery, after}
+use Rattle.conduct.specs.Deliver.{Delivery, delivered}
 use Rattle.conduct.specs.Turns.{Turn, Turns}
 use Rattle.conduct.specs.Round.{opened, RoundOpens, Accepted, SameReplies, Lent, repliesOf, answersOf, leftBy}
 use Rattle.conduct.proofs.Books.{Setting, any-order}
@@ -17,7 +17,7 @@ use Rattle.conduct.proofs.RoundCalls.{any-order-calls}
 -- and no such request and held record, share a timestamp but not the record (Setting). Then delivering all of them, in any order and with
 -- repeats, leaves the same bytes in all N books: the old records and the accepted ones, each once, by timestamp" (what-is-left of conduct).
 pub books-in-any-order : (p : Plan) (books : ℕ → List ℕ) (requests : List (List ℕ)) (one other : List Delivery)
-    → Setting p books requests one → Setting p books requests other → (i : ℕ) → i < p .n → after p one books i ≡ after p other books i
+    → Setting p books requests one → Setting p books requests other → (i : ℕ) → i < p .n → delivered p one books i ≡ delivered p other books i
 books-in-any-order = any-order
 
 -- "From one session, desk and sheet buffer, a read round that opens there and hears the same N - t acceptable replies, one a node, ends alike

@@ -29,7 +29,7 @@ use Rattle.book.proofs.Laws as books
 use Rattle.book.proofs.Back.{long}
 use Rattle.node.specs.declared.Answer.{Answer}
 use Rattle.node.specs.declared.Answer.the-variants.{Refused, Replied}
-use Rattle.node.specs.Node.{lengthsOk, zeroTime, hashFails, otherHeld, noRoom, said, refused, replied, Outcome, outcome, replyTo, replyOf, replies, bookAfter, answered, served, finished, Admitted, Sent, Reply}
+use Rattle.node.specs.Node.{lengthsOk, zeroTime, hashFails, otherHeld, noRoom, said, refused, replied, Outcome, outcome, replyTo, replyOf, sends, bookAfter, answered, served, finished, Admitted, Sent, Reply}
 
 last : (t : Bool) → t ≡ cond t true false
 last true = refl
@@ -142,8 +142,8 @@ module _ (p : Plan) (f b y : List ℕ) where
   sent-out : (kind : ℕ) (body : List ℕ) (a : Answer) (b₂ y₂ : List ℕ) → replyTo (kindOf f) (bodyOf f) (recordsOf p b) ≡ replyOf kind body
       → b₂ ≡ bookAfter p f b → Sent f kind body y a y₂
       → outcome (said a) b₂ y₂ ≡ answered p f b y
-  unfolding answered replies
-  sent-out kind body a b₂ y₂ r e q = (λ i. outcome (q .answer i) (e i) (q .bytes i)) ∙ ap (λ (z : Reply). replies f z (bookAfter p f b) y) (sym r)
+  unfolding answered sends
+  sent-out kind body a b₂ y₂ r e q = (λ i. outcome (q .answer i) (e i) (q .bytes i)) ∙ ap (λ (z : Reply). sends f z (bookAfter p f b) y) (sym r)
 
   reply-1 : kindOf f ≡ 1 → replyTo (kindOf f) (bodyOf f) (recordsOf p b) ≡ replyOf 2 (be 8 (time (lastOf (recordsOf p b))))
   unfolding replyTo

@@ -102,11 +102,11 @@ bookAfter p f b =
     cond (writes f and not (holds (bodyOf f) (recordsOf p b))) (grown p (bodyOf f) b) b
 
 -- "A reply repeats the ask number of its request"; "bytes past a written frame stay"
-unfoldable pub replies : List ℕ → Reply → List ℕ → List ℕ → Outcome
-replies f r b y = outcome (replied (15 + length (r .body))) b (over (frame (r .kind) (frameNode f) (askOf f) (r .body)) y)
+unfoldable pub sends : List ℕ → Reply → List ℕ → List ℕ → Outcome
+sends f r b y = outcome (replied (15 + length (r .body))) b (over (frame (r .kind) (frameNode f) (askOf f) (r .body)) y)
 
 unfoldable pub answered : Plan → List ℕ → List ℕ → List ℕ → Outcome
-answered p f b y = replies f (replyTo (kindOf f) (bodyOf f) (recordsOf p b)) (bookAfter p f b) y
+answered p f b y = sends f (replyTo (kindOf f) (bodyOf f) (recordsOf p b)) (bookAfter p f b) y
 
 -- the first refusal that applies leaves all as it came; where none does, the answer
 unfoldable pub served : Plan → List ℕ → List ℕ → List ℕ → Outcome

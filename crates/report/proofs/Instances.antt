@@ -43,7 +43,7 @@ use Rattle.book.specs.Records.{timed, rising, some}
 use Rattle.book.specs.Book.{recordsFrom, header, joined, laidAs, laidOut, headed, filled, goodBook}
 use Rattle.node.specs.declared.Answer.the-variants.{Replied}
 use Rattle.node.specs.Node as node
-use Rattle.node.specs.Node.{NodeCall, served, answered, replies, replyTo, replied, zeroTime, hashFails, otherHeld, noRoom}
+use Rattle.node.specs.Node.{NodeCall, served, answered, sends, replyTo, replied, zeroTime, hashFails, otherHeld, noRoom}
 use Rattle.conduct.proofs.Node as theorems
 use Rattle.report.specs.Triple.{Message}
 use Rattle.report.specs.Ours.{bearing, responseOf, responses}
@@ -204,7 +204,7 @@ pub taken : node.Outcome
 taken = served plan request book (replicate 88 0)
 
 replied-is : taken .answer ≡ replied 55
-unfolding taken request book rec served first planOk tableOk columnOf all recordLength node.lengthsOk goodBook headed filled rising timed recordsFrom goodRequest goodFrame shaped forParty oneOf bodyFits zeroTime hashFails otherHeld noRoom some fragmentHash hashesOk timeZero answered replies replyTo over laidAs header joined num numFrom part be beOnto alike sha256 after compressOf addedOf roundsOf roundOf T1 T2 scheduleOf words padding bigEndian K
+unfolding taken request book rec served first planOk tableOk columnOf all recordLength node.lengthsOk goodBook headed filled rising timed recordsFrom goodRequest goodFrame shaped forParty oneOf bodyFits zeroTime hashFails otherHeld noRoom some fragmentHash hashesOk timeZero answered sends replyTo over laidAs header joined num numFrom part be beOnto alike sha256 after compressOf addedOf roundsOf roundOf T1 T2 scheduleOf words padding bigEndian K
 replied-is = refl
 
 node-met : NodeCall plan request book (replicate 88 0) (Replied 55) (taken .book) (taken .reply)

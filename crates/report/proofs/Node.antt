@@ -32,7 +32,7 @@ use Rattle.book.proofs.Laid as laid
 use Rattle.book.proofs.Laws as books
 use Rattle.node.specs.declared.Answer.the-variants.{Refused, Replied}
 use Rattle.node.specs.declared.Answer.{Answer}
-use Rattle.node.specs.Node.{NodeCall, served, answered, replies, replyTo, said, replied, refused, Outcome, outcome, nodeLadder, writes, lengthsOk, zeroTime, hashFails, otherHeld, noRoom}
+use Rattle.node.specs.Node.{NodeCall, served, answered, sends, replyTo, said, replied, refused, Outcome, outcome, nodeLadder, writes, lengthsOk, zeroTime, hashFails, otherHeld, noRoom}
 use Rattle.node.specs.declared.Made.the-variants.{Fresh}
 use Rattle.node.specs.Fresh.{FreshCall, FreshOutcome, freshOutcome, made, freshened, freshLadder}
 use Rattle.node.specs.Fresh as fresh
@@ -140,7 +140,7 @@ module _ (p : Plan) (f b y : List ℕ) (ob : Octets b) (of : Octets f) where
     good = books.good-is p b (clear .good)
 
     bytes : y₂ ≡ over (frame (replyTo (kindOf f) (bodyOf f) (recordsOf p b) .kind) (frameNode f) (askOf f) (replyTo (kindOf f) (bodyOf f) (recordsOf p b) .body)) y
-    unfolding answered replies
+    unfolding answered sends
     bytes = ap (λ (o : Outcome). o .reply) (told .1)
 
     left : writes f ≡ false → b₂ ≡ b

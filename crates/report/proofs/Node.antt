@@ -152,7 +152,7 @@ module _ (p : Plan) (f b y : List ℕ) (ob : Octets b) (of : Octets f) where
     read-only k e h = left (ap (λ (j : ℕ). eqb j 3) e ∙ h)
 
     -- RECEIVE_TIME_REQUEST; of the timestamp the reply bears the time only
-    pub time-acts : kindOf f ≡ 1 → (y₂ ≡ over (frame 2 (frameNode f) (askOf f) (be 8 (timeIn (RECEIVE-TIME-REQUEST (history p b))))) y) × (b₂ ≡ b)
+    pub time-acts : kindOf f ≡ 1 → (y₂ ≡ over (frame 2 (frameNode f) (askOf f) (be 8 (family p .Time (RECEIVE-TIME-REQUEST (history p b))))) y) × (b₂ ≡ b)
     unfolding replyTo
     time-acts k = (
       rw k at bytes ∙ ap (λ (t : ℕ). over (frame 2 (frameNode f) (askOf f) (be 8 t)) y)

@@ -12,7 +12,7 @@ use native.Mathlib.Omega.{arith}
 use borrow.Author.Tests.{lt-ltb, leb-true, eq-eqb, ne-eqb}
 use lib.Dec.{ltb, leb, eqb}
 use lib.ListN.{length, set}
-use Rattle.octets.specs.Bytes.{put, Octets}
+use Rattle.octets.specs.Bytes.{put, alike, Octets}
 use Rattle.terms.specs.Stamp.{stamp, time, then, stampNumber}
 use Rattle.terms.specs.Terms.{recordLength}
 use Rattle.terms.specs.declared.Plan.{Plan}
@@ -80,7 +80,7 @@ module _ (p : Plan) (k : ℕ) where
       rw (ne-eqb (stamp rec) 0 (λ e. omega (arith, e, z))) (validate-is p k rec l o)
 
   pub valid-first : VALIDATE (family p) (said-first k) ≡ true
-  unfolding VALIDATE
+  unfolding VALIDATE alike
   valid-first = refl
 
 -- below the bound, as the client's check 12 has it

@@ -44,11 +44,15 @@ use Rattle.book.specs.Book.{recordsFrom, header, joined, laidAs, laidOut, heade
 use Rattle.node.specs.declared.Answer.the-variants.{Replied}
 use Rattle.node.specs.Node as node
 use Rattle.node.specs.Node.{NodeCall, served, answered, sends, replyTo, replied, zeroTime, hashFails, otherHeld, noRoom}
+use Rattle.node.specs.declared.Made.the-variants.{Fresh}
+use Rattle.node.specs.Fresh.{FreshCall, freshened}
+use Rattle.conduct.specs.History.{Call}
 use Rattle.conduct.proofs.Node as theorems
-use Rattle.report.specs.Triple.{Message}
-use Rattle.report.specs.Ours.{bearing, responseOf, responses}
-use Rattle.report.specs.Run.{Answered, Reads, closing, closedOver, EachTells, AllFull, Apart, AllApart, Writes, untimed, EachWrites}
-use Rattle.report.proofs.Node.{Executes, write-acts, Added}
+use Rattle.report.specs.Triple.{Message, Same}
+use Rattle.report.specs.Figure1.{INITIALIZE}
+use Rattle.report.specs.Ours.{history, bearing, responseOf, responses}
+use Rattle.report.specs.Run.{received, Answered, Reads, closing, closedOver, EachTells, AllFull, Apart, AllApart, Writes, untimed, EachWrites}
+use Rattle.report.proofs.Node.{Executes, write-acts, Added, fresh-run}
 use Rattle.report.proofs.Run.{opened-read}
 use Rattle.report.proofs.Write.{opened-write}
 
@@ -232,3 +236,19 @@ added =
       other = c .other;
       room = c .room;
     }
+
+-- the book is a fresh one
+made-so : FreshCall plan 0 (replicate 84 0) Fresh book
+unfolding book freshened first planOk tableOk columnOf all
+made-so = record { is = refl }
+
+pub node-call : Call
+node-call =
+    record { plan = plan; request = request; reply = replicate 88 0; answer = Replied 55; bookLeft = taken .book; replyLeft = taken .reply }
+
+-- the theorem at this run of one call
+pub node-so : Same (history plan (taken .book)) (received plan 0 INITIALIZE (node-call ∷ []))
+unfolding node-call
+node-so =
+    fresh-run plan 0 (replicate 84 0) book (node-call ∷ []) made-so (small-octets book book-small, node-met, tt)
+    (refl, small-octets request request-small, tt)

@@ -1,23 +1,24 @@
 -- WE ACT AS FIGURE 1. A fresh book is INITIALIZE (fresh-acts). The reply to each request is Figure 1's on the node's History (time-acts,
 -- latest-acts, previous-acts, write-acts), and the History after a write is Figure 1's. A refused request leaves the History and sends
 -- nothing (refused-acts), and so does one that VALIDATE turns away (invalid-acts); one that it lets through is executed unless one of the
--- conditions that document 01 adds stands against it (valid-acts). Assumes nothing.
+-- conditions that document 01 adds stands against it (valid-acts). Over any calls the History is the one that Figure 1 holds (node-run,
+-- fresh-run). Assumes nothing.
 use Prim.Native.Nat.{ℕ, zero, suc, _+_, _*_, _≤_}
 use Prim.{tt}
 use mathlib.Core.Path.{_≡_, refl, sym, ap, _∙_, subst}
-use mathlib.Core.Bool.{Bool, true, false, not}
+use mathlib.Core.Bool.{Bool, true, false, cond, not}
 use mathlib.Core.List.{List, [], _∷_}
 use mathlib.Core.Logic.{_⊎_, inl, inr}
 use native.Mathlib.Nat.{suc-mul}
 use native.Mathlib.Omega.{arith}
-use borrow.Author.Tests.{eq-eqb, eqb-false, not-false, leb-true, ltb-true}
+use borrow.Author.Tests.{eq-eqb, eqb-true, eqb-false, not-false, leb-true, ltb-true}
 use lib.Dec.{leb, eqb}
 use lib.ListN.{length, length-drop}
 use Rattle.octets.specs.Bytes.{part, be, over, Octets}
 use Rattle.octets.proofs.Laws.{length-part}
 use Rattle.terms.proofs.Rungs as rungs
 use Rattle.terms.proofs.Rungs.{both, clash}
-use Rattle.terms.specs.Ladder.{first}
+use Rattle.terms.specs.Ladder.{first, _and_}
 use Rattle.terms.specs.Stamp.{stamp, time}
 use Rattle.terms.specs.Terms.{planOk, recordLength}
 use Rattle.terms.specs.declared.Plan.{Plan}
@@ -38,14 +39,16 @@ use Rattle.node.specs.Fresh.{FreshCall, FreshOutcome, freshOutcome, made, fresh
 use Rattle.node.specs.Fresh as fresh
 use Rattle.node.proofs.Laws as nodes
 use Rattle.conduct.specs.Deliver.{Among}
+use Rattle.conduct.specs.History.{Call, History, lastBook}
 use Rattle.conduct.proofs.Order as order
 use Rattle.conduct.proofs.One as one
 use Rattle.conduct.proofs.Node as calls
 use Rattle.conduct.proofs.Kept as keeps
 use Rattle.conduct.proofs.Ladders as ladders
 use Rattle.report.specs.Triple.{Triple, each, In, Same}
-use Rattle.report.specs.Figure1.{initial, INITIALIZE, RECEIVE-TIME-REQUEST, VALIDATE, with-it, RECEIVE-WRITE-REQUEST, RECEIVE-READ-LATEST, RECEIVE-READ-PREVIOUS}
+use Rattle.report.specs.Figure1.{initial, INITIALIZE, RECEIVE-TIME-REQUEST, VALIDATE, with-it, Written, RECEIVE-WRITE-REQUEST, RECEIVE-READ-LATEST, RECEIVE-READ-PREVIOUS}
 use Rattle.report.specs.Ours.{family, tripleOf, history, timeIn}
+use Rattle.report.specs.Run.{OfPlan, replies-to, received}
 use Rattle.report.proofs.Triples.{octets-part, octets-drop, stamp-low, time-in, time-none, validate-is}
 use Rattle.report.proofs.Latest.{time-of, latest-of, previous-of}
 
@@ -150,7 +153,7 @@ module _ (p : Plan) (f b y : List ℕ) (ob : Octets b) (of : Octets f) where
     read-only k e h = left (ap (λ (j : ℕ). eqb j 3) e ∙ h)
 
     -- RECEIVE_TIME_REQUEST; of the timestamp the reply bears the time only
-    pub time-acts : kindOf f ≡ 1 → (y₂ ≡ over (frame 2 (frameNode f) (askOf f) (be 8 (timeIn (RECEIVE-TIME-REQUEST (history p b))))) y) × (b₂ ≡ b)
+    pub time-acts : kindOf f ≡ 1 → (y₂ ≡ over (frame 2 (frameNode f) (askOf f) (be 8 (family p .Time (RECEIVE-TIME-REQUEST (history p b))))) y) × (b₂ ≡ b)
     unfolding replyTo
     time-acts k = (
       rw k at bytes ∙ ap (λ (t : ℕ). over (frame 2 (frameNode f) (askOf f) (be 8 t)) y)
@@ -247,15 +250,15 @@ module _ (p : Plan) (node : ℕ) (b b₂ : List ℕ) (c : FreshCall p node b Fre
   abbrev done : FreshOutcome
   done = freshOutcome made (over (laidOut p node []) b)
 
-  empty : recordsOf p b₂ ≡ []
+  laid-fresh : one.Laid p node b b₂ []
   unfolding freshened timed rising
-  empty =
-      ladders.by-ladder (λ (o : FreshOutcome). freshOutcome made b₂ ≡ o → recordsOf p b₂ ≡ []) (freshLadder p node b) refuse done
+  laid-fresh =
+      ladders.by-ladder (λ (o : FreshOutcome). freshOutcome made b₂ ≡ o → one.Laid p node b b₂ []) (freshLadder p node b) refuse done
       (λ k g h. absurd (let s : made ≡ fresh.refused k = ap (λ (o : FreshOutcome). o .answer) h in let z : _≡_ {A = ℕ} 0 1 = cc in omega arith))
       (λ n h.
       let l = both (leb 11 (length b)) (leb (length b) 65536) (not-false _ (n .1 .0)) in
       let low : 11 ≤ length b = leb-true _ _ (l .0) in
-      let i : one.Laid p node b b₂ [] = record {
+      record {
         plan = not-false _ (n .0);
         low = ltb-true _ _ (not-false _ (n .1 .1 .0));
         high = leb-true _ _ (l .1);
@@ -264,10 +267,94 @@ module _ (p : Plan) (node : ℕ) (b b₂ : List ℕ) (c : FreshCall p node b Fre
         times = refl;
         rise = refl;
         fits = omega arith;
-      } in
-      one.is-records i)
+      })
       (c .is)
 
   pub fresh-acts : history p b₂ ≡ INITIALIZE
   unfolding each
-  fresh-acts = ap (λ (rs : List (List ℕ)). initial ∷ each (tripleOf p) rs) empty
+  fresh-acts = ap (λ (rs : List (List ℕ)). initial ∷ each (tripleOf p) rs) (one.is-records laid-fresh)
+
+-- ---- a run of calls
+same-trans : (A B C : List Triple) → Same A B → Same B C → Same A C
+same-trans A B C f g X = ((λ h. g X .0 (f X .0 h)), (λ h. f X .1 (g X .1 h)))
+
+with-same : (X : Triple) (A B : List Triple) → Same A B → Same (with-it X A) (with-it X B)
+with-same X A B f Y = (there, back)
+  where
+    there : In Y (with-it X A) → In Y (with-it X B)
+    there (inl e) = inl e
+    there (inr h) = inr (f Y .0 h)
+
+    back : In Y (with-it X B) → In Y (with-it X A)
+    back (inl e) = inl e
+    back (inr h) = inr (f Y .1 h)
+
+abbrev written : List Triple → Bool → Written
+written H t = record { History = H; sent = t }
+
+-- what a write request makes of two lists of one History
+write-same : (p : Plan) (S : ℕ) (X : Triple) (A B : List Triple) → Same A B
+    → Same (RECEIVE-WRITE-REQUEST (family p) S A X .History) (RECEIVE-WRITE-REQUEST (family p) S B X .History)
+unfolding RECEIVE-WRITE-REQUEST
+write-same p S X A B f = go (VALIDATE (family p) S X)
+  where
+    go : (t : Bool) → Same (cond t (written (with-it X A) true) (written A false) .History) (cond t (written (with-it X B) true) (written B false) .History)
+    go true = with-same X A B f
+    go false = f
+
+-- one call: the book stays good and of its node, and its History follows
+record Follows (p : Plan) (b b₂ : List ℕ) (H : List Triple) : Type 0 where
+  good : goodBook p b₂ ≡ true
+  node : nodeOf b₂ ≡ nodeOf b
+  set : Same (history p b₂) H
+
+follows-still : (p : Plan) (b b₂ : List ℕ) (H : List Triple) → goodBook p b ≡ true → b₂ ≡ b → Same (history p b) H → Follows p b b₂ H
+follows-still p b b₂ H g e f =
+    record {
+      good = ap (goodBook p) e ∙ g;
+      node = ap (λ (x : List ℕ). nodeOf x) e;
+      set = subst (λ (x : List ℕ). Same (history p x) H) (sym e) f;
+    }
+
+module _ (p : Plan) (f b y : List ℕ) (ob : Octets b) (of : Octets f) (g : goodBook p b ≡ true) (H : List Triple) (same : Same (history p b) H) where
+  abbrev fed : Bool → List Triple
+  fed t = cond t (RECEIVE-WRITE-REQUEST (family p) (nodeOf b) H (tripleOf p (bodyOf f)) .History) H
+
+  call-follows : (a : Answer) (b₂ y₂ : List ℕ) → NodeCall p f b y a b₂ y₂ → Follows p b b₂ (fed (replies-to a and writes f))
+  call-follows (Refused r) b₂ y₂ c = follows-still p b b₂ H g (calls.refused-is p f b y r b₂ y₂ c .1) same
+  call-follows (Replied n) b₂ y₂ c = go (writes f) refl
+    where
+      go : (t : Bool) → writes f ≡ t → Follows p b b₂ (fed t)
+      go true w =
+          let e = write-acts p f b y ob of n b₂ y₂ c (eqb-true (kindOf f) 3 w) in
+          let q = keeps.executed p f b y g ob (calls.clear p f b y (calls.replied-is p f b y n b₂ y₂ c .0)) w in
+          let l : b₂ ≡ served p f b y .book = ap (λ (o : Outcome). o .book) (c .is) in
+          record {
+            good = keeps.call-keeps p f b y g ob (Replied n) b₂ y₂ c .good;
+            node = ap (λ (x : List ℕ). nodeOf x) l ∙ one.is-node q;
+            set = same-trans (history p b₂) (RECEIVE-WRITE-REQUEST (family p) (nodeOf b) (history p b) (tripleOf p (bodyOf f)) .History)
+                (RECEIVE-WRITE-REQUEST (family p) (nodeOf b) H (tripleOf p (bodyOf f)) .History) (e .set) (write-same p (nodeOf b) (tripleOf p (bodyOf f)) (history p b) H same);
+          }
+      go false w =
+          follows-still p b b₂ H g
+          (ap (λ (o : Outcome). o .book) (calls.replied-is p f b y n b₂ y₂ c .1) ∙ one.answered-book p f b y ∙ one.after-other p f b w) same
+
+-- OVER ANY CALLS A NODE'S HISTORY IS THE ONE THAT FIGURE 1 HOLDS after the write requests that were answered
+pub node-run : (p : Plan) (b : List ℕ) (H : List Triple) (cs : List Call) → goodBook p b ≡ true → Same (history p b) H → History b cs → OfPlan p cs
+    → Same (history p (lastBook b cs)) (received p (nodeOf b) H cs)
+node-run p b H [] g s h o = s
+node-run p b H (c ∷ cs) g s h o =
+    let k : NodeCall p (c .request) b (c .reply) (c .answer) (c .bookLeft) (c .replyLeft) =
+    subst (λ (x : Plan). NodeCall x (c .request) b (c .reply) (c .answer) (c .bookLeft) (c .replyLeft)) (o .0) (h .1) in
+    let q = call-follows p (c .request) b (c .reply) (h .0) (o .1) g H s (c .answer) (c .bookLeft) (c .replyLeft) k in
+    subst
+    (λ (S : ℕ). Same (history p (lastBook (c .bookLeft) cs)) (received p S (fed p (c .request) b (c .reply) (h .0) (o .1) g H s (replies-to (c .answer) and writes (c .request))) cs))
+    (q .node) (node-run p (c .bookLeft) _ cs (q .good) (q .set) (h .2) (o .2))
+
+-- and from a fresh book, the one that it holds from INITIALIZE on
+pub fresh-run : (p : Plan) (node : ℕ) (b b₂ : List ℕ) (cs : List Call) → FreshCall p node b Fresh b₂ → History b₂ cs → OfPlan p cs
+    → Same (history p (lastBook b₂ cs)) (received p node INITIALIZE cs)
+fresh-run p node b b₂ cs c h o =
+    let i = laid-fresh p node b b₂ c in
+    subst (λ (S : ℕ). Same (history p (lastBook b₂ cs)) (received p S INITIALIZE cs)) (one.is-node i)
+    (node-run p b₂ INITIALIZE cs (one.is-good i) (subst (Same (history p b₂)) (fresh-acts p node b b₂ c) (λ X. ((λ m. m), (λ m. m)))) h o)

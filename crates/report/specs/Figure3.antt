@@ -11,7 +11,7 @@ use mathlib.Core.List.{List, [], _∷_}
 use lib.ListN.{length}
 use lib.Dec.{ltb, leb, eqb}
 use Rattle.octets.specs.Bytes.{alike}
-use Rattle.terms.specs.Ladder.{_or_}
+use Rattle.terms.specs.Ladder.{_and_, _or_}
 use Rattle.report.specs.Triple.{Triple, Message, null, those, each, MAX, Family}
 use Rattle.report.specs.Figure1 as node
 use Rattle.report.specs.Figure2.{MAKE-CROSS-CHECKSUM, DO-WRITE}
@@ -23,7 +23,7 @@ pub data Command : Type 0 where
 
 -- (01) "The report's first triple (time 0, no value) .. needs no hash check"
 abbrev pub first-triple : Triple → Bool
-first-triple X = eqb (X .ts) 0
+first-triple X = eqb (X .ts) 0 and alike (X .D) null and alike (X .CC) null
 
 -- VALIDATE of Figure 3 is that of Figure 1
 unfoldable pub VALIDATE : Family → Message → Bool
@@ -65,10 +65,10 @@ unfoldable pub CC-of : List Message → List ℕ
 CC-of [] = null
 CC-of (x ∷ xs) = x .Response .CC
 
--- (01) the first triple is not validated
+-- (01) the first triple is not validated: a candidate of the zero time is it
 unfoldable pub of-first-triple : List Message → Bool
 of-first-triple [] = false
-of-first-triple (x ∷ xs) = first-triple (x .Response)
+of-first-triple (x ∷ xs) = eqb (x .Response .ts) 0
 
 unfoldable pub VALIDATE-CANDIDATE-SET : Family → List Message → Bool
 VALIDATE-CANDIDATE-SET f cs =

@@ -1,5 +1,6 @@
--- Whole reads and writes of ours, from opening: calls one after another, each on the session and the desk that the one before it handed back,
--- and what the figures are given from them.
+-- Whole runs of ours: calls one after another, each on the book, or the session and the desk, that the one before it handed back; and what the
+-- figures are given from them.
+--   OfPlan received      the calls of a node under one plan; what Figure 1 makes of them
 --   Answered             a call: the frame and the item lent, and what it left
 --   Reads closing closedOver     the calls of a read; the response sets of its closed rounds, the last one first
 --   Tells EachTells      what an answer says, and that Figure 3's READ says it of the rounds closed so far; the same of each call of a run
@@ -12,13 +13,13 @@ use Prim.{Unit}
 use Prim.Native.Nat.{ℕ, _*_}
 use mathlib.Core.Path.{_≡_}
 use mathlib.Core.Logic.{_⊎_}
-use mathlib.Core.Bool.{cond}
+use mathlib.Core.Bool.{Bool, true, false, cond}
 use mathlib.Core.List.{List, [], _∷_}
 use lib.ListN.{length}
 use lib.Dec.{ltb}
 use Rattle.octets.specs.Bytes.{put, Octets}
 use Rattle.sha256.specs.Sha256.{sha256}
-use Rattle.terms.specs.Ladder.{first}
+use Rattle.terms.specs.Ladder.{first, _and_}
 use Rattle.terms.specs.Stamp.{time, stampNumber}
 use Rattle.terms.specs.Terms.{recordLength}
 use Rattle.terms.specs.declared.Plan.{Plan}
@@ -33,11 +34,34 @@ use Rattle.session.specs.Session.{isStoring, replies, markedOf, Said, refused, 
 use Rattle.session.specs.Reply.{bears, replyLadder, recordLadder}
 use Rattle.session.specs.Reader.{ReadReplyCall}
 use Rattle.session.specs.Writer.{WriteReplyCall}
-use Rattle.report.specs.Triple.{Message, null, In, MAX}
+use Rattle.node.specs.declared.Answer.{Answer}
+use Rattle.node.specs.declared.Answer.the-variants.{Refused, Replied}
+use Rattle.node.specs.Node.{writes}
+use Rattle.demands.specs.History.{Call}
+use Rattle.report.specs.Triple.{Triple, Message, null, In, MAX}
+use Rattle.report.specs.Figure1.{RECEIVE-WRITE-REQUEST}
 use Rattle.report.specs.Figure2.{enough, ts-written, WRITE}
 use Rattle.report.specs.Figure3.{READ-PREVIOUS, returned, repaired, ABORT, reading, READ}
-use Rattle.report.specs.Ours.{family, responses, sending}
+use Rattle.report.specs.Ours.{family, tripleOf, responses, sending}
 
+-- ---- a node
+abbrev pub OfPlan : Plan → List Call → Type 0
+OfPlan p [] = Unit {0}
+OfPlan p (c ∷ cs) = (c .plan ≡ p) × Octets (c .request) × OfPlan p cs
+
+abbrev pub replies-to : Answer → Bool
+replies-to (Refused r) = false
+replies-to (Replied n) = true
+
+-- RECEIVE_WRITE_REQUEST for each write request that was answered; all else leaves the History
+abbrev pub received : Plan → ℕ → List Triple → List Call → List Triple
+received p S History [] = History
+received p S History (c ∷ cs) =
+    received p S
+    (cond (replies-to (c .answer) and writes (c .request)) (RECEIVE-WRITE-REQUEST (family p) S History (tripleOf p (bodyOf (c .request))) .History) History)
+    cs
+
+-- ---- a client
 pub record Answered : Type 0 where
   pub frame : List ℕ
   pub item : List ℕ

@@ -65,7 +65,7 @@ module _ (k u : ℕ) where
   unfolding boundShaped
   bound-zero e f = or-last (ne-eqb k 1 (λ g. omega arith)) (and-last (eq-eqb k 0 e) f)
 
-zero-number : stampNumber zeroStamp ≡ 0
+pub zero-number : stampNumber zeroStamp ≡ 0
 unfolding stampNumber then
 zero-number = refl
 

@@ -1,0 +1,177 @@
+-- Laws of a plan and a session as bytes, for the functions that read and write them. Assumes nothing.
+use Prim.Native.Nat.{ℕ, zero, suc, _+_, _≤_, _<_}
+use mathlib.Core.Path.{_≡_, refl, sym, ap, _∙_}
+use mathlib.Core.Bool.{Bool, true, false, cond}
+use mathlib.Core.List.{List, [], _∷_, _++_, append-assoc, append-nil}
+use native.Mathlib.Nat.{le-of-eq}
+use native.Mathlib.Numerals.{add-one}
+use native.Mathlib.Omega.{arith}
+use borrow.Author.Tests.{le-leb, lt-leb, eq-eqb, ne-eqb, eqb-true}
+use lib.ListN.{length, getD, take, drop, set, drop-of-length-le, length-append}
+use lib.Seq.{drop-cons, take-suc, take-all, take-suc-set, length-take-le}
+use lib.Dec.{leb, eqb}
+use Rattle.octets.specs.Bytes.{part, put, num, be, over}
+use Rattle.octets.proofs.Laws.{length-be, put-snoc, put-nil, put-then}
+use Rattle.octets.proofs.Meaning.{over-start, over-more}
+use Rattle.terms.specs.Ladder.{all}
+use Rattle.terms.specs.Stamp.{stampNumber, stampAt, zeroStamp, then}
+use Rattle.terms.specs.declared.Timestamp.{Timestamp}
+use Rattle.terms.proofs.Rungs.{both}
+use Rattle.terms.proofs.Stamps.{stamp-at-number}
+use Rattle.rounds.specs.declared.Mark.{Mark}
+use Rattle.rounds.specs.declared.Bound.{Bound}
+use Rattle.rounds.specs.declared.Bound.the-variants.{Free, Under}
+use Rattle.session.specs.declared.Session.{Session}
+use Rattle.session.proofs.Rules.{or-holds, or-last, and-fails, and-last}
+use Rattle.packing.specs.PlanBytes.{field, planShaped}
+use Rattle.packing.specs.SessionBytes.{operationByte, stageByte, markByte, boundBytes, markBytes, sessionBytes, heardOf, boundShaped, marksShaped, marksOf, sessionShaped}
+
+-- ---- a case by its number
+module _ {A : Type 0} (k c : ℕ) (x y : A) where
+  pub picks : k ≡ c → x ≡ cond (eqb k c) x y
+  picks e = rw (eq-eqb k c e)
+
+  pub passes : {z : A} → (k ≡ c → ⊥) → z ≡ y → z ≡ cond (eqb k c) x y
+  passes h e = rw (ne-eqb k c h) e
+
+-- one of two, by a test
+module _ {A : Type 0} {t : Bool} (x y : A) where
+  pub when : {z : A} → t ≡ true → z ≡ x → z ≡ cond t x y
+  when e f = rw e f
+
+  pub unless : {z : A} → t ≡ false → z ≡ y → z ≡ cond t x y
+  unless e f = rw e f
+
+-- ---- lengths that the shapes give
+pub plan-length : (x : List ℕ) → planShaped x ≡ true → length x ≡ 11
+unfolding planShaped all
+plan-length x e = eqb-true _ _ (both (eqb (length x) 11) _ e .0)
+
+pub session-length : (x : List ℕ) → sessionShaped x ≡ true → length x ≡ 117
+unfolding sessionShaped all
+session-length x e = eqb-true _ _ (both (eqb (length x) 117) _ e .0)
+
+-- ---- the bound's shape: 1; neither 0 nor 1; 0
+module _ (k u : ℕ) where
+  pub bound-one : k ≡ 1 → true ≡ boundShaped k u
+  unfolding boundShaped
+  bound-one e = or-holds _ (eq-eqb k 1 e)
+
+  pub bound-no : (k ≡ 1 → ⊥) → (k ≡ 0 → ⊥) → false ≡ boundShaped k u
+  unfolding boundShaped
+  bound-no h g = or-last (ne-eqb k 1 h) (and-fails _ (ne-eqb k 0 g))
+
+  pub bound-zero : k ≡ 0 → {z : Bool} → z ≡ eqb u 0 → z ≡ boundShaped k u
+  unfolding boundShaped
+  bound-zero e f = or-last (ne-eqb k 1 (λ g. omega arith)) (and-last (eq-eqb k 0 e) f)
+
+pub zero-number : stampNumber zeroStamp ≡ 0
+unfolding stampNumber then
+zero-number = refl
+
+-- forty zeros, tested as a timestamp
+pub zeros-tested : (x : List ℕ) (t z : Timestamp) {r : Bool} → 45 ≤ length x → t ≡ stampAt x 5 → z ≡ zeroStamp → r ≡ eqb (stampNumber t) (stampNumber z)
+    → r ≡ eqb (field x 5 40) 0
+zeros-tested x t z h e f g =
+    g ∙ (λ i. eqb (stampNumber (e i)) (stampNumber (f i))) ∙ (λ i. eqb (stamp-at-number x 5 h i) (zero-number i))
+
+-- ---- marks
+pub shaped-on : (l : List ℕ) (i : ℕ) → i < length l → getD l i 0 ≤ 2 → marksShaped l ≡ marksShaped (drop i l) → marksShaped l ≡ marksShaped (drop (i + 1) l)
+unfolding marksShaped
+shaped-on l i h k e = e ∙ ap marksShaped (drop-cons l i 0 h) ∙ rw (le-leb (getD l i 0) 2 k, add-one)
+
+pub shaped-stop : (l : List ℕ) (i : ℕ) → i < length l → 2 < getD l i 0 → marksShaped l ≡ marksShaped (drop i l) → false ≡ marksShaped l
+unfolding marksShaped
+shaped-stop l i h k e = sym (e ∙ ap marksShaped (drop-cons l i 0 h) ∙ rw (lt-leb (getD l i 0) 2 k))
+
+pub shaped-end : (l : List ℕ) (i : ℕ) → length l ≤ i → marksShaped l ≡ marksShaped (drop i l) → true ≡ marksShaped l
+unfolding marksShaped
+shaped-end l i h e = sym (e ∙ ap marksShaped (drop-of-length-le l h))
+
+marks-of-snoc : (l : List ℕ) (x : ℕ) → marksOf (l ++ (x ∷ [])) ≡ marksOf l ++ (record { is = heardOf x } ∷ [])
+unfolding marksOf
+marks-of-snoc [] x = refl
+marks-of-snoc (y ∷ l) x = rw (marks-of-snoc l x)
+
+pub marks-turn : (b : List ℕ) (ms : List Mark) (i : ℕ) (m : Mark) → i < length b → i < length ms → m .is ≡ heardOf (getD b i 0)
+    → take i ms ≡ marksOf (take i b) → take (i + 1) (set ms i m) ≡ marksOf (take (i + 1) b)
+marks-turn b ms i m h k f e =
+    let g : m ≡ record { is = heardOf (getD b i 0) } = λ j. record { is = f j } in
+    rw (add-one, take-suc-set ms i m k, take-suc b i 0 h, marks-of-snoc, e, g)
+
+pub marks-end : (b : List ℕ) (ms : List Mark) (i : ℕ) → length b ≤ i → length ms ≤ i → take i ms ≡ marksOf (take i b) → ms ≡ marksOf b
+marks-end b ms i h k e = sym (take-all i ms k) ∙ e ∙ ap marksOf (take-all i b h)
+
+mark-bytes-snoc : (ms : List Mark) (m : Mark) → markBytes (ms ++ (m ∷ [])) ≡ markBytes ms ++ (markByte (m .is) ∷ [])
+unfolding markBytes
+mark-bytes-snoc [] m = refl
+mark-bytes-snoc (x ∷ ms) m = rw (mark-bytes-snoc ms m)
+
+pub length-marks : (ms : List Mark) → length (markBytes ms) ≡ length ms
+unfolding markBytes
+length-marks [] = refl
+length-marks (m ∷ ms) = ap suc (length-marks ms)
+
+-- a loop that writes them
+pub write-start : (x : List ℕ) (ms : List Mark) (at : ℕ) → x ≡ put x at (markBytes (take 0 ms))
+unfolding markBytes
+write-start x ms at = sym (put-nil x at)
+
+pub write-turn : (x x₀ : List ℕ) (ms : List Mark) (at i v : ℕ) (d : Mark) → i < length ms → at + i < length x₀ → v ≡ markByte (getD ms i d .is)
+    → x ≡ put x₀ at (markBytes (take i ms)) → set x (at + i) v ≡ put x₀ at (markBytes (take (i + 1) ms))
+write-turn x x₀ ms at i v d h k f e =
+    let s : List ℕ = markBytes (take i ms) in
+    let l : length s ≡ i = length-marks (take i ms) ∙ length-take-le i ms (omega arith) in
+    rw (e, f, add-one, take-suc ms i d h, mark-bytes-snoc, ← put-snoc x₀ at s (markByte (getD ms i d .is)) (rw l k), l)
+
+pub write-end : (x x₀ : List ℕ) (ms : List Mark) (at i : ℕ) → length ms ≤ i → x ≡ put x₀ at (markBytes (take i ms)) → x ≡ put x₀ at (markBytes ms)
+write-end x x₀ ms at i h e = e ∙ ap (λ (l : List Mark). put x₀ at (markBytes l)) (take-all i ms h)
+
+-- ---- the bound
+pub length-bound : (b : Bound) → length (boundBytes b) ≡ 41
+unfolding boundBytes
+length-bound Free = simp (length-append, length-be)
+length-bound (Under u) = simp (length-append, length-be)
+
+pub bound-put : (x x₁ x₂ : List ℕ) (k : ℕ) (t : Timestamp) → 45 ≤ length x → x₁ ≡ put x 4 (be 1 k) → x₂ ≡ put x₁ 5 (be 40 (stampNumber t))
+    → x₂ ≡ put x 4 (be 1 k ++ be 40 (stampNumber t))
+bound-put x x₁ x₂ k t h e f =
+    f ∙ ap (λ (l : List ℕ). put l 5 (be 40 (stampNumber t))) e ∙ put-then x 4 5 (be 1 k) (be 40 (stampNumber t)) (simp length-be) (omega arith)
+
+pub bound-free : (x y : List ℕ) (b : Bound) (t : Timestamp) → b ≡ Free → t ≡ zeroStamp → y ≡ put x 4 (be 1 0 ++ be 40 (stampNumber t)) → y ≡ put x 4 (boundBytes b)
+unfolding boundBytes
+bound-free x y b t e f g =
+    g ∙ ap (λ (n : ℕ). put x 4 (be 1 0 ++ be 40 n)) (ap stampNumber f ∙ zero-number) ∙ ap (λ (c : Bound). put x 4 (boundBytes c)) (sym e)
+
+pub bound-under : (x y : List ℕ) (b : Bound) (u : Timestamp) → b ≡ Under u → y ≡ put x 4 (be 1 1 ++ be 40 (stampNumber u)) → y ≡ put x 4 (boundBytes b)
+unfolding boundBytes
+bound-under x y b u e g = g ∙ ap (λ (c : Bound). put x 4 (boundBytes c)) (sym e)
+
+-- ---- fields written one after the other, from the start on
+next : (old l s y : List ℕ) (at : ℕ) → length s ≡ at → l ≡ over s old → put l at y ≡ over (s ++ y) old
+next old l s y at z e = ap (λ (k : List ℕ). put k at y) e ∙ over-more old s y at z
+
+over-whole : (new old : List ℕ) → length old ≡ length new → over new old ≡ new
+unfolding over
+over-whole new old e = ap (λ (l : List ℕ). new ++ l) (drop-of-length-le old (le-of-eq e)) ∙ append-nil new
+
+pub length-session : (s : Session) → length (s .marks) ≡ 16 → length (sessionBytes s) ≡ 117
+unfolding sessionBytes
+length-session s e = simp (length-append, length-be, length-bound, length-marks, e)
+
+pub session-put : (s : Session) (o g : ℕ) (x x₁ x₂ x₃ x₄ x₅ x₆ x₇ x₈ : List ℕ) → length (s .marks) ≡ 16 → length x ≡ 117 → o ≡ operationByte (s .operation) → g ≡ stageByte (s .stage)
+    → x₁ ≡ put x 0 (be 1 o) → x₂ ≡ put x₁ 1 (be 1 g) → x₃ ≡ put x₂ 2 (be 2 (s .round)) → x₄ ≡ put x₃ 4 (boundBytes (s .bound))
+    → x₅ ≡ put x₄ 45 (be 8 (s .opening .0)) → x₆ ≡ put x₅ 53 (be 8 (s .greatest .0)) → x₇ ≡ put x₆ 61 (be 40 (stampNumber (s .stamp)))
+    → x₈ ≡ put x₇ 101 (markBytes (s .marks)) → x₈ ≡ sessionBytes s
+session-put s o g x x₁ x₂ x₃ x₄ x₅ x₆ x₇ x₈ k l eo eg e1 e2 e3 e4 e5 e6 e7 e8 =
+    let f1 = e1 ∙ over-start x (be 1 o) in
+    let f2 = e2 ∙ next x x₁ _ (be 1 g) 1 (simp length-be) f1 in
+    let f3 = e3 ∙ next x x₂ _ (be 2 (s .round)) 2 (simp (length-append, length-be)) f2 in
+    let f4 = e4 ∙ next x x₃ _ (boundBytes (s .bound)) 4 (simp (length-append, length-be)) f3 in
+    let f5 = e5 ∙ next x x₄ _ (be 8 (s .opening .0)) 45 (simp (length-append, length-be, length-bound)) f4 in
+    let f6 = e6 ∙ next x x₅ _ (be 8 (s .greatest .0)) 53 (simp (length-append, length-be, length-bound)) f5 in
+    let f7 = e7 ∙ next x x₆ _ (be 40 (stampNumber (s .stamp))) 61 (simp (length-append, length-be, length-bound)) f6 in
+    let f8 = e8 ∙ next x x₇ _ (markBytes (s .marks)) 101 (simp (length-append, length-be, length-bound)) f7 in
+    let whole : be 1 o ++ be 1 g ++ be 2 (s .round) ++ boundBytes (s .bound) ++ be 8 (s .opening .0) ++ be 8 (s .greatest .0) ++ be 40 (stampNumber (s .stamp)) ++ markBytes (s .marks) ≡ sessionBytes s =
+    unfold sessionBytes in rw (eo, eg) (simp append-assoc) in
+    f8 ∙ ap (λ (y : List ℕ). over y x) whole ∙ over-whole (sessionBytes s) x (l ∙ sym (length-session s k))

@@ -1,0 +1,28 @@
+use mathlib.Core.Path.{_≡_, ap, sym, _∙_}
+use Rattle.packing.proofs.Laws as laws
+use Rattle.packing.specs.SessionBytes.{boundOf}
+use Rattle.rounds.specs.declared.Bound.the-variants.{Under}
+use borrow.Author.Needs.{needs}
+use Rattle.packing.proofs.bound_at.Statement.{statement}
+use Rattle.packing.proofs.bound_at.Tie as tie
+use Rattle.packing.proofs.bound_at.Reads as reads
+use Rattle.packing.proofs.bound_at.Lts as lts
+use Rattle.octets.proofs.get.Reads as get-reads
+use Rattle.terms.proofs.stamp_at.Reads as stamp-at-reads
+
+get-requires : tie.Need-get-requires
+get-requires c κs = search needs
+
+returns : tie.Need-returns
+unfolding boundOf
+returns c = laws.picks _ 0 _ _ (sym (c .before .get .ensures .0) ∙ c .if1 .taken)
+
+stamp-at-requires : tie.Need-stamp-at-requires
+stamp-at-requires c κs = search needs
+
+returns-2 : tie.Need-returns-2
+unfolding boundOf
+returns-2 c = laws.passes _ 0 _ _ (λ e. c .before .if1 .left (c .before .before .get .ensures .0 ∙ e)) (ap Under (c .stamp-at .ensures))
+
+pub bound-at-spec : {M : Type 1} → statement M
+bound-at-spec = tie.close (tie.spec get-requires returns stamp-at-requires returns-2)

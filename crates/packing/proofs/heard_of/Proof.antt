@@ -1,0 +1,23 @@
+use mathlib.Core.Path.{_≡_, refl}
+use Rattle.packing.proofs.Laws as laws
+use Rattle.packing.specs.SessionBytes.{heardOf}
+use native.Mathlib.Omega.{arith}
+use Rattle.packing.proofs.heard_of.Statement.{statement}
+use Rattle.packing.proofs.heard_of.Tie as tie
+use Rattle.packing.proofs.heard_of.Reads as reads
+use Rattle.packing.proofs.heard_of.Lts as lts
+
+returns : tie.Need-returns
+unfolding heardOf
+returns c = laws.picks (c .before .args .k) 0 _ _ (omega arith)
+
+returns-2 : tie.Need-returns-2
+unfolding heardOf
+returns-2 c = laws.passes (c .before .before .args .k) 0 _ _ (λ (e : c .before .before .args .k ≡ 0). omega arith) (laws.picks (c .before .before .args .k) 1 _ _ (omega arith))
+
+returns-3 : tie.Need-returns-3
+unfolding heardOf
+returns-3 c = laws.passes (c .before .before .args .k) 0 _ _ (λ (e : c .before .before .args .k ≡ 0). omega arith) (laws.passes (c .before .before .args .k) 1 _ _ (λ (e : c .before .before .args .k ≡ 1). omega arith) refl)
+
+pub heard-of-spec : {M : Type 1} → statement M
+heard-of-spec = tie.close (tie.spec returns returns-2 returns-3)

@@ -1,0 +1,73 @@
+use mathlib.Core.Path.{_∙_, ap}
+use Rattle.packing.specs.PlanBytes.{planAt, memberOf, clientsOf}
+use borrow.Author.Needs.{needs}
+use Rattle.packing.proofs.plan_at.Statement.{statement}
+use Rattle.packing.proofs.plan_at.Tie as tie
+use Rattle.packing.proofs.plan_at.Reads as reads
+use Rattle.packing.proofs.plan_at.Lts as lts
+use Rattle.octets.proofs.get.Reads as get-reads
+use Rattle.packing.proofs.clients_of.Reads as clients-of-reads
+use Rattle.packing.proofs.member_of.Reads as member-of-reads
+
+get-requires : tie.Need-get-requires
+get-requires c κs = search needs
+
+get-requires-2 : tie.Need-get-requires-2
+get-requires-2 c κs = search needs
+
+get-requires-3 : tie.Need-get-requires-3
+get-requires-3 c κs = search needs
+
+get-requires-4 : tie.Need-get-requires-4
+get-requires-4 c κs = search needs
+
+get-requires-5 : tie.Need-get-requires-5
+get-requires-5 c κs = search needs
+
+get-requires-6 : tie.Need-get-requires-6
+get-requires-6 c κs = search needs
+
+get-requires-7 : tie.Need-get-requires-7
+get-requires-7 c κs = search needs
+
+member-of-requires : tie.Need-member-of-requires
+member-of-requires c κs = search needs
+
+get-requires-8 : tie.Need-get-requires-8
+get-requires-8 c κs = search needs
+
+clients-of-requires : tie.Need-clients-of-requires
+clients-of-requires c κs = search needs
+
+get-requires-9 : tie.Need-get-requires-9
+get-requires-9 c κs = search needs
+
+returns : tie.Need-returns
+unfolding planAt
+returns c = let n = c .before .before .before .before .before .before .before .before .before .before .get .ensures .0 in
+    let t = c .before .before .before .before .before .before .before .before .before .get2 .ensures .0 in
+    let b = c .before .before .before .before .before .before .before .before .get3 .ensures .0 in
+    let q = c .before .before .before .before .before .before .before .get4 .ensures .0 in
+    let m = c .before .before .before .before .before .before .get5 .ensures .0 in
+    let f = c .before .before .before .before .before .get6 .ensures .0 in
+    let member = c .before .before .before .member-of .ensures ∙ ap memberOf (c .before .before .before .before .get7 .ensures .0) in
+    let clients = c .before .clients-of .ensures ∙ ap clientsOf (c .before .before .get8 .ensures .0) in
+    let w = c .get9 .ensures .0 in
+    λ i. record { n = n i; t = t i; b = b i; q = q i; m = m i; f = f i; member = member i; clients = clients i; w = w i }
+
+pub plan-at-spec : {M : Type 1} → statement M
+plan-at-spec =
+    tie.close
+    (tie.spec
+    get-requires
+    get-requires-2
+    get-requires-3
+    get-requires-4
+    get-requires-5
+    get-requires-6
+    get-requires-7
+    member-of-requires
+    get-requires-8
+    clients-of-requires
+    get-requires-9
+    returns)

@@ -1,0 +1,34 @@
+use Rattle.packing.proofs.Laws as laws
+use Rattle.packing.specs.PlanBytes.{planOf}
+use borrow.Author.Tests.{not-true, not-false}
+use mathlib.Core.Path.{sym, _∙_}
+use native.Mathlib.Omega.{arith}
+use borrow.Author.Needs.{needs}
+use Rattle.packing.proofs.plan_of.Statement.{statement}
+use Rattle.packing.proofs.plan_of.Tie as tie
+use Rattle.packing.proofs.plan_of.Reads as reads
+use Rattle.packing.proofs.plan_of.Lts as lts
+use Rattle.packing.proofs.no_plan.Reads as no-plan-reads
+use Rattle.packing.proofs.plan_at.Reads as plan-at-reads
+use Rattle.packing.proofs.plan_shaped.Reads as plan-shaped-reads
+
+plan-shaped-requires : tie.Need-plan-shaped-requires
+plan-shaped-requires c κs = search needs
+
+no-plan-requires : tie.Need-no-plan-requires
+no-plan-requires c κs = search needs
+
+returns : tie.Need-returns
+unfolding planOf
+returns c = laws.unless _ _ (sym (c .before .before .plan-shaped .ensures) ∙ not-true (c .before .before .plan-shaped .result) (c .before .if1 .taken)) (c .no-plan .ensures)
+
+plan-at-requires : tie.Need-plan-at-requires
+plan-at-requires c κs = let e = laws.plan-length _ (sym (c .before .plan-shaped .ensures) ∙ not-false (c .before .plan-shaped .result) (c .if1 .left)) in omega arith
+
+returns-2 : tie.Need-returns-2
+unfolding planOf
+returns-2 c = laws.when _ _ (sym (c .before .before .plan-shaped .ensures) ∙ not-false (c .before .before .plan-shaped .result) (c .before .if1 .left)) (c .plan-at .ensures)
+
+pub plan-of-spec : {M : Type 1} → statement M
+plan-of-spec =
+    tie.close (tie.spec plan-shaped-requires no-plan-requires returns plan-at-requires returns-2)

@@ -1,0 +1,29 @@
+use Rattle.packing.proofs.Laws as laws
+use Rattle.packing.specs.SessionBytes.{sessionOf}
+use borrow.Author.Tests.{not-true, not-false}
+use mathlib.Core.Path.{sym, _∙_}
+use borrow.Author.Needs.{needs}
+use Rattle.packing.proofs.session_of.Statement.{statement}
+use Rattle.packing.proofs.session_of.Tie as tie
+
+session-shaped-requires : tie.Need-session-shaped-requires
+session-shaped-requires c κs = search needs
+
+no-session-requires : tie.Need-no-session-requires
+no-session-requires c κs = search needs
+
+returns : tie.Need-returns
+unfolding sessionOf
+returns c = laws.unless _ _ (sym (c .before .before .session-shaped .ensures) ∙ not-true (c .before .before .session-shaped .result) (c .before .if1 .taken)) (c .no-session .ensures)
+
+session-at-requires : tie.Need-session-at-requires
+session-at-requires c κs = laws.session-length _ (sym (c .before .session-shaped .ensures) ∙ not-false (c .before .session-shaped .result) (c .if1 .left))
+
+returns-2 : tie.Need-returns-2
+unfolding sessionOf
+returns-2 c = laws.when _ _ (sym (c .before .before .session-shaped .ensures) ∙ not-false (c .before .before .session-shaped .result) (c .before .if1 .left)) (c .session-at .ensures)
+
+pub session-of-spec : {M : Type 1} → statement M
+session-of-spec =
+    tie.close
+    (tie.spec session-shaped-requires no-session-requires returns session-at-requires returns-2)

@@ -1,0 +1,110 @@
+-- A session as 117 bytes, for a host: operation (0 write, 1 read), stage (0 asking: a time or a read round, 1 storing: a write or a repair
+-- round, 2 ended), round 2, bound 41 (0 and forty zeros: none; 1 and the timestamp), opening ask number 8, greatest time 8, timestamp being
+-- written 40, 16 marks (0 unheard, 1 first triple, 2 record). Document 01, "The client": "Beside the marks a session holds operation,
+-- stage, round, bound, opening ask number, and the greatest time so far or the timestamp being written."
+--   operationByte stageByte markByte   the cases as bytes; operationOf stageOf heardOf, bytes as cases
+--   boundBytes markBytes sessionBytes  laid out
+--   boundShaped marksShaped sessionShaped   whether some bytes code a bound, marks, a session
+--   boundOf marksOf sessionAt          what they code
+--   sessionOf                          any bytes as a session: those that code none give one in no range, so that every call refuses it 9
+-- Assumes nothing.
+use Prim.Native.Nat.{ℕ}
+use mathlib.Core.Bool.{Bool, true, false, cond}
+use mathlib.Core.List.{List, [], _∷_, _++_}
+use lib.ListN.{length}
+use lib.Dec.{leb, eqb}
+use Rattle.octets.specs.Bytes.{part, be}
+use Rattle.terms.specs.Ladder.{all, _and_, _or_}
+use Rattle.terms.specs.Stamp.{stampNumber, stampAt}
+use Rattle.terms.specs.declared.Timestamp.{Timestamp}
+use Rattle.rounds.specs.declared.Heard.{Heard}
+use Rattle.rounds.specs.declared.Heard.the-variants.{Unheard, First, Record}
+use Rattle.rounds.specs.declared.Mark.{Mark}
+use Rattle.rounds.specs.declared.Bound.{Bound}
+use Rattle.rounds.specs.declared.Bound.the-variants.{Free, Under}
+use Rattle.session.specs.declared.Operation.{Operation}
+use Rattle.session.specs.declared.Operation.the-variants.{Write, Read}
+use Rattle.session.specs.declared.Stage.{Stage}
+use Rattle.session.specs.declared.Stage.the-variants.{Asking, Storing, Ended}
+use Rattle.session.specs.declared.Session.{Session}
+use Rattle.session.specs.Opening.{noSession}
+use Rattle.packing.specs.PlanBytes.{field}
+
+-- ---- laid out
+abbrev pub operationByte : Operation → ℕ
+operationByte Write = 0
+operationByte Read = 1
+
+abbrev pub stageByte : Stage → ℕ
+stageByte Asking = 0
+stageByte Storing = 1
+stageByte Ended = 2
+
+abbrev pub markByte : Heard → ℕ
+markByte Unheard = 0
+markByte First = 1
+markByte Record = 2
+
+-- "0 and forty zeros: none; 1 and the timestamp"
+unfoldable pub boundBytes : Bound → List ℕ
+boundBytes Free = be 1 0 ++ be 40 0
+boundBytes (Under u) = be 1 1 ++ be 40 (stampNumber u)
+
+unfoldable pub markBytes : List Mark → List ℕ
+markBytes [] = []
+markBytes (m ∷ ms) = markByte (m .is) ∷ markBytes ms
+
+unfoldable pub sessionBytes : Session → List ℕ
+sessionBytes s =
+    be 1 (operationByte (s .operation)) ++ (be 1 (stageByte (s .stage)) ++ (be 2 (s .round) ++ (boundBytes (s .bound)
+    ++ (be 8 (s .opening .0) ++ (be 8 (s .greatest .0) ++ (be 40 (stampNumber (s .stamp)) ++ markBytes (s .marks)))))))
+
+-- ---- read back
+unfoldable pub operationOf : ℕ → Operation
+operationOf k = cond (eqb k 0) Write Read
+
+unfoldable pub stageOf : ℕ → Stage
+stageOf k = cond (eqb k 0) Asking (cond (eqb k 1) Storing Ended)
+
+unfoldable pub heardOf : ℕ → Heard
+heardOf k = cond (eqb k 0) Unheard (cond (eqb k 1) First Record)
+
+-- of the byte before it and the 40 bytes as a number: forty zeros are the number 0
+unfoldable pub boundShaped : ℕ → ℕ → Bool
+boundShaped k u = eqb k 1 or (eqb k 0 and eqb u 0)
+
+unfoldable pub boundOf : ℕ → Timestamp → Bound
+boundOf k u = cond (eqb k 0) Free (Under u)
+
+unfoldable pub marksShaped : List ℕ → Bool
+marksShaped [] = true
+marksShaped (x ∷ l) = leb x 2 and marksShaped l
+
+unfoldable pub marksOf : List ℕ → List Mark
+marksOf [] = []
+marksOf (x ∷ l) = record { is = heardOf x } ∷ marksOf l
+
+unfoldable pub sessionShaped : List ℕ → Bool
+sessionShaped x =
+    all (
+    eqb (length x) 117 ∷
+    leb (field x 0 1) 1 ∷
+    leb (field x 1 1) 2 ∷
+    boundShaped (field x 4 1) (field x 5 40) ∷
+    marksShaped (part x 101 16) ∷ [])
+
+unfoldable pub sessionAt : List ℕ → Session
+sessionAt x =
+    record {
+      operation = operationOf (field x 0 1);
+      stage = stageOf (field x 1 1);
+      round = field x 2 2;
+      bound = boundOf (field x 4 1) (stampAt x 5);
+      opening = record { 0 = field x 45 8 };
+      greatest = record { 0 = field x 53 8 };
+      stamp = stampAt x 61;
+      marks = marksOf (part x 101 16);
+    }
+
+unfoldable pub sessionOf : List ℕ → Session
+sessionOf x = cond (sessionShaped x) (sessionAt x) (noSession Read)

@@ -1,0 +1,27 @@
+use Rattle.packing.proofs.Laws as picks
+use Rattle.pasis.specs.Client.{sessionAfter}
+use mathlib.Core.Path.{refl, sym, _∙_}
+use borrow.Author.Needs.{needs}
+use Rattle.pasis.proofs.client.keep_session.Statement.{statement}
+use Rattle.pasis.proofs.client.keep_session.Tie as tie
+
+is-refused-requires : tie.Need-is-refused-requires
+is-refused-requires c κs = search needs
+
+returns : tie.Need-returns
+unfolding sessionAfter
+returns c = picks.when _ _ (sym (c .before .is-refused .ensures) ∙ c .if1 .taken) refl
+
+write-session-requires : tie.Need-write-session-requires
+write-session-requires c κs = search needs
+
+same-length : tie.Need-same-length
+same-length c = search needs
+
+returns-2 : tie.Need-returns-2
+unfolding sessionAfter
+returns-2 c = picks.unless _ _ (sym (c .before .before .before .before .before .is-refused .ensures) ∙ c .before .before .before .before .if1 .left) (c .before .before .write-session .ensures)
+
+pub keep-session-spec : {M : Type 1} → statement M
+keep-session-spec =
+    tie.close (tie.spec is-refused-requires returns write-session-requires same-length returns-2)

@@ -37,7 +37,7 @@ use Rattle.session.specs.Writer.{WriteReplyCall}
 use Rattle.node.specs.declared.Answer.{Answer}
 use Rattle.node.specs.declared.Answer.the-variants.{Refused, Replied}
 use Rattle.node.specs.Node.{writes}
-use Rattle.demands.specs.History.{Call}
+use Rattle.conduct.specs.History.{Call}
 use Rattle.report.specs.Triple.{Triple, Message, null, In, MAX}
 use Rattle.report.specs.Figure1.{RECEIVE-WRITE-REQUEST}
 use Rattle.report.specs.Figure2.{enough, ts-written, WRITE}

@@ -54,7 +54,8 @@ use Rattle.report.specs.Figure3.{READ-LATEST, READ-PREVIOUS, Decision, r
 use Rattle.report.specs.Ours.{family, responses, sending, commandOf}
 use Rattle.report.specs.Decides.{Decides}
 use Rattle.report.specs.Run as run
-use Rattle.report.specs.Run.{Answered, closedBy, closing, closedOver, Tells, Repairing, EachTells, AllFull, AllApart}
+use Rattle.conduct.specs.Turns as turns
+use Rattle.report.specs.Run.{closedBy, closing, closedOver, Tells, Repairing, EachTells, AllFull, AllApart}
 use Rattle.report.proofs.Lists.{strung-same}
 use Rattle.report.proofs.Triples.{octets-drop, octets-put}
 use Rattle.report.proofs.Sets.{size-is}
@@ -512,10 +513,10 @@ module _ (p : Plan) (s : Session) (f d i : List ℕ) (sets : List (List Message)
       go false false b = one (markedOf s (frameNode f) First) d b
 
 -- ---- the run
-runs-fewer : (p : Plan) (s : Session) (d : List ℕ) (sets : List (List Message)) (cs : List Answered) → AllApart (closedOver p s d sets cs) → AllApart sets
+runs-fewer : (p : Plan) (s : Session) (d : List ℕ) (sets : List (List Message)) (cs : List turns.Turn) → AllApart (closedOver p s d sets cs) → AllApart sets
 runs-fewer p s d sets [] a = a
 runs-fewer p s d sets (c ∷ cs) a =
-    fewer p s (c .frame) d (c .item) sets (runs-fewer p (c .took .session) (c .desk) (closing p s (c .frame) d (length (c .item)) sets) cs a)
+    fewer p s (c .reply) d (c .item) sets (runs-fewer p (c .took .session) (c .deskLeft) (closing p s (c .reply) d (length (c .item)) sets) cs a)
 
 repairing : (p : Plan) (s : Session) (d : List ℕ) (sets : List (List Message)) → s .stage ≡ Storing → Keeps p s d sets → Repairing p s d sets
 repairing p s d sets e k =
@@ -523,18 +524,18 @@ repairing p s d sets e k =
     record { Data = q .Data; is = q .decision ∙ ap (λ (l : List Message). repaired l (stampNumber (s .stamp)) (q .Data)) (sym (q .sends)) }
 
 -- EACH CALL OF A READ TELLS WHAT FIGURE 3'S READ DECIDES OF THE RESPONSE SETS OF THE ROUNDS CLOSED SO FAR, cut at W
-pub read-run : (p : Plan) (s : Session) (d : List ℕ) (sets : List (List Message)) (cs : List Answered) → Keeps p s d sets → AllFull p sets
+pub read-run : (p : Plan) (s : Session) (d : List ℕ) (sets : List (List Message)) (cs : List turns.Turn) → Keeps p s d sets → AllFull p sets
     → run.Reads p s d cs → AllApart (closedOver p s d sets cs) → EachTells p s d sets cs × AllFull p (closedOver p s d sets cs)
 read-run p s d sets [] k sz r a = (tt, sz)
 read-run p s d sets (c ∷ cs) k sz r a =
-    let q : Leaves p (outcome (saidOf (c .took .answer)) (c .took .session) (c .desk) (c .left)) (closing p s (c .frame) d (length (c .item)) sets) =
-    subst (λ (o : Outcome). Leaves p o (closing p s (c .frame) d (length (c .item)) sets)) (sym (r .1 .is))
-    (call-leaves p s (c .frame) d (c .item) sets (r .0) k sz (runs-fewer p (c .took .session) (c .desk) (closing p s (c .frame) d (length (c .item)) sets) cs a)) in
-    let t = read-run p (c .took .session) (c .desk) (closing p s (c .frame) d (length (c .item)) sets) cs (q .keeps) (q .sized) (r .2) a in
-    ((q .tells, (λ e. repairing p (c .took .session) (c .desk) (closing p s (c .frame) d (length (c .item)) sets) e (q .keeps)), t .0), t .1)
+    let q : Leaves p (outcome (saidOf (c .took .answer)) (c .took .session) (c .deskLeft) (c .itemLeft)) (closing p s (c .reply) d (length (c .item)) sets) =
+    subst (λ (o : Outcome). Leaves p o (closing p s (c .reply) d (length (c .item)) sets)) (sym (r .1 .is))
+    (call-leaves p s (c .reply) d (c .item) sets (r .0) k sz (runs-fewer p (c .took .session) (c .deskLeft) (closing p s (c .reply) d (length (c .item)) sets) cs a)) in
+    let t = read-run p (c .took .session) (c .deskLeft) (closing p s (c .reply) d (length (c .item)) sets) cs (q .keeps) (q .sized) (r .2) a in
+    ((q .tells, (λ e. repairing p (c .took .session) (c .deskLeft) (closing p s (c .reply) d (length (c .item)) sets) e (q .keeps)), t .0), t .1)
 
 -- FROM OPENING: no round is closed yet
-pub opened-read : (p : Plan) (a : Ask) (r : Opened) (d : List ℕ) (cs : List Answered) → OpenCall Read p a r → r .answer ≡ Accepted
+pub opened-read : (p : Plan) (a : Ask) (r : Opened) (d : List ℕ) (cs : List turns.Turn) → OpenCall Read p a r → r .answer ≡ Accepted
     → length d ≡ p .n * recordLength p → Octets d → run.Reads p (r .session) d cs
     → AllApart (closedOver p (r .session) d [] cs) → EachTells p (r .session) d [] cs × AllFull p (closedOver p (r .session) d [] cs)
 opened-read p a r d cs call e ld od h apart = read-run p (r .session) d [] cs start tt h apart

@@ -1,7 +1,6 @@
 -- Whole runs of ours: calls one after another, each on the book, or the session and the desk, that the one before it handed back; and what the
 -- figures are given from them.
 --   OfPlan received      the calls of a node under one plan; what Figure 1 makes of them
---   Answered             a call: the frame and the item lent, and what it left
 --   Reads closing closedOver     the calls of a read; the response sets of its closed rounds, the last one first
 --   Tells EachTells      what an answer says, and that Figure 3's READ says it of the rounds closed so far; the same of each call of a run
 --   AllFull              each closed set has N-t responses
@@ -38,6 +37,7 @@ use Rattle.node.specs.declared.Answer.{Answer}
 use Rattle.node.specs.declared.Answer.the-variants.{Refused, Replied}
 use Rattle.node.specs.Node.{writes}
 use Rattle.conduct.specs.History.{Call}
+use Rattle.conduct.specs.Turns.{Turn}
 use Rattle.report.specs.Triple.{Triple, Message, null, In, MAX}
 use Rattle.report.specs.Figure1.{RECEIVE-WRITE-REQUEST}
 use Rattle.report.specs.Figure2.{enough, ts-written, WRITE}
@@ -62,19 +62,12 @@ received p S History (c ∷ cs) =
     cs
 
 -- ---- a client
-pub record Answered : Type 0 where
-  pub frame : List ℕ
-  pub item : List ℕ
-  pub took : Took
-  pub desk : List ℕ
-  pub left : List ℕ
-
 -- ---- reading
 -- each call met its contract; a frame is bytes
-abbrev pub Reads : Plan → Session → List ℕ → List Answered → Type 0
+abbrev pub Reads : Plan → Session → List ℕ → List Turn → Type 0
 Reads p s d [] = Unit {0}
 Reads p s d (c ∷ cs) =
-    Octets (c .frame) × ReadReplyCall p s (c .frame) d (c .item) (c .took) (c .desk) (c .left) × Reads p (c .took .session) (c .desk) cs
+    Octets (c .reply) × ReadReplyCall p s (c .reply) d (c .item) (c .took) (c .deskLeft) (c .itemLeft) × Reads p (c .took .session) (c .deskLeft) cs
 
 -- a round that has N-t replies is closed
 abbrev pub closedBy : Plan → Session → List ℕ → List (List Message) → List (List Message)
@@ -89,10 +82,10 @@ closing p s f d item before =
     (cond (bears p f) (closedBy p (markedOf s (frameNode f) Record) (put d (frameNode f * recordLength p) (bodyOf f)) before)
     (closedBy p (markedOf s (frameNode f) First) d before))))
 
-abbrev pub closedOver : Plan → Session → List ℕ → List (List Message) → List Answered → List (List Message)
+abbrev pub closedOver : Plan → Session → List ℕ → List (List Message) → List Turn → List (List Message)
 closedOver p s d before [] = before
 closedOver p s d before (c ∷ cs) =
-    closedOver p (c .took .session) (c .desk) (closing p s (c .frame) d (length (c .item)) before) cs
+    closedOver p (c .took .session) (c .deskLeft) (closing p s (c .reply) d (length (c .item)) before) cs
 
 -- done by repair, once DO_WRITE has its N-t responses; the session handed back has their marks
 pub record RepairedTo (p : Plan) (s : Session) (closed : List (List Message)) (ts : ℕ) (item : List ℕ) : Type 0 where
@@ -121,12 +114,12 @@ pub record Repairing (p : Plan) (s : Session) (d : List ℕ) (closed : List (Lis
   pub Data : List ℕ
   pub is : READ (family p) closed ≡ repaired (sending p d) (stampNumber (s .stamp)) Data
 
-abbrev pub EachTells : Plan → Session → List ℕ → List (List Message) → List Answered → Type 0
+abbrev pub EachTells : Plan → Session → List ℕ → List (List Message) → List Turn → Type 0
 EachTells p s d before [] = Unit {0}
 EachTells p s d before (c ∷ cs) =
-    Tells p (c .took .session) (saidOf (c .took .answer)) (c .left) (closing p s (c .frame) d (length (c .item)) before)
-    × (c .took .session .stage ≡ Storing → Repairing p (c .took .session) (c .desk) (closing p s (c .frame) d (length (c .item)) before))
-    × EachTells p (c .took .session) (c .desk) (closing p s (c .frame) d (length (c .item)) before) cs
+    Tells p (c .took .session) (saidOf (c .took .answer)) (c .itemLeft) (closing p s (c .reply) d (length (c .item)) before)
+    × (c .took .session .stage ≡ Storing → Repairing p (c .took .session) (c .deskLeft) (closing p s (c .reply) d (length (c .item)) before))
+    × EachTells p (c .took .session) (c .deskLeft) (closing p s (c .reply) d (length (c .item)) before) cs
 
 -- line 16 of DO_READ: until (|ResponseSet| = N - t)
 abbrev pub AllFull : Plan → List (List Message) → Type 0
@@ -142,10 +135,10 @@ AllApart [] = Unit {0}
 AllApart (set ∷ sets) = Apart set × AllApart sets
 
 -- ---- writing
-abbrev pub Writes : Plan → Session → List ℕ → List Answered → Type 0
+abbrev pub Writes : Plan → Session → List ℕ → List Turn → Type 0
 Writes p s d [] = Unit {0}
 Writes p s d (c ∷ cs) =
-    Octets (c .frame) × WriteReplyCall p s (c .frame) d (c .item) (c .took) (c .desk) × Writes p (c .took .session) (c .desk) cs
+    Octets (c .reply) × WriteReplyCall p s (c .reply) d (c .item) (c .took) (c .deskLeft) × Writes p (c .took .session) (c .deskLeft) cs
 
 -- the times of the time replies that were accepted, the last one first, and the item that was lent with it
 pub record Timed : Type 0 where
@@ -177,9 +170,9 @@ pub record Sending (p : Plan) (s : Session) (d : List ℕ) (w : Timed) : Type 0 
   pub stamp : stampNumber (s .stamp) ≡ ts-written (family p) (w .Data) (w .Times)
   pub sends : sending p d ≡ WRITE (family p) (w .Data) (w .Times)
 
-abbrev pub EachWrites : Plan → Session → List ℕ → Timed → List Answered → Type 0
+abbrev pub EachWrites : Plan → Session → List ℕ → Timed → List Turn → Type 0
 EachWrites p s d before [] = Unit {0}
 EachWrites p s d before (c ∷ cs) =
-    Wrote p (c .took .session) (saidOf (c .took .answer)) (timing p s (c .frame) d (c .item) before)
-    × (c .took .session .stage ≡ Storing → Sending p (c .took .session) (c .desk) (timing p s (c .frame) d (c .item) before))
-    × EachWrites p (c .took .session) (c .desk) (timing p s (c .frame) d (c .item) before) cs
+    Wrote p (c .took .session) (saidOf (c .took .answer)) (timing p s (c .reply) d (c .item) before)
+    × (c .took .session .stage ≡ Storing → Sending p (c .took .session) (c .deskLeft) (timing p s (c .reply) d (c .item) before))
+    × EachWrites p (c .took .session) (c .deskLeft) (timing p s (c .reply) d (c .item) before) cs

@@ -21,8 +21,8 @@
  *
  *   1. Ask numbers. "The caller gives each operation an ask number range that it has not used." An operation opened at a uses a to a+W:
  *      W+1 numbers, not W. Keep a counter on disk and raise it BEFORE the operation starts; a number that was once handed out is never
- *      used again by this client, also after a crash. Clients that share nodes need no common counter: replies come back on the
- *      channel of the client that asked.
+ *      used again, also after a crash. Several clients: give each numbers of its own, as by its own number in the upper 16 bits, and
+ *      no reply to one can be counted by another, whatever carries them.
  *   2. Channels. "Authentication of channels" is assumed. A frame says from which node it is (pasis_frame_node); AFTER receiving it and
  *      BEFORE handing it on, compare that with the node at the channel's other end, and drop the frame where they differ. Else one
  *      liar answers for all nodes.

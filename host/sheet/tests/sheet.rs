@@ -267,6 +267,41 @@ fn what_a_crash_left_behind_is_not_read() {
     assert_eq!(place.get("out"), b"two leaf");
 }
 
+/// Saves that are killed at moments spread over the time that a save takes: every book stays good, and an open ends with one of the blocks.
+#[test]
+fn killed_at_any_moment() {
+    let place = five("killed");
+    assert_eq!(place.code("save s one"), 0);
+    for turn in 0..25 {
+        let mut command = Command::new(env!("CARGO_BIN_EXE_sheet"));
+        command.args(["save", "s", "two"]).current_dir(&place.0).stdout(Stdio::null()).stderr(Stdio::null());
+        let mut child = command.spawn().expect("it starts");
+        std::thread::sleep(std::time::Duration::from_micros(700 * turn));
+        let _ = child.kill();
+        child.wait().expect("it ends");
+        let (code, out, _) = place.sheet("check s");
+        assert_eq!(code, 0, "{out}");
+        assert_eq!(place.code("open s out"), 0);
+        assert!([b"one leaf", b"two leaf"].contains(&place.get("out").as_slice().try_into().expect("8 bytes")));
+    }
+}
+
+/// A disk that takes no more: the node whose book cannot be written is silent, and no file is lost.
+#[test]
+fn a_book_that_cannot_be_written() {
+    let place = five("disk");
+    assert_eq!(place.code("save s one"), 0);
+    for node in 0..5 {
+        fs::create_dir(place.file(&format!("s/book-{node}.new"))).expect("in the way of the new file");
+    }
+    let books = |place: &Place| (0..5).map(|node| place.get(&format!("s/book-{node}"))).collect::<Vec<_>>();
+    let before = books(&place);
+    let (code, out, err) = place.sheet("save s two");
+    assert!(code == 7 && out.ends_with("nothing was stored\n"), "{out}");
+    assert_eq!(err.lines().filter(|line| line.contains("cannot be written: ")).count(), 5, "{err}");
+    assert_eq!(books(&place), before);
+}
+
 #[test]
 fn two_at_once_take_turns() {
     let place = five("turns");

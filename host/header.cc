@@ -1,12 +1,16 @@
-// pasis.h from C++: its macros against its functions, and both against the archive. Ends with 0 if all agree, else with the line.
+// pasis.h from C++: its macros against its functions, and both against the archive. Ends with 0 if all agree, else with 1 and a line.
+#include <cstdio>
 #include <cstring>
 #include <vector>
 
 #include "pasis.h"
 
-#define MUST(what) \
-  do {             \
-    if (!(what)) return __LINE__ & 0xff ? __LINE__ & 0xff : 1; \
+#define MUST(what)                                                     \
+  do {                                                                 \
+    if (!(what)) {                                                     \
+      std::fprintf(stderr, "header: line %d: %s\n", __LINE__, #what); \
+      return 1;                                                        \
+    }                                                                  \
   } while (0)
 
 static_assert(PASIS_RECORD_SIZE(5, 4) == 204, "document 01: N5 F4, R 204");
@@ -54,7 +58,7 @@ int main() {
     pasis_plan_bytes(&p, plan);
     MUST(pasis_record_size(plan) == PASIS_RECORD_SIZE(p.N, p.F) && pasis_desk_size(plan) == PASIS_DESK_SIZE(p.N, p.F));
     MUST(pasis_item_size(plan) == PASIS_ITEM_SIZE(p.m, p.F) && pasis_frame_size(plan) == PASIS_FRAME_SIZE(p.N, p.F));
-    if (int line = sizes(plan)) return line;
+    if (sizes(plan)) return 1;
   }
   return words();
 }

@@ -240,8 +240,9 @@ uint32_t pasis_open_read(const uint8_t *plan, size_t plan_len, uint64_t ask, uin
  *   desk      N*R bytes (pasis_desk_size), read
  *   request   at least R+15 bytes (pasis_frame_size), written: the frame, whose length is pasis_frame_length(request)
  *   answers 0, or refuses 1, 2, 9, 14, 4, 11 in that order
- * When a round opens, that is after the opening and after each reply that answered 0 with another ask number or stage in the session,
- * get the requests for all N nodes and send them all: a round ends at N-t replies, but each further node that stores is one more. */
+ * When a round opens, that is after the opening, and after a reply that answered 0 and changed stage or round (bytes 1 to 3 of the
+ * session), get the requests for all N nodes and send them all: a round ends at N-t replies, but each further node that stores is one
+ * more. */
 uint32_t pasis_owed(const uint8_t *plan, size_t plan_len, const uint8_t *session, size_t session_len, uint64_t node, const uint8_t *desk,
                     size_t desk_len, uint8_t *request, size_t request_len);
 

@@ -48,13 +48,14 @@ fn head(report: &mut Report, plan: &Plan) {
 fn table(report: &mut Report, rows: &[Row], stamps: &[Timestamp], all: bool) {
     let left_out = if all { 0 } else { stamps.len().saturating_sub(COLUMNS) };
     let shown = &stamps[left_out..];
-    let titles: String = shown.iter().map(|stamp| format!("  {stamp:<12}")).collect();
+    let width = shown.iter().map(|stamp| stamp.to_string().len()).max().unwrap_or(0);
+    let titles: String = shown.iter().map(|stamp| format!("  {stamp:<width$}")).collect();
     let titles = if shown.is_empty() { "  none" } else { titles.trim_end() };
     report.line(format!("save     {titles}"));
     for (node, row) in rows.iter().enumerate() {
         let cells = match row {
             Err(why) => format!("  {why}"),
-            Ok(row) => shown.iter().map(|stamp| format!("  {:<12}", cell(row, *stamp))).collect(),
+            Ok(row) => shown.iter().map(|stamp| format!("  {:<width$}", cell(row, *stamp))).collect(),
         };
         report.line(format!("node {node:<4}{cells}").trim_end());
     }

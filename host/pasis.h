@@ -4,14 +4,14 @@
  * it. "The paper" below is document 01; words in quotation marks are its own.
  *
  * The library sends nothing, waits for nothing and keeps nothing: a call reads and writes the memory that it is lent and comes back. It
- * allocates nothing, has no global state, never calls back and always ends. Any number of threads may make calls at once, on memory that
- * no two of them share.
+ * allocates nothing, has no global state, never calls back and always ends. Any number of threads may make calls at once, if none
+ * touches memory that another's call may write.
  *
  * A slice is a pointer and the length that follows it. A pointer is never null, also where the length is 0, and no slice that a call may
  * write overlaps another slice of that call. All else may be anything: a call takes any bytes and any lengths, and answers a number.
  * A refused call (1 to 31) leaves every byte that it was lent as it came.
  *
- * Linking: this header and libpasis.a, nothing else. What the header defines itself is inline.
+ * Linking: libpasis.a and a C library (memset and its like), nothing else. What this header defines itself is inline.
  *
  *   node side      pasis_fresh_book once, then pasis_node for each request
  *   client side    pasis_open_write or pasis_open_read; pasis_owed for each node, as often as wanted; pasis_write_reply or
@@ -23,9 +23,9 @@
  *      W+1 numbers, not W. Keep a counter on disk and raise it BEFORE the operation starts; a number that was once handed out is never
  *      used again, also after a crash. Several clients: give each numbers of its own, as by its own number in the upper 16 bits, and
  *      no reply to one can be counted by another, whatever carries them.
- *   2. Channels. "Authentication of channels" is assumed. A frame says from which node it is (pasis_frame_node); AFTER receiving it and
- *      BEFORE handing it on, compare that with the node at the channel's other end, and drop the frame where they differ. Else one
- *      liar answers for all nodes.
+ *   2. Channels. "Authentication of channels (assumed, as in the report)" is the caller's. A frame says from which node it is
+ *      (pasis_frame_node): AFTER receiving it and BEFORE handing it on, compare that with the node at the channel's other end, and
+ *      drop the frame where they differ. Else one liar answers for all nodes.
  *   3. One desk a session. Between two calls session and desk are touched by nobody else, and no second session uses that desk. Each
  *      call gets them as the call before handed them back.
  *   4. The book on disk BEFORE the reply is sent. When pasis_node answers 0, make the book durable, then send the reply. A node that

@@ -201,7 +201,7 @@ static inline unsigned pasis_frame_node(const uint8_t *frame) { return frame[6];
  * pasis_fresh_book makes the empty book of a node, by writing the first 11 bytes of `book`; all other bytes stay.
  *   plan   11 bytes, read
  *   node   its number, 0 to N-1
- *   book   11 to 65,536 bytes, written. Its length is the room of that node for all time: PASIS_BOOK_SIZE
+ *   book   11 to 65,536 bytes, written. Its length is its room: PASIS_BOOK_SIZE. It may be lent longer later, by bytes put behind it
  *   answers 0, or refuses 1, 2, 4 in that order
  * Never make a fresh book in the place of a lost one and call the node good: a node that forgot counts among the b that lie. */
 uint32_t pasis_fresh_book(const uint8_t *plan, size_t plan_len, uint64_t node, uint8_t *book, size_t book_len);

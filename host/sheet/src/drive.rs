@@ -76,6 +76,9 @@ pub struct Round {
     pub verdict: &'static str,
 }
 
+/// The verdict of a round that did not close.
+pub const NOT_CLOSED: &str = "not closed";
+
 /// What came of an operation.
 pub struct Run {
     /// `Open` where it did not end.
@@ -213,11 +216,12 @@ impl Drive<'_, '_> {
         over
     }
 
+    /// Takes a read round down for the picture; one that did not close has no candidate.
     fn close(&mut self, bound: Option<Timestamp>, replies: &[(usize, Held)], over: bool) {
         let heard = replies.iter().map(|(node, _)| *node).collect();
-        let (candidate, set) = candidate(&self.plan, replies);
+        let (candidate, set) = if over { candidate(&self.plan, replies) } else { (None, Vec::new()) };
         let ended = verdict(&self.plan, self.run.answer, self.run.session.stage(), set.len());
-        let verdict = if over { ended } else { "not closed" };
+        let verdict = if over { ended } else { NOT_CLOSED };
         self.run.rounds.push(Round { bound, heard, candidate, set, verdict });
     }
 }

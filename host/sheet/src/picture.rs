@@ -3,7 +3,7 @@
 
 use crate::book::{self, Held};
 use crate::code::{fault, Code, Fault, Report};
-use crate::drive::{self, Block, Nodes, Round, Run};
+use crate::drive::{self, Block, Nodes, Round, Run, NOT_CLOSED};
 use crate::folder::{Folder, Silence};
 use crate::json::Json;
 use crate::plan_text;
@@ -70,6 +70,7 @@ fn round_line(number: usize, round: &Round) -> String {
     let below = round.bound.map(|bound| format!(" below {bound}")).unwrap_or_default();
     let heard = list(&round.heard);
     let found = match round.candidate {
+        None if round.verdict == NOT_CLOSED => return format!("round {number}  heard {heard}{below}: {NOT_CLOSED}"),
         None => "candidate the first triple".to_string(),
         Some(stamp) => format!("candidate {stamp}, its set {}", list(&round.set)),
     };

@@ -2,7 +2,7 @@
 
 use crate::book;
 use crate::code::{fault, Code, Fault, Report};
-use crate::drive::{self, Block, Nodes, Run};
+use crate::drive::{self, Block, Nodes, Run, NOT_CLOSED};
 use crate::files;
 use crate::folder::{missing, read_plan, Folder};
 use crate::json::Json;
@@ -152,7 +152,7 @@ pub fn ending(plan: &Plan, run: &Run) -> (Code, String) {
             (Code::Aborted, "aborted: the newest save can be neither taken nor passed".to_string())
         }
         Answer::RoundsSpent { rounds: used } => {
-            (Code::RoundsSpent, format!("rounds spent: {} found no save", rounds(used)))
+            (Code::RoundsSpent, format!("rounds spent: {} found no save to take", rounds(used)))
         }
         Answer::ClockSpent => (Code::ClockSpent, "clock spent".to_string()),
         Answer::Open => {
@@ -176,7 +176,7 @@ pub fn open(folder: &Path, file: &OsStr, down: &[usize]) -> Result<Report, Fault
     }
     let (code, line) = ending(plan, &run);
     let mut report = told(code, line, &run);
-    report.say("rounds", Json::Number(run.rounds.len() as u64));
+    report.say("rounds", Json::Number(run.rounds.iter().filter(|round| round.verdict != NOT_CLOSED).count() as u64));
     report.aside = file == "-";
     Ok(report)
 }

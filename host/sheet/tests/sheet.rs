@@ -173,7 +173,8 @@ fn too_few_nodes() {
     assert_eq!(code, 7);
     assert!(out.starts_with("no end: the time round heard nodes 1 2 3, and 4 replies end it"), "{out}");
     assert_eq!(place.code("open s out --down 0,4"), 7);
-    assert!(place.sheet("show s --down 0,4").1.contains("not closed\nverdict  no end: the read round heard"));
+    let (_, out, _) = place.sheet("show s --down 0,4");
+    assert!(out.contains("round 1  heard nodes 1 2 3: not closed\nverdict  no end: the read round heard"), "{out}");
 }
 
 #[test]

@@ -1,10 +1,11 @@
 //! Plans, records and frames made up for the generator: what careful, careless and lying parties might send.
 
+use crate::book::{Book, HEADER};
 use crate::code::encode;
 use crate::frame::{Ask, Body, Frame};
 use crate::plan::{Clients, Member, Plan};
 use crate::random::Random;
-use crate::record::{records, Record};
+use crate::record::{records, Record, Timestamp};
 
 /// How great the plans and books are.
 #[derive(Clone, Copy, Debug, PartialEq, Eq)]
@@ -39,7 +40,7 @@ fn tried(random: &mut Random, size: Size) -> Plan {
         Size::Small => random.within(1, 4),
         Size::Any => random.pick(&[1, 2, 3, 4, 5, 17, 33, 60, 64, 100, 257, 1024]),
     };
-    let w = random.pick(&[1, 2, 2, 3, 4, 9, 300, 65_535]);
+    let w = random.pick(&[1, 1, 2, 2, 3, 5, 300, 65_535]);
     Plan { n, t, b, q, m, f, member, clients, w }
 }
 
@@ -69,6 +70,20 @@ pub fn honest(random: &mut Random, plan: &Plan, time: u64) -> Vec<Record> {
 pub fn poisonous(random: &mut Random, plan: &Plan, time: u64) -> Vec<Record> {
     let fragments = (0..plan.n).map(|_| random.bytes(plan.f)).collect();
     records(time, fragments)
+}
+
+/// A book of up to as many records as the greatest can hold, none of them of right hashes.
+pub fn long_book(random: &mut Random, plan: &Plan, node: usize) -> Book {
+    let most = (65_536 - HEADER) / plan.record_length();
+    let count = most - random.pick(&[0, 0, 1, most / 2]);
+    let mut stamp = Timestamp { time: 1, verifier: [0; 32] };
+    let mut records = Vec::new();
+    for _ in 0..count {
+        stamp.time += random.pick(&[0, 1, 1, 1 << 40]);
+        stamp = Timestamp { time: stamp.time + 1, verifier: [random.byte(); 32] };
+        records.push(Record { stamp, checksum: random.bytes(plan.checksum_length()), fragment: random.bytes(plan.f) });
+    }
+    Book { node, records }
 }
 
 pub fn frame(node: usize, ask: u64, body: Body) -> Vec<u8> {

@@ -36,7 +36,6 @@ struct Client {
     session: Vec<u8>,
     desk: Vec<u8>,
     item: Vec<u8>,
-    ended: bool,
 }
 
 /// One item on N nodes, and the clients at work on it.
@@ -44,6 +43,8 @@ struct World<'a> {
     random: &'a mut Random,
     plan: Plan,
     size: Size,
+    /// Books have room for few records.
+    tight: bool,
     habits: Vec<Habit>,
     books: Vec<Vec<u8>>,
     clients: Vec<Client>,
@@ -69,14 +70,18 @@ impl World<'_> {
         let any = random.number() % last;
         let ask = random.pick(&[0, 1, 1000, any, last, last - 1]);
         let (books, clients, requests, replies) = Default::default();
-        World { random, plan, size, habits, books, clients, requests, replies, ask }
+        let tight = random.chance(25);
+        World { random, plan, size, tight, habits, books, clients, requests, replies, ask }
     }
 
     fn history(&mut self, maker: &mut dyn Maker) -> Result<(), Stop> {
         for node in 0..self.plan.n {
             self.fresh_book(maker, node)?;
         }
-        let steps = self.random.within(20, 60 + 30 * self.plan.n);
+        for _ in 0..self.random.pick(&[0, 0, 1, 3]) {
+            self.foreign_save(maker)?;
+        }
+        let steps = self.random.within(30, 100 + 40 * self.plan.n);
         for _ in 0..steps {
             self.step(maker)?;
         }
@@ -91,13 +96,7 @@ impl World<'_> {
             4 => self.repeat_request(maker),
             5 => self.late_reply(maker),
             6 => {
-                self.damage();
-                Ok(())
-            }
-            7 => {
-                // a client that crashes leaves its save or repair as far as it came
-                let gone = self.random.below(self.clients.len());
-                self.clients.remove(gone);
+                self.mishap();
                 Ok(())
             }
             _ => self.turn(maker),
@@ -107,7 +106,12 @@ impl World<'_> {
     /// One call of the history, after some changed copies of it.
     fn call(&mut self, maker: &mut dyn Maker, kind: Kind, number: u64, lent: Vec<Vec<u8>>) -> Result<Outcome, Stop> {
         let call = Call { kind, plan: wire::plan_bytes(&self.plan).to_vec(), number, lent };
-        while self.random.chance(50) {
+        let often = match kind {
+            Kind::Node | Kind::Owed => 40,
+            Kind::WriteReply | Kind::ReadReply => 65,
+            Kind::FreshBook | Kind::OpenWrite | Kind::OpenRead => 75,
+        };
+        while self.random.chance(often) {
             let mut other = call.clone();
             let view = View { plan: &self.plan, requests: &self.requests, replies: &self.replies };
             for _ in 0..self.random.pick(&[1, 1, 1, 2, 2, 3]) {
@@ -123,14 +127,19 @@ impl World<'_> {
         let size = self.plan.record_length();
         let records = match self.size {
             Size::Small => self.random.within(0, 3),
-            Size::Any => self.random.pick(&[0, 2, 4, 6, 8, 10, 20, 30]),
+            Size::Any if self.tight => self.random.pick(&[0, 1, 2, 3, 5, 8]),
+            Size::Any => self.random.pick(&[15, 20, 30, 40]),
         };
         let spare = self.random.pick(&[0, 0, 1, size - 1]);
         let length = (11 + records * size + spare).min(65_536);
         let length = if self.size == Size::Any && self.random.chance(1) { 65_536 } else { length };
         let book = self.random.bytes(length);
         let outcome = self.call(maker, Kind::FreshBook, node as u64, vec![book])?;
-        self.books.push(only(outcome.lent));
+        let mut book = only(outcome.lent);
+        if length == 65_536 && self.random.chance(50) {
+            craft::long_book(self.random, &self.plan, node).write(&self.plan, &mut book);
+        }
+        self.books.push(book);
         Ok(())
     }
 
@@ -141,7 +150,7 @@ impl World<'_> {
         if outcome.number == 0 {
             self.ask = self.ask.wrapping_add(self.plan.w as u64 + 1);
             let (desk, item) = (self.random.bytes(self.plan.desk_length()), self.random.bytes(self.plan.item_length()));
-            self.clients.push(Client { session: only(outcome.lent), desk, item, ended: false });
+            self.clients.push(Client { session: only(outcome.lent), desk, item });
         } else {
             self.ask = self.random.within(0, 1 << 20) as u64;
         }
@@ -152,12 +161,7 @@ impl World<'_> {
     fn turn(&mut self, maker: &mut dyn Maker) -> Result<(), Stop> {
         let client = self.random.below(self.clients.len());
         let node = self.node_for(client);
-        let Some(request) = self.owed(maker, client, node)? else {
-            if self.clients[client].ended && self.random.chance(60) {
-                self.clients.remove(client);
-            }
-            return Ok(());
-        };
+        let Some(request) = self.owed(maker, client, node)? else { return Ok(()) };
         keep(&mut self.requests, &request);
         if self.habits[node] == Habit::Silent {
             return Ok(());
@@ -187,6 +191,10 @@ impl World<'_> {
         let Client { session, desk, .. } = &self.clients[client];
         let lent = vec![session.clone(), desk.clone(), self.random.bytes(self.plan.frame_room())];
         let outcome = self.call(maker, Kind::Owed, node as u64, lent)?;
+        if matches!(outcome.number, 9 | 14) && self.random.chance(60) {
+            // it will come to nothing any more
+            self.clients.remove(client);
+        }
         Ok((outcome.number == 0).then(|| cut(&outcome.lent[2])))
     }
 
@@ -211,9 +219,8 @@ impl World<'_> {
         let ending = self.random.bytes(wire::ENDING);
         let lent = vec![session.clone(), frame, desk.clone(), item.clone(), ending];
         let outcome = self.call(maker, kind, 0, lent)?;
-        let ended = self.clients[client].ended || outcome.number > 100;
         let [session, _, desk, item, _] = <[Vec<u8>; 5]>::try_from(outcome.lent).expect("five slices");
-        self.clients[client] = Client { session, desk, item, ended };
+        self.clients[client] = Client { session, desk, item };
         Ok(())
     }
 
@@ -235,7 +242,7 @@ impl World<'_> {
         let near = session.bound.map_or(4, |bound: Timestamp| bound.time);
         let time = match self.random.below(4) {
             0 => craft::record_time(self.random),
-            1 => near,
+            1 => near.saturating_add(self.random.below(2) as u64),
             _ => near.saturating_sub(1).max(1),
         };
         craft::poisonous(self.random, &self.plan, time).swap_remove(node)
@@ -244,11 +251,11 @@ impl World<'_> {
     /// A save by a client of no known kind: an item or poison, at any time, at some of the nodes.
     fn foreign_save(&mut self, maker: &mut dyn Maker) -> Result<(), Stop> {
         let time = craft::record_time(self.random);
-        let records = match self.random.chance(50) {
+        let records = match self.random.chance(75) {
             true => craft::honest(self.random, &self.plan, time),
             false => craft::poisonous(self.random, &self.plan, time),
         };
-        let reached = self.random.within(0, 100);
+        let reached = self.random.pick(&[10, 30, 50, 60, 70, 100]);
         for (node, record) in records.into_iter().enumerate() {
             if self.random.chance(reached) {
                 let ask = self.random.number();
@@ -280,13 +287,29 @@ impl World<'_> {
         self.reply(maker, client, reply)
     }
 
-    /// A disk that changes a byte of a held record.
+    /// What no call does: a client crashes, a disk changes a byte, a caller meddles with what the library gave it.
+    fn mishap(&mut self) {
+        let client = self.random.below(self.clients.len());
+        match self.random.below(5) {
+            0 => self.damage(),
+            1 | 2 => {
+                let Client { session, desk, .. } = &mut self.clients[client];
+                mutate::client::keepsake(self.random, &self.plan, session, desk);
+            }
+            _ => {
+                // its save or repair stays as far as it came
+                self.clients.remove(client);
+            }
+        }
+    }
+
+    /// A byte of a held record.
     fn damage(&mut self) {
         let (node, size) = (self.random.below(self.plan.n), self.plan.record_length());
         let count = usize::from(u16::from_be_bytes([self.books[node][9], self.books[node][10]]));
-        if count > 0 && self.random.chance(40) {
+        if count > 0 {
             let at = self.random.below(count);
-            mutate::damage(self.random, size, at, &mut self.books[node]);
+            mutate::book::damage(self.random, size, at, &mut self.books[node]);
         }
     }
 }

@@ -1,6 +1,7 @@
 //! Whole histories of calls from a seed: saves, opens, partial and poisonous saves, silent nodes, liars, damaged books, repeated and late
 //! frames. Before a call of the history is made, changed copies of it are made too, and their outcomes dropped.
 
+use crate::book::Book;
 use crate::craft::{self, Size};
 use crate::driver::{Maker, Outcome, Stop};
 use crate::frame::Body;
@@ -232,6 +233,11 @@ impl World<'_> {
             (Stage::Storing, _) => Body::WriteReply(session.stamp),
             (_, Operation::Write) => Body::TimeReply(craft::time(self.random)),
             (_, Operation::Read) if self.random.chance(20) => Body::ReadReply(None),
+            (_, Operation::Read) if self.random.chance(40) => {
+                // the latest, whatever was asked
+                let book = Book::read(&self.plan, &self.books[node]);
+                Body::ReadReply(book.and_then(|book| book.last().cloned()))
+            }
             (_, Operation::Read) => Body::ReadReply(Some(self.forged(&session, node))),
         };
         craft::frame(node, ask, body)
@@ -255,16 +261,24 @@ impl World<'_> {
             true => craft::honest(self.random, &self.plan, time),
             false => craft::poisonous(self.random, &self.plan, time),
         };
-        let reached = self.random.pick(&[10, 30, 50, 60, 70, 100]);
-        for (node, record) in records.into_iter().enumerate() {
-            if self.random.chance(reached) {
-                let ask = self.random.number();
-                let request = craft::frame(node, ask, Body::WriteRequest(record));
-                keep(&mut self.requests, &request);
-                self.node(maker, node, request)?;
-            }
+        for node in self.some_nodes() {
+            let request = craft::frame(node, self.random.number(), Body::WriteRequest(records[node].clone()));
+            keep(&mut self.requests, &request);
+            self.node(maker, node, request)?;
         }
         Ok(())
+    }
+
+    /// All nodes, or about as many as decide between incomplete and complete.
+    fn some_nodes(&mut self) -> Vec<usize> {
+        let mut nodes: Vec<usize> = (0..self.plan.n).collect();
+        if self.random.chance(80) {
+            let few = self.random.within(self.plan.q - self.plan.t - 1, self.plan.q + self.plan.b);
+            while nodes.len() > few {
+                nodes.remove(self.random.below(nodes.len()));
+            }
+        }
+        nodes
     }
 
     /// A request sent before, again, mostly to its own node.

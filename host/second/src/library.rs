@@ -129,6 +129,11 @@ impl Kind {
         }
     }
 
+    /// Whether the call takes a node or ask number.
+    pub fn numbered(self) -> bool {
+        !matches!(self, Kind::Node | Kind::WriteReply | Kind::ReadReply)
+    }
+
     /// The lent slices after the plan, in the order of the call.
     pub fn slices(self) -> &'static [Slice] {
         match self {

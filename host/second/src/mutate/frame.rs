@@ -7,7 +7,7 @@ use crate::random::Random;
 use crate::record::Timestamp;
 use crate::sha256::sha256;
 
-/// One field of a frame; its length field is put right again in half of the changes of length.
+/// One field of a frame, or another frame in its place.
 pub fn change(random: &mut Random, view: &View, seen: &[Vec<u8>], aim: Option<Timestamp>, bytes: &mut Vec<u8>) {
     if bytes.len() < 15 {
         *bytes = random.bytes(15);
@@ -41,7 +41,7 @@ pub fn change(random: &mut Random, view: &View, seen: &[Vec<u8>], aim: Option<Ti
     }
 }
 
-/// Another length of the body.
+/// Another length of the body, mostly with the length field that says so.
 fn cut(random: &mut Random, plan: &Plan, bytes: &mut Vec<u8>) {
     let body = bytes.len() - 15;
     let other = random.pick(&[0, 8, 40, plan.record_length(), plan.record_length() - 32, body + 1, body - body.min(1)]);

@@ -28,7 +28,7 @@ pub fn change(random: &mut Random, view: &View, call: &mut Call) {
         3 if matches!(call.kind, Kind::WriteReply | Kind::ReadReply) => {
             call.kind = if call.kind == Kind::WriteReply { Kind::ReadReply } else { Kind::WriteReply };
         }
-        4 | 5 => number(random, view.plan, call),
+        4 | 5 if call.kind.numbered() => number(random, view.plan, call),
         6 | 7 if call.kind == Kind::ReadReply => {
             let aim = aim(random, view.plan, call);
             frame::near(random, aim, &mut call.lent[1]);

@@ -29,8 +29,9 @@ pub fn plan(random: &mut Random, size: Size) -> Plan {
 fn tried(random: &mut Random, size: Size) -> Plan {
     let greatest = if size == Size::Small { 5 } else { random.pick(&[5, 7, 9, 16]) };
     let n = random.within(1, greatest);
-    let t = random.pick(&[0, 1, 1, 1, 2, 2, 3, 7]);
-    let b = random.within(0, t);
+    let t = random.pick(&[0, 1, 1, 1, 2, 2, 3, (n - 1) / 2]);
+    let liars = random.pick(&[1, 3]);
+    let b = random.within(0, t.min(liars));
     let (more, most) = (random.pick(&[0, 1, 8]), random.pick(&[1, 2, 3, 9, 16]));
     let q = random.within(t + b + 1, t + b + 1 + more);
     let m = random.within(1, most);

@@ -85,15 +85,21 @@ const TURNS: [&str; 9] = [
 ];
 
 /// Which of them this call did.
-fn turn(call: &Call, outcome: &Outcome) -> Option<usize> {
+fn turn(call: &Call, outcome: &Outcome) -> Option<&'static str> {
     let (before, after) = (&call.lent[0], &outcome.lent[0]);
+    let (staged, rounded) = (before.get(1) != after.get(1), before.get(2..4) != after.get(2..4));
     match (call.kind, outcome.number) {
-        (Kind::Node, 0) if before[5] == 3 => Some(usize::from(call.lent[1] == outcome.lent[1])),
-        (Kind::Node, 0) if before[5] == 6 => Some(if outcome.lent[2][..4] == [0, 0, 0, 11] { 3 } else { 2 }),
-        (Kind::WriteReply, 0) if before[1] != after[1] => Some(4),
-        (Kind::ReadReply, 0) if before[2..4] != after[2..4] => Some(5),
-        (Kind::ReadReply, 0) if before[1] != after[1] => Some(6),
-        (Kind::ReadReply, 101) => Some(7 + usize::from(before[1])),
+        (Kind::Node, 0) if before[5] == 3 && call.lent[1] == outcome.lent[1] => Some("held record acknowledged"),
+        (Kind::Node, 0) if before[5] == 3 => Some("record stored"),
+        (Kind::Node, 0) if before[5] == 6 && outcome.lent[2][..4] == [0, 0, 0, 11] => {
+            Some("first triple below a bound")
+        }
+        (Kind::Node, 0) if before[5] == 6 => Some("record below a bound"),
+        (Kind::WriteReply, 0) if staged => Some("write round opened"),
+        (Kind::ReadReply, 0) if rounded => Some("next read round opened"),
+        (Kind::ReadReply, 0) if staged => Some("repair round opened"),
+        (Kind::ReadReply, 101) if before[1] == 0 => Some("done without repair"),
+        (Kind::ReadReply, 101) => Some("done after repair"),
         _ => None,
     }
 }
@@ -136,7 +142,7 @@ impl<'a> Driver<'a> {
         let column = NUMBERS.iter().position(|other| *other == number).expect("every answer of a call is counted");
         self.counts[call.kind as usize][column] += 1;
         if let Some(turn) = turn(call, outcome) {
-            self.turns[turn] += 1;
+            self.turns[TURNS.iter().position(|name| *name == turn).expect("a turn")] += 1;
         }
         Ok(())
     }

@@ -151,7 +151,12 @@ impl World<'_> {
         if outcome.number == 0 {
             self.ask = self.ask.wrapping_add(self.plan.w as u64 + 1);
             let (desk, item) = (self.random.bytes(self.plan.desk_length()), self.random.bytes(self.plan.item_length()));
-            self.clients.push(Client { session: only(outcome.lent), desk, item });
+            let mut session = only(outcome.lent);
+            if kind == Kind::OpenRead && self.random.chance(15) {
+                // rounds that no history is long enough for
+                mutate::client::later_round(self.random, &self.plan, &mut session);
+            }
+            self.clients.push(Client { session, desk, item });
         } else {
             self.ask = self.random.within(0, 1 << 20) as u64;
         }

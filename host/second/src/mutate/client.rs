@@ -49,8 +49,9 @@ pub fn session(random: &mut Random, plan: &Plan, bytes: &mut [u8]) {
 }
 
 /// A round above 1 with a bound, as a made-up session may have it; the operation and stage are left.
-fn later_round(random: &mut Random, plan: &Plan, bytes: &mut [u8]) {
-    let round = random.pick(&[2, plan.w as u16, (plan.w as u16).wrapping_add(1)]);
+pub fn later_round(random: &mut Random, plan: &Plan, bytes: &mut [u8]) {
+    let w = plan.w as u16;
+    let round = random.pick(&[2, 255, 256, w - 1, w, w, w.wrapping_add(1)]);
     bytes[2..4].copy_from_slice(&round.to_be_bytes());
     bytes[4] = 1;
     put(bytes, 5, craft::time(random));

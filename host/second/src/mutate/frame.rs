@@ -41,16 +41,17 @@ pub fn change(random: &mut Random, view: &View, seen: &[Vec<u8>], aim: Option<Ti
     }
 }
 
-/// Another length of the body, mostly with the length field that says so.
+/// Another length, of the body or of too little for a frame, mostly with the length field that says so.
 fn cut(random: &mut Random, plan: &Plan, bytes: &mut Vec<u8>) {
     let body = bytes.len() - 15;
     let other = random.pick(&[0, 8, 40, plan.record_length(), plan.record_length() - 32, body + 1, body - body.min(1)]);
     bytes.resize(15 + other, 0x3c);
-    if random.chance(70) {
-        bytes[..4].copy_from_slice(&(11 + other as u32).to_be_bytes());
+    if random.chance(20) {
+        bytes.truncate(random.pick(&[14, 14, 13, 11, 7, 5, 4, 3, 0]));
     }
-    if random.chance(10) {
-        bytes.truncate(random.below(15));
+    if random.chance(70) && bytes.len() >= 4 {
+        let rest = bytes.len() as u32 - 4;
+        bytes[..4].copy_from_slice(&rest.to_be_bytes());
     }
 }
 

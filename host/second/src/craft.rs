@@ -76,7 +76,7 @@ pub fn poisonous(random: &mut Random, plan: &Plan, time: u64) -> Vec<Record> {
 /// A book of up to as many records as the greatest can hold, none of them of right hashes.
 pub fn long_book(random: &mut Random, plan: &Plan, node: usize) -> Book {
     let most = (65_536 - HEADER) / plan.record_length();
-    let count = most - random.pick(&[0, 0, 1, most / 2]);
+    let count = most - random.pick(&[0, 1, 2, most / 3, most / 2]);
     let mut stamp = Timestamp { time: 1, verifier: [0; 32] };
     let mut records = Vec::new();
     for _ in 0..count {

@@ -133,11 +133,11 @@ impl World<'_> {
         };
         let spare = self.random.pick(&[0, 0, 1, size - 1]);
         let length = (11 + records * size + spare).min(65_536);
-        let length = if self.size == Size::Any && self.random.chance(1) { 65_536 } else { length };
+        let length = if self.size == Size::Any && self.random.chance(2) { 65_536 } else { length };
         let book = self.random.bytes(length);
         let outcome = self.call(maker, Kind::FreshBook, node as u64, vec![book])?;
         let mut book = only(outcome.lent);
-        if length == 65_536 && self.random.chance(50) {
+        if length == 65_536 && self.random.chance(70) {
             craft::long_book(self.random, &self.plan, node).write(&self.plan, &mut book);
         }
         self.books.push(book);
@@ -165,7 +165,8 @@ impl World<'_> {
 
     /// A client asks a node and hears its reply, if it sends one and it is not lost.
     fn turn(&mut self, maker: &mut dyn Maker) -> Result<(), Stop> {
-        let client = self.random.below(self.clients.len());
+        let storing = self.clients.iter().position(|client| client.session[1] == 1).filter(|_| self.random.chance(30));
+        let client = storing.unwrap_or_else(|| self.random.below(self.clients.len()));
         let node = self.node_for(client);
         let Some(request) = self.owed(maker, client, node)? else { return Ok(()) };
         keep(&mut self.requests, &request);

@@ -51,7 +51,7 @@ fn inside(random: &mut Random, view: &View, call: &mut Call) {
         Slice::Request => frame::change(random, view, view.requests, aim, &mut call.lent[at]),
         Slice::Reply => frame::change(random, view, view.replies, aim, &mut call.lent[at]),
         Slice::Desk => client::desk(random, view.plan, aim, &mut call.lent[at]),
-        Slice::Book if call.kind == Kind::Node && random.chance(25) => {
+        Slice::Book if call.kind == Kind::Node && random.chance(35) => {
             let request = call.lent[0].clone();
             book::damage_held(random, view.plan, &request, &mut call.lent[at]);
         }

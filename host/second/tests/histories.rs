@@ -281,3 +281,45 @@ fn late_and_repeated_replies() {
     assert_eq!(reader.run(&mut house, &[3, 2, 1]), 101);
     assert_eq!(reader.item, item(&plan, 8));
 }
+
+/// Any order of delivery, some requests twice, leaves the same bytes in the whole lent book.
+#[test]
+fn every_order_of_delivery() {
+    let plan = plan("N4 t1 b0 Q3 m2 repairable Byzantine");
+    let (nine, ten) = (item(&plan, 9), item(&plan, 10));
+    let saves = [saved(&plan, 1, &nine), saved(&plan, 3, &nine), saved(&plan, 3, &ten), poison(&plan, 2)];
+    let mut books = permutations(4).into_iter().map(|order| {
+        let mut house = House::new(&plan);
+        for at in order.iter().chain(&order[..2]) {
+            house.hold(&saves[*at], &[0, 1, 2, 3]);
+        }
+        house.books
+    });
+    let first = books.next().unwrap();
+    assert_eq!(first[0][9..11], [0, 4]);
+    assert!(books.all(|other| other == first));
+}
+
+/// A session that the library made, with the desk that it handed back and the same plan, never meets refusal 9.
+#[test]
+fn sessions_of_the_library_are_in_range() {
+    let mut random = Random::new(14);
+    for round in 0..600 {
+        let plan = Plan { w: random.pick(&[1, 2, 3, 65_535]), ..plan(PLANS[round % 7]) };
+        let mut house = House::new(&plan);
+        some_saves(&mut random, &mut house);
+        let last = u64::MAX - plan.w as u64;
+        let ask = random.pick(&[0, 7, last]);
+        let mut client = match random.chance(50) {
+            true => Client::reader(&plan, ask),
+            false => Client::writer(&plan, ask, &item(&plan, 4)),
+        };
+        for _ in 0..8 * plan.n {
+            let answers = match client.owed(random.below(plan.n)) {
+                Ok(request) => house.ask(&request).map(|reply| client.hear(&reply)),
+                refused => refused.map(|_| 0),
+            };
+            assert!(answers != Ok(9) && answers != Err(9));
+        }
+    }
+}

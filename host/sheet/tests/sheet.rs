@@ -269,9 +269,13 @@ fn what_a_crash_left_behind_is_not_read() {
 }
 
 /// Saves that are killed at moments spread over the time that a save takes: every book stays good, and an open ends with one of the blocks.
+/// Each may leave a save at one node, which costs every later open a round, so W is above their number.
 #[test]
 fn killed_at_any_moment() {
     let place = five("killed");
+    place.put("p", plan(5, 1, 1, 3, 2, "repairable", 64));
+    fs::remove_dir_all(place.file("s")).expect("removed");
+    assert_eq!(place.code("new s --plan p"), 0);
     assert_eq!(place.code("save s one"), 0);
     for turn in 0..25 {
         let mut command = Command::new(env!("CARGO_BIN_EXE_sheet"));

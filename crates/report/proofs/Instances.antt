@@ -51,7 +51,7 @@ use Rattle.demands.proofs.Node as theorems
 use Rattle.report.specs.Triple.{Message, Same}
 use Rattle.report.specs.Figure1.{INITIALIZE}
 use Rattle.report.specs.Ours.{history, bearing, responseOf, responses}
-use Rattle.report.specs.Run.{received, Answered, Reads, closing, closedOver, EachTells, AllFull, Apart, AllApart, Writes, untimed, EachWrites}
+use Rattle.report.specs.Run.{received, Answered, Reads, closing, closedOver, EachTells, AllClose, Apart, AllApart, Writes, untimed, EachWrites}
 use Rattle.report.proofs.Node.{Executes, write-acts, Added, fresh-run}
 use Rattle.report.proofs.Run.{opened-read}
 use Rattle.report.proofs.Write.{opened-write}
@@ -141,7 +141,7 @@ unfolding call
 apart = subst AllApart (sym closed-one) (one-apart heard-one, tt)
 
 -- the theorem at this run: READ returns that timestamp and the item that is left, in one round
-pub read-so : EachTells plan start desk [] (call ∷ []) × AllFull plan (closedOver plan start desk [] (call ∷ []))
+pub read-so : EachTells plan start desk [] (call ∷ []) × AllClose plan (closedOver plan start desk [] (call ∷ []))
 unfolding opened desk recordLength
 read-so = opened-read plan ask opened desk (call ∷ []) opens refl refl (small-octets desk desk-small) calls apart
 

@@ -31,7 +31,7 @@ use Rattle.report.specs.Figure1.{initial}
 use Rattle.report.specs.Figure3.{Command, VALIDATE, in-time, has, with-it, receives, DO-READ}
 use Rattle.report.specs.Ours.{family, tripleOf, responseOf, responses, commandOf}
 use Rattle.report.specs.Run.{Gathers}
-use Rattle.report.proofs.Lists.{in-append, in-split}
+use Rattle.report.proofs.Lists.{in-append, in-split, same-more, same-trans}
 use Rattle.report.proofs.Triples.{stamp-low, validate-is}
 use Rattle.report.proofs.Marks.{mark-set, mark-other, slot-own, slot-other}
 
@@ -276,17 +276,6 @@ has-same S A B f = go (has S A) (has S B) refl refl
     go false true a b = absurd (clash (sym (over B A (λ y. f y .1) b) ∙ a))
     go false false a b = refl
 
-with-same : (x : Message) (A B : List Message) → Same A B → Same (with-it x A) (with-it x B)
-with-same x A B f y = (there, back)
-  where
-    there : In y (with-it x A) → In y (with-it x B)
-    there (inl e) = inl e
-    there (inr h) = inr (f y .0 h)
-
-    back : In y (with-it x B) → In y (with-it x A)
-    back (inl e) = inl e
-    back (inr h) = inr (f y .1 h)
-
 pub receives-same : (p : Plan) (command : Command) (x : Message) (A B : List Message) → Same A B → Same (receives (family p) command A x) (receives (family p) command B x)
 unfolding receives
 receives-same p command x A B f =
@@ -296,7 +285,7 @@ receives-same p command x A B f =
   where
     go : (a b c : Bool) → Same (cond a (cond b (cond c A (with-it x A)) A) A) (cond a (cond b (cond c B (with-it x B)) B) B)
     go true true true = f
-    go true true false = with-same x A B f
+    go true true false = same-more x A B f
     go true false c = f
     go false b c = f
 
@@ -304,8 +293,11 @@ receives-same p command x A B f =
 pub gathers-more : (p : Plan) (command : Command) (x : Message) (A B : List Message) → Gathers p command A → Same B (receives (family p) command A x) → Gathers p command B
 unfolding DO-READ
 gathers-more p command x A B g s =
-    let r = receives-same p command x A (DO-READ (family p) command (g .received)) (g .is) in
-    record { received = x ∷ g .received; is = λ y. ((λ h. r y .0 (s y .0 h)), (λ h. s y .1 (r y .1 h))) }
+    record {
+      received = x ∷ g .received;
+      is = same-trans B (receives (family p) command A x) (receives (family p) command (DO-READ (family p) command (g .received)) x) s
+          (receives-same p command x A (DO-READ (family p) command (g .received)) (g .is));
+    }
 
 pub gathers-none : (p : Plan) (command : Command) (A : List Message) → A ≡ [] → Gathers p command A
 unfolding DO-READ

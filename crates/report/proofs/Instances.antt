@@ -52,7 +52,7 @@ use Rattle.report.specs.Triple.{Message, Same}
 use Rattle.report.specs.Figure1.{INITIALIZE}
 use Rattle.report.specs.Ours.{history, bearing, responseOf, responses}
 use Rattle.conduct.specs.Turns as turns
-use Rattle.report.specs.Run.{received, Reads, closing, closedOver, EachTells, AllFull, Apart, AllApart, Writes, untimed, EachWrites}
+use Rattle.report.specs.Run.{received, Reads, closing, closedOver, EachTells, AllClose, Apart, AllApart, Writes, untimed, EachWrites}
 use Rattle.report.proofs.Node.{Executes, write-acts, Added, fresh-run}
 use Rattle.report.proofs.Run.{opened-read}
 use Rattle.report.proofs.Write.{opened-write}
@@ -114,8 +114,7 @@ unfolding left reply desk rec readReply first planOk tableOk columnOf all record
 said-is = refl
 
 pub call : turns.Turn
-call =
-    record { reply = reply; item = 0 ∷ []; took = record { answer = Done (stampAt rec 0) 1; session = left .session }; deskLeft = left .desk; itemLeft = left .item }
+call = record { reply = reply; item = 0 ∷ []; took = record { answer = Done (stampAt rec 0) 1; session = left .session }; deskLeft = left .desk; itemLeft = left .item }
 
 met : ReadReplyCall plan start reply desk (0 ∷ []) (record { answer = Done (stampAt rec 0) 1; session = left .session }) (left .desk) (left .item)
 unfolding left
@@ -143,7 +142,7 @@ unfolding call
 apart = subst AllApart (sym closed-one) (one-apart heard-one, tt)
 
 -- the theorem at this run: READ returns that timestamp and the item that is left, in one round
-pub read-so : EachTells plan start desk [] (call ∷ []) × AllFull plan (closedOver plan start desk [] (call ∷ []))
+pub read-so : EachTells plan start desk [] (call ∷ []) × AllClose plan (closedOver plan start desk [] (call ∷ []))
 unfolding opened desk recordLength
 read-so = opened-read plan ask opened desk (call ∷ []) opens refl refl (small-octets desk desk-small) calls apart
 

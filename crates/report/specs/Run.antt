@@ -3,7 +3,7 @@
 --   OfPlan received      the calls of a node under one plan; what Figure 1 makes of them
 --   Reads closing closedOver     the calls of a read; the response sets of its closed rounds, the last one first
 --   Tells EachTells      what an answer says, and that Figure 3's READ says it of the rounds closed so far; the same of each call of a run
---   AllFull              each closed set has N-t responses
+--   Gathers Closes AllClose      what DO_READ gathered; so is each closed set, and it has N-t responses
 --   Apart AllApart       (01) no two cross checksums of a response set share a hash; so of each closed set
 --   Writes timing        the calls of a write; the times of its time round and the item
 --   Wrote EachWrites     what an answer says, and that Figure 2's WRITE says it; what is sent in a write round; so of each call of a run
@@ -38,10 +38,10 @@ use Rattle.node.specs.declared.Answer.the-variants.{Refused, Replied}
 use Rattle.node.specs.Node.{writes}
 use Rattle.conduct.specs.History.{Call}
 use Rattle.conduct.specs.Turns.{Turn}
-use Rattle.report.specs.Triple.{Triple, Message, null, In, MAX}
+use Rattle.report.specs.Triple.{Triple, Message, null, In, Same, MAX}
 use Rattle.report.specs.Figure1.{RECEIVE-WRITE-REQUEST}
 use Rattle.report.specs.Figure2.{enough, ts-written, WRITE}
-use Rattle.report.specs.Figure3.{READ-PREVIOUS, returned, repaired, ABORT, reading, READ}
+use Rattle.report.specs.Figure3.{Command, READ-PREVIOUS, DO-READ, returned, repaired, ABORT, reading, READ}
 use Rattle.report.specs.Ours.{family, tripleOf, responses, sending}
 
 -- ---- a node
@@ -121,10 +121,21 @@ EachTells p s d before (c ∷ cs) =
     × (c .took .session .stage ≡ Storing → Repairing p (c .took .session) (c .deskLeft) (closing p s (c .reply) d (length (c .item)) before))
     × EachTells p (c .took .session) (c .deskLeft) (closing p s (c .reply) d (length (c .item)) before) cs
 
--- line 16 of DO_READ: until (|ResponseSet| = N - t)
-abbrev pub AllFull : Plan → List (List Message) → Type 0
-AllFull p [] = Unit {0}
-AllFull p (set ∷ sets) = (length set ≡ enough (family p)) × AllFull p sets
+-- a set is what DO_READ gathered for a command from some messages
+pub record Gathers (p : Plan) (command : Command) (set : List Message) : Type 0 where
+  pub received : List Message
+  pub is : Same set (DO-READ (family p) command received)
+
+-- a closed set: READ was to send a command, DO_READ gathered the set for it, and it has N - t responses (line 16)
+pub record Closes (p : Plan) (set : List Message) (before : List (List Message)) : Type 0 where
+  pub command : Command
+  pub asked : READ (family p) before ≡ reading command
+  pub gathered : Gathers p command set
+  pub full : length set ≡ enough (family p)
+
+abbrev pub AllClose : Plan → List (List Message) → Type 0
+AllClose p [] = Unit {0}
+AllClose p (set ∷ before) = Closes p set before × AllClose p before
 
 -- of these strings, no two with one hash
 abbrev pub Apart : List Message → Type 0

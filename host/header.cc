@@ -50,6 +50,7 @@ static int words() {
 
 int main() {
   MUST(pasis_interface() == PASIS_INTERFACE && pasis_session_size() == PASIS_SESSION_SIZE);
+  MUST(pasis_plan_size() == PASIS_PLAN_SIZE && pasis_ending_size() == PASIS_ENDING_SIZE);
   const pasis_plan values[] = {{5, 1, 1, 3, 2, 4, PASIS_REPAIRABLE, PASIS_CRASH, 16},
                                {7, 1, 1, 3, 4, 300, PASIS_NON_REPAIR, PASIS_BYZANTINE, 1000},
                                {16, 3, 1, 12, 8, 1024, PASIS_REPAIRABLE, PASIS_BYZANTINE, 65535}};

@@ -124,8 +124,10 @@ static inline const char *pasis_strerror(uint32_t answer) {
 #define PASIS_FRAME_SIZE(N, F) (PASIS_RECORD_SIZE(N, F) + 15)          /* at least: request and reply buffers */
 #define PASIS_BOOK_SIZE(N, F, records) (11 + (size_t)(records) * PASIS_RECORD_SIZE(N, F)) /* a book with room for so many records */
 
-/* The archive's own word for PASIS_SESSION_SIZE. */
+/* The archive's own word for the first three. */
+size_t pasis_plan_size(void);
 size_t pasis_session_size(void);
+size_t pasis_ending_size(void);
 
 /* ---- The plan ---------------------------------------------------------------------------------------------------------------------
  * "N 1 to 16; b and t from 0 with b <= t; Q; m; fragment length F 1 to 1,024; member repairable or non-repair; clients crash or

@@ -1,0 +1,319 @@
+/* One input of bytes as a sequence of calls of libpasis.a, each held to what every caller may rely on: the answer is one of the call's
+ * own; a slice that the call may only read keeps its bytes, and at a refusal every slice does; a frame that was written has its length,
+ * and the bytes past it stay; a book changes by a write request alone; item and ending are written at their endings alone; the same call
+ * on the same bytes does the same again. Each slice is lent as memory of exactly its length, with a fence on both sides.
+ *
+ * The first bytes choose a plan, the rest are steps: a call, a change to what will be lent next, or a whole exchange of a client with a
+ * node, so that deep states are near. host/fuzz/replay runs stored inputs; ./fuzz finds new ones. */
+#include <stddef.h>
+#include <stdint.h>
+#include <stdio.h>
+#include <stdlib.h>
+#include <string.h>
+
+uint32_t pasis_fresh_book(const uint8_t *, size_t, uint64_t, uint8_t *, size_t);
+uint32_t pasis_node(const uint8_t *, size_t, const uint8_t *, size_t, uint8_t *, size_t, uint8_t *, size_t);
+uint32_t pasis_open_write(const uint8_t *, size_t, uint64_t, uint8_t *, size_t);
+uint32_t pasis_open_read(const uint8_t *, size_t, uint64_t, uint8_t *, size_t);
+uint32_t pasis_owed(const uint8_t *, size_t, const uint8_t *, size_t, uint64_t, const uint8_t *, size_t, uint8_t *, size_t);
+uint32_t pasis_write_reply(const uint8_t *, size_t, uint8_t *, size_t, const uint8_t *, size_t, uint8_t *, size_t, const uint8_t *, size_t,
+                           uint8_t *, size_t);
+uint32_t pasis_read_reply(const uint8_t *, size_t, uint8_t *, size_t, const uint8_t *, size_t, uint8_t *, size_t, uint8_t *, size_t,
+                          uint8_t *, size_t);
+
+int LLVMFuzzerTestOneInput(const uint8_t *data, size_t size);
+
+/* Under a sanitizer the memory around a slice is watched; elsewhere these bytes are looked at. */
+#if defined(__has_feature)
+#if __has_feature(address_sanitizer)
+#define FENCE 0
+#endif
+#endif
+#ifndef FENCE
+#define FENCE 32
+#endif
+
+/* ---- The calls ---- */
+
+enum { SLICES = 6, NODES = 16, BOOK = 4096 };
+
+typedef uint8_t *const *Lent;
+typedef const size_t *Lengths;
+
+static uint32_t call_fresh(Lent p, Lengths n, uint64_t k) { return pasis_fresh_book(p[0], n[0], k, p[1], n[1]); }
+static uint32_t call_node(Lent p, Lengths n, uint64_t k) {
+  (void)k;
+  return pasis_node(p[0], n[0], p[1], n[1], p[2], n[2], p[3], n[3]);
+}
+static uint32_t call_open_write(Lent p, Lengths n, uint64_t k) { return pasis_open_write(p[0], n[0], k, p[1], n[1]); }
+static uint32_t call_open_read(Lent p, Lengths n, uint64_t k) { return pasis_open_read(p[0], n[0], k, p[1], n[1]); }
+static uint32_t call_owed(Lent p, Lengths n, uint64_t k) { return pasis_owed(p[0], n[0], p[1], n[1], k, p[2], n[2], p[3], n[3]); }
+static uint32_t call_write_reply(Lent p, Lengths n, uint64_t k) {
+  (void)k;
+  return pasis_write_reply(p[0], n[0], p[1], n[1], p[2], n[2], p[3], n[3], p[4], n[4], p[5], n[5]);
+}
+static uint32_t call_read_reply(Lent p, Lengths n, uint64_t k) {
+  (void)k;
+  return pasis_read_reply(p[0], n[0], p[1], n[1], p[2], n[2], p[3], n[3], p[4], n[4], p[5], n[5]);
+}
+
+struct call {
+  const char *name;
+  uint32_t (*make)(Lent, Lengths, uint64_t);
+  unsigned slices, written; /* written: a bit for each slice that the call may write */
+  uint8_t answers[20];      /* other than 0 */
+};
+
+enum { FRESH, NODE, OPEN_WRITE, OPEN_READ, OWED, WRITE_REPLY, READ_REPLY, CALLS };
+
+static const struct call calls[CALLS] = {
+    {"fresh_book", call_fresh, 2, 1 << 1, {1, 2, 4}},
+    {"node", call_node, 4, 1 << 2 | 1 << 3, {1, 2, 3, 4, 5, 6, 7, 8}},
+    {"open_write", call_open_write, 2, 1 << 1, {1, 2, 13}},
+    {"open_read", call_open_read, 2, 1 << 1, {1, 2, 13}},
+    {"owed", call_owed, 4, 1 << 3, {1, 2, 9, 14, 4, 11}},
+    {"write_reply", call_write_reply, 6, 1 << 1 | 1 << 3 | 1 << 5, {1, 2, 9, 14, 4, 10, 11, 101, 105}},
+    {"read_reply", call_read_reply, 6, 1 << 1 | 1 << 3 | 1 << 4 | 1 << 5, {1, 2, 9, 14, 4, 10, 11, 5, 6, 12, 101, 102, 103, 104}},
+};
+
+/* Each call and answer that was met, for a fuzzer to see. */
+#ifdef __linux__
+__attribute__((section("__libfuzzer_extra_counters")))
+#endif
+static uint8_t met[CALLS * 128];
+
+unsigned long fuzz_answers[CALLS][128]; /* the same, counted over all inputs, for replay */
+
+/* ---- What is lent ---- */
+
+struct slice {
+  uint8_t *bytes;
+  size_t len;
+};
+
+static void expect(int holds, const struct call *call, uint32_t answer, const char *what) {
+  if (holds) return;
+  fprintf(stderr, "fuzz: pasis_%s answered %u: %s\n", call->name, (unsigned)answer, what);
+  abort();
+}
+
+static uint8_t *lend(const struct slice *s) {
+  uint8_t *room = malloc(s->len + 2 * FENCE + (FENCE == 0 && s->len == 0));
+  if (!room) abort();
+  memset(room, 0xa5, FENCE);
+  if (s->len) memcpy(room + FENCE, s->bytes, s->len);
+  memset(room + FENCE + s->len, 0xa5, FENCE);
+  return room;
+}
+
+static int fenced(const uint8_t *room, size_t len) {
+  for (size_t i = 0; i < FENCE; i++)
+    if (room[i] != 0xa5 || room[FENCE + len + i] != 0xa5) return 0;
+  return 1;
+}
+
+static size_t number(const uint8_t *at, size_t bytes) {
+  size_t n = 0;
+  for (size_t i = 0; i < bytes; i++) n = n << 8 | at[i];
+  return n;
+}
+
+static int same(const uint8_t *a, const uint8_t *b, size_t from, size_t to) { return from >= to || !memcmp(a + from, b + from, to - from); }
+
+/* The frame that a call wrote into a buffer: its length, and nothing past it. */
+static void frame_written(const struct call *call, const struct slice *plan, const uint8_t *now, const struct slice *before) {
+  size_t record = 40 + 32 * (size_t)plan->bytes[0] + number(plan->bytes + 5, 2);
+  size_t length = number(now, 4) + 4;
+  expect(length >= 15 && length <= record + 15 && length <= before->len, call, 0, "the frame has no frame's length");
+  expect(same(now, before->bytes, length, before->len), call, 0, "a byte past the frame changed");
+}
+
+/* What a call that was not refused may have changed. */
+static void accepted(unsigned which, uint32_t answer, uint8_t *const *now, const struct slice *s) {
+  const struct call *call = &calls[which];
+  if (which == FRESH) expect(same(now[1], s[1].bytes, 11, s[1].len), call, answer, "a byte past a fresh book's first 11 changed");
+  if (which == OWED || which == NODE) frame_written(call, s, now[3], &s[3]);
+  if (which == NODE && memcmp(now[2], s[2].bytes, s[2].len)) {
+    expect(s[1].bytes[5] == 3, call, answer, "a book changed at a request that is no write");
+    expect(number(now[2] + 9, 2) == number(s[2].bytes + 9, 2) + 1, call, answer, "a book changed, and not by one record");
+    expect(same(now[2], s[2].bytes, number(now[2], 4) + 4, s[2].len), call, answer, "a byte past the book's end changed");
+  }
+  if (which == WRITE_REPLY || which == READ_REPLY)
+    expect(answer != 0 || same(now[5], s[5].bytes, 0, s[5].len), call, answer, "the ending was written, and nothing ended");
+  if (which == READ_REPLY)
+    expect(answer == 101 || same(now[4], s[4].bytes, 0, s[4].len), call, answer, "the item was written, and the read is not done");
+}
+
+static uint32_t make(unsigned which, struct slice *s, uint64_t k) {
+  const struct call *call = &calls[which];
+  uint8_t *rooms[2][SLICES], *at[2][SLICES];
+  size_t lengths[SLICES];
+  uint32_t answers[2];
+  for (unsigned turn = 0; turn < 2; turn++) {
+    for (unsigned i = 0; i < call->slices; i++) {
+      rooms[turn][i] = lend(&s[i]);
+      at[turn][i] = rooms[turn][i] + FENCE;
+      lengths[i] = s[i].len;
+    }
+    answers[turn] = call->make(at[turn], lengths, k);
+  }
+  uint32_t answer = answers[0];
+  expect(answer == 0 || (answer < 128 && memchr(call->answers, (int)answer, sizeof call->answers)), call, answer, "no answer of this call");
+  expect(answer == answers[1], call, answer, "another answer to the same bytes");
+  for (unsigned i = 0; i < call->slices; i++) {
+    expect(fenced(rooms[0][i], s[i].len), call, answer, "a byte outside a slice changed");
+    expect(same(at[0][i], at[1][i], 0, s[i].len), call, answer, "other bytes from the same bytes");
+    int stays = (answer >= 1 && answer <= 31) || !(call->written >> i & 1);
+    expect(!stays || same(at[0][i], s[i].bytes, 0, s[i].len), call, answer, "a byte changed that must stay");
+  }
+  if (answer == 0 || answer > 31) accepted(which, answer, at[0], s);
+  for (unsigned i = 0; i < call->slices; i++) {
+    if (s[i].len) memcpy(s[i].bytes, at[0][i], s[i].len);
+    free(rooms[0][i]);
+    free(rooms[1][i]);
+  }
+  met[which * 128 + answer]++;
+  fuzz_answers[which][answer]++;
+  return answer;
+}
+
+/* ---- The steps of an input ---- */
+
+static const uint8_t plans[][11] = {
+    {5, 1, 1, 3, 2, 0, 4, 0, 0, 0, 3},  {7, 1, 1, 3, 4, 0, 3, 1, 0, 0, 2}, {1, 0, 0, 1, 1, 0, 1, 0, 0, 0, 1},
+    {3, 1, 0, 2, 1, 0, 8, 0, 1, 0, 16}, {7, 1, 1, 3, 2, 0, 5, 1, 1, 0, 4}, {16, 3, 2, 6, 3, 0, 2, 0, 1, 255, 255},
+    {5, 1, 1, 3, 2, 0, 4, 0, 1, 0, 1},
+};
+
+static uint8_t plan[16], session[128], frame[2048], reply[2048], books[NODES][BOOK], desk[NODES * 1600], item[NODES * 1024], ending[64];
+
+static struct {
+  const uint8_t *at;
+  size_t left;
+} input;
+
+static size_t take(unsigned bytes) {
+  size_t n = 0;
+  for (; bytes; bytes--) {
+    n = n << 8 | (input.left ? *input.at : 0);
+    if (input.left) input.at++, input.left--;
+  }
+  return n;
+}
+
+static void choose_plan(struct slice *p) {
+  size_t which = take(1);
+  size_t known = sizeof plans / sizeof *plans;
+  if (which < 240) memcpy(plan, plans[which % known], 11);
+  else
+    for (size_t i = 0; i < 11; i++) plan[i] = (uint8_t)take(1);
+  *p = (struct slice){plan, which < 250 ? 11 : take(1) % sizeof plan};
+}
+
+struct lent {
+  struct slice plan, session, frame, reply, book[NODES], desk, item, ending;
+};
+
+/* All memory as at the start of every input: sessions and frames of zeros, an item of small numbers, books not made. */
+static void prepare(struct lent *l) {
+  size_t n = plan[0], f = number(plan + 5, 2), record = 40 + 32 * n + f;
+  memset(session, 0, sizeof session), memset(frame, 0, sizeof frame), memset(reply, 0, sizeof reply);
+  memset(books, 0, sizeof books), memset(desk, 0, sizeof desk), memset(ending, 0, sizeof ending);
+  for (size_t i = 0; i < sizeof item; i++) item[i] = (uint8_t)(i * 7 + 1);
+  int fits = n <= NODES && plan[4] <= NODES && f <= 1024;
+  l->session = (struct slice){session, 117};
+  l->frame = (struct slice){frame, fits ? record + 15 : 15};
+  l->reply = (struct slice){reply, fits ? record + 15 : 15};
+  l->desk = (struct slice){desk, fits ? n * record : 0};
+  l->item = (struct slice){item, fits ? plan[4] * f : 0};
+  l->ending = (struct slice){ending, 42};
+  for (size_t i = 0; i < NODES; i++) l->book[i] = (struct slice){books[i], BOOK};
+}
+
+/* The buffer that a step changes, and its whole room. */
+static struct slice *chosen(struct lent *l, size_t which, size_t *room) {
+  static const size_t rooms[] = {sizeof plan, sizeof session, sizeof frame, sizeof reply, sizeof desk, sizeof item, sizeof ending};
+  struct slice *all[] = {&l->plan, &l->session, &l->frame, &l->reply, &l->desk, &l->item, &l->ending};
+  *room = which % 8 == 7 ? BOOK : rooms[which % 8];
+  return which % 8 == 7 ? &l->book[which / 8 % NODES] : all[which % 8];
+}
+
+static void cut(struct slice *frame_, size_t room) {
+  size_t length = number(frame_->bytes, 4) + 4;
+  frame_->len = length < room ? length : room;
+}
+
+static uint32_t to_node(struct lent *l, size_t node) {
+  size_t record = 40 + 32 * (size_t)plan[0] + number(plan + 5, 2), whole = record + 15 < sizeof reply ? record + 15 : sizeof reply;
+  l->reply.len = whole;
+  struct slice s[] = {l->plan, l->frame, l->book[node % NODES], l->reply};
+  uint32_t answer = make(NODE, s, 0);
+  if (answer == 0) cut(&l->reply, whole);
+  return answer;
+}
+
+static uint32_t to_client(struct lent *l, unsigned which) {
+  struct slice s[] = {l->plan, l->session, l->reply, l->desk, l->item, l->ending};
+  return make(which, s, 0);
+}
+
+static uint32_t owed(struct lent *l, size_t node) {
+  size_t record = 40 + 32 * (size_t)plan[0] + number(plan + 5, 2), whole = record + 15 < sizeof frame ? record + 15 : sizeof frame;
+  l->frame.len = whole;
+  struct slice s[] = {l->plan, l->session, l->desk, l->frame};
+  uint32_t answer = make(OWED, s, node);
+  if (answer == 0) cut(&l->frame, whole);
+  return answer;
+}
+
+/* A client's request to a node, served, and its reply taken. */
+static void exchange(struct lent *l, size_t node) {
+  if (owed(l, node) == 0 && to_node(l, node) == 0) to_client(l, session[0] ? READ_REPLY : WRITE_REPLY);
+}
+
+static void change(struct lent *l, int length) {
+  size_t room;
+  struct slice *s = chosen(l, take(1), &room);
+  size_t at = take(2);
+  if (length) s->len = at % (room + 1);
+  else if (s->len) s->bytes[at % s->len] ^= (uint8_t)take(1);
+}
+
+static void step(struct lent *l) {
+  size_t what = take(1), k = what / 12;
+  struct slice opening[] = {l->plan, l->session};
+  switch (what % 12) {
+    case 0: {
+      struct slice s[] = {l->plan, l->book[k % NODES]};
+      make(FRESH, s, take(1));
+      break;
+    }
+    case 1: to_node(l, k); break;
+    case 2: make(OPEN_WRITE, opening, k < 20 ? k : ~(uint64_t)take(1)); break;
+    case 3: make(OPEN_READ, opening, k < 20 ? k : ~(uint64_t)take(1)); break;
+    case 4: owed(l, k); break;
+    case 5: to_client(l, WRITE_REPLY); break;
+    case 6: to_client(l, READ_REPLY); break;
+    case 7: change(l, 0); break;
+    case 8: change(l, 1); break;
+    case 9:
+      for (size_t i = 0; i < NODES; i++) {
+        struct slice s[] = {l->plan, l->book[i]};
+        make(FRESH, s, i);
+      }
+      break;
+    case 10: exchange(l, k); break;
+    default:
+      for (size_t i = k % 4; i < plan[0] && i < NODES; i++) exchange(l, i);
+  }
+}
+
+int LLVMFuzzerTestOneInput(const uint8_t *data, size_t size) {
+  struct lent lent;
+  input.at = data;
+  input.left = size;
+  choose_plan(&lent.plan);
+  prepare(&lent);
+  for (int steps = 0; input.left && steps < 200; steps++) step(&lent);
+  return 0;
+}

@@ -30,7 +30,8 @@ use Rattle.session.specs.Opening.{OpenCall}
 use Rattle.conduct.specs.Turns.{Turn}
 use Rattle.report.specs.Figure1.{RECEIVE-TIME-REQUEST, RECEIVE-READ-LATEST, RECEIVE-READ-PREVIOUS}
 use Rattle.report.specs.Ours.{history, timeIn}
-use Rattle.report.specs.Run.{Reads, AllApart, closedOver, EachTells, Writes, untimed, EachWrites}
+use Rattle.report.specs.Run.{Reads, AllApart, closedOver, EachTells}
+use Rattle.report.specs.WriteRun.{Writes, untimed, EachWrites}
 use Rattle.report.proofs.Plans.{Ranges, Table2-of, accepted-is, accepted-back}
 use Rattle.report.proofs.Node.{Sends, Executes, time-acts, latest-acts, previous-acts, write-acts}
 use Rattle.report.proofs.Run.{opened-read}

@@ -52,7 +52,8 @@ use Rattle.report.specs.Triple.{Message, Same}
 use Rattle.report.specs.Figure1.{INITIALIZE}
 use Rattle.report.specs.Ours.{history, bearing, responseOf, responses}
 use Rattle.conduct.specs.Turns as turns
-use Rattle.report.specs.Run.{received, Reads, closing, closedOver, EachTells, AllClose, Apart, AllApart, Writes, untimed, EachWrites}
+use Rattle.report.specs.Run.{received, Reads, closing, closedOver, EachTells, AllClose, Apart, AllApart}
+use Rattle.report.specs.WriteRun.{Writes, untimed, EachWrites}
 use Rattle.report.proofs.Node.{Executes, write-acts, Added, fresh-run}
 use Rattle.report.proofs.Run.{opened-read}
 use Rattle.report.proofs.Write.{opened-write}

@@ -1,12 +1,10 @@
--- Whole runs of ours: calls one after another, each on the book, or the session and the desk, that the one before it handed back; and what the
--- figures are given from them.
+-- Whole runs of a node and of a read: calls one after another, each on the book, or the session and the desk, that the one before it handed
+-- back; and what the figures are given from them. Writes are in WriteRun.
 --   OfPlan received      the calls of a node under one plan; what Figure 1 makes of them
 --   Reads closing closedOver     the calls of a read; the response sets of its closed rounds, the last one first
 --   Tells EachTells      what an answer says, and that Figure 3's READ says it of the rounds closed so far; the same of each call of a run
 --   Gathers Closes AllClose      what DO_READ gathered; so is each closed set, and it has N-t responses
 --   Apart AllApart       (01) no two cross checksums of a response set share a hash; so of each closed set
---   Writes timing        the calls of a write; the times of its time round and the item
---   Wrote EachWrites     what an answer says, and that Figure 2's WRITE says it; what is sent in a write round; so of each call of a run
 -- Assumes nothing.
 use Prim.{Unit}
 use Prim.Native.Nat.{ℕ, _*_}
@@ -19,7 +17,7 @@ use lib.Dec.{ltb}
 use Rattle.octets.specs.Bytes.{put, Octets}
 use Rattle.sha256.specs.Sha256.{sha256}
 use Rattle.terms.specs.Ladder.{first, _and_}
-use Rattle.terms.specs.Stamp.{time, stampNumber}
+use Rattle.terms.specs.Stamp.{stampNumber}
 use Rattle.terms.specs.Terms.{recordLength}
 use Rattle.terms.specs.declared.Plan.{Plan}
 use Rattle.frame.specs.Frame.{frameNode, bodyOf}
@@ -28,19 +26,18 @@ use Rattle.rounds.specs.Rounds.{heardCount}
 use Rattle.session.specs.declared.Session.{Session}
 use Rattle.session.specs.declared.Took.{Took}
 use Rattle.session.specs.declared.Stage.the-variants.{Storing}
-use Rattle.session.specs.declared.Operation.the-variants.{Write, Read}
+use Rattle.session.specs.declared.Operation.the-variants.{Read}
 use Rattle.session.specs.Session.{isStoring, replies, markedOf, Said, refused, stillOpen, done, neverWritten, aborted, roundsSpent, clockSpent, saidOf}
 use Rattle.session.specs.Reply.{bears, replyLadder, recordLadder}
 use Rattle.session.specs.Reader.{ReadReplyCall}
-use Rattle.session.specs.Writer.{WriteReplyCall}
 use Rattle.node.specs.declared.Answer.{Answer}
 use Rattle.node.specs.declared.Answer.the-variants.{Refused, Replied}
 use Rattle.node.specs.Node.{writes}
 use Rattle.conduct.specs.History.{Call}
 use Rattle.conduct.specs.Turns.{Turn}
-use Rattle.report.specs.Triple.{Triple, Message, null, In, Same, MAX}
+use Rattle.report.specs.Triple.{Triple, Message, null, In, Same}
 use Rattle.report.specs.Figure1.{RECEIVE-WRITE-REQUEST}
-use Rattle.report.specs.Figure2.{enough, ts-written, WRITE}
+use Rattle.report.specs.Figure2.{enough}
 use Rattle.report.specs.Figure3.{Command, READ-PREVIOUS, DO-READ, returned, repaired, ABORT, reading, READ}
 use Rattle.report.specs.Ours.{family, tripleOf, responses, sending}
 
@@ -144,46 +141,3 @@ Apart set = (x y : Message) → In x set → In y set → sha256 (x .Response .C
 abbrev pub AllApart : List (List Message) → Type 0
 AllApart [] = Unit {0}
 AllApart (set ∷ sets) = Apart set × AllApart sets
-
--- ---- writing
-abbrev pub Writes : Plan → Session → List ℕ → List Turn → Type 0
-Writes p s d [] = Unit {0}
-Writes p s d (c ∷ cs) =
-    Octets (c .reply) × WriteReplyCall p s (c .reply) d (c .item) (c .took) (c .deskLeft) × Writes p (c .took .session) (c .deskLeft) cs
-
--- the times of the time replies that were accepted, the last one first, and the item that was lent with it
-pub record Timed : Type 0 where
-  pub Times : List ℕ
-  pub Data : List ℕ
-
-abbrev pub untimed : Timed
-untimed = record { Times = []; Data = null }
-
-unfoldable pub timing : Plan → Session → List ℕ → List ℕ → List ℕ → Timed → Timed
-timing p s f d item before =
-    first (replyLadder Write p s f d (length item)) (λ (k : ℕ). before)
-    (cond (isStoring (s .stage)) before (record { Times = time (bodyOf f) ∷ before .Times; Data = item }))
-
--- done: WRITE's timestamp, and DO_WRITE has its N-t responses; clock spent (01): a greatest time of 2^64-1, whose next has no 8 bytes; a write
--- has no other ending
-abbrev pub Wrote : Plan → Session → Said → Timed → Type 0
-Wrote p s (refused k) w = Unit {0}
-Wrote p s stillOpen w = Unit {0}
-Wrote p s (done ts rounds) w = (ts ≡ ts-written (family p) (w .Data) (w .Times)) × (heardCount (s .marks) ≡ enough (family p))
-Wrote p s (neverWritten rounds) w = ⊥
-Wrote p s (aborted rounds) w = ⊥
-Wrote p s (roundsSpent rounds) w = ⊥
-Wrote p s clockSpent w = MAX (w .Times) ≡ 18446744073709551615
-
--- in a write round: the time round had N-t replies, and the desk holds what DO_WRITE sends
-pub record Sending (p : Plan) (s : Session) (d : List ℕ) (w : Timed) : Type 0 where
-  pub times : length (w .Times) ≡ enough (family p)
-  pub stamp : stampNumber (s .stamp) ≡ ts-written (family p) (w .Data) (w .Times)
-  pub sends : sending p d ≡ WRITE (family p) (w .Data) (w .Times)
-
-abbrev pub EachWrites : Plan → Session → List ℕ → Timed → List Turn → Type 0
-EachWrites p s d before [] = Unit {0}
-EachWrites p s d before (c ∷ cs) =
-    Wrote p (c .took .session) (saidOf (c .took .answer)) (timing p s (c .reply) d (c .item) before)
-    × (c .took .session .stage ≡ Storing → Sending p (c .took .session) (c .deskLeft) (timing p s (c .reply) d (c .item) before))
-    × EachWrites p (c .took .session) (c .deskLeft) (timing p s (c .reply) d (c .item) before) cs

@@ -1,10 +1,10 @@
--- `cases::used` ends, and reads within the book. Assumes nothing.
+-- `cases::lines::used` ends, and reads within the book. Assumes nothing.
 use Prim.Native.Nat.{_≤_}
 use native.Mathlib.Omega.{arith}
 use lib.ListN.{length}
 use borrow.Author.Needs.{needs}
-use Rattle.cases.proofs.used.Statement.{statement}
-use Rattle.cases.proofs.used.Tie as tie
+use Rattle.cases.proofs.lines.used.Statement.{statement}
+use Rattle.cases.proofs.lines.used.Tie as tie
 
 abbrev Inv-loop : tie.InvT-loop
 Inv-loop book k₀ k = k ≤ length book

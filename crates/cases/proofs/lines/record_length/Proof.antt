@@ -1,9 +1,9 @@
--- `cases::record_length` meets its contract. Assumes nothing.
+-- `cases::lines::record_length` meets its contract. Assumes nothing.
 use mathlib.Core.Path.{sym, _∙_}
 use borrow.Author.Tests.{not-false}
 use borrow.Author.Needs.{needs}
-use Rattle.cases.proofs.record_length.Statement.{statement}
-use Rattle.cases.proofs.record_length.Tie as tie
+use Rattle.cases.proofs.lines.record_length.Statement.{statement}
+use Rattle.cases.proofs.lines.record_length.Tie as tie
 
 plan-ok-requires : tie.Need-plan-ok-requires
 plan-ok-requires c κs = search needs

@@ -1,4 +1,4 @@
--- `cases::desk_fits` meets its contract. Assumes nothing.
+-- `cases::walk::desk_fits` meets its contract. Assumes nothing.
 use mathlib.Core.Path.{sym, ap, _∙_}
 use Prim.Native.Nat.{ℕ, _*_, _≤_}
 use native.Mathlib.Nat.{mul-le-mul-right}
@@ -7,8 +7,8 @@ use borrow.Author.Tests.{not-false, eqb-true}
 use Rattle.terms.proofs.Rungs.{clash}
 use Rattle.terms.proofs.Plans.{plan-is}
 use borrow.Author.Needs.{needs}
-use Rattle.cases.proofs.desk_fits.Statement.{statement}
-use Rattle.cases.proofs.desk_fits.Tie as tie
+use Rattle.cases.proofs.walk.desk_fits.Statement.{statement}
+use Rattle.cases.proofs.walk.desk_fits.Tie as tie
 
 desk-small : (n r : ℕ) → n ≤ 16 → r ≤ 1576 → n * r ≤ 25216
 desk-small n r h k = let l = mul-le-mul-right r h in omega arith

@@ -1,10 +1,10 @@
--- `cases::fill` meets what the records' functions require. Assumes nothing.
+-- `cases::walk::records` meets what the records' functions require. Assumes nothing.
 use native.Mathlib.Omega.{arith}
 use borrow.Author.Tests.{not-false}
 use Rattle.terms.proofs.Plans.{plan-is}
 use borrow.Author.Needs.{needs}
-use Rattle.cases.proofs.fill.Statement.{statement}
-use Rattle.cases.proofs.fill.Tie as tie
+use Rattle.cases.proofs.walk.records.Statement.{statement}
+use Rattle.cases.proofs.walk.records.Tie as tie
 
 desk-fits-requires : tie.Need-desk-fits-requires
 desk-fits-requires c κs = search needs
@@ -33,8 +33,8 @@ same-length-2 c = search needs
 returns-3 : tie.Need-returns-3
 returns-3 c = search needs
 
-pub fill-spec : {M : Type 1} → statement M
-fill-spec =
+pub records-spec : {M : Type 1} → statement M
+records-spec =
     tie.close
     (tie.spec
     desk-fits-requires

@@ -1,0 +1,167 @@
+-- Laws of what one request comes to, over the contract of the node's call.
+--   by-verdict        a call is refused and leaves all as it came, or meets none of its refusals and answers
+--   fits              a reply lies within its buffer
+--   refused-stays     a refused call leaves the book
+--   look-stays        a request that is no write leaves the book
+--   told              the comparison with a copy of the book tells whether the book changed
+--   looked refuses sends stores-it   the contracts of `look` and `step`
+--   short kind-told   the test for a write
+--   counted counted-next   the length of a reply counts bytes of its buffer
+-- Assumes nothing.
+use mathlib.Core.Path.{_≡_, refl, sym, ap, _∙_, subst}
+use mathlib.Core.Bool.{Bool, true, false, not}
+use mathlib.Core.List.{List, [], _∷_, _++_}
+use Prim.Native.Nat.{ℕ, _+_, _≤_, _<_}
+use native.Mathlib.Omega.{arith}
+use borrow.Author.Tests.{not-false, le-leb, lt-leb}
+use lib.ListN.{length, length-append, drop}
+use lib.Dec.{eqb}
+use Rattle.octets.specs.Bytes.{part, put, over, alike}
+use Rattle.octets.proofs.Laws.{length-part, part-all, part-put-same}
+use Rattle.octets.proofs.Meaning.{is-alike}
+use Rattle.terms.specs.Ladder.{first}
+use Rattle.terms.specs.Terms.{refusalNumber}
+use Rattle.terms.specs.declared.Plan.{Plan}
+use Rattle.terms.specs.declared.Refusal.{Refusal}
+use Rattle.terms.proofs.Rungs as rungs
+use Rattle.frame.specs.Frame.{kindOf, frameNode, askOf, bodyOf, frame}
+use Rattle.frame.proofs.Frames.{request-is}
+use Rattle.frame.proofs.Built.{length-frame}
+use Rattle.book.specs.Book.{nodeOf, recordsOf}
+use Rattle.node.specs.declared.Answer.{Answer}
+use Rattle.node.specs.declared.Answer.the-variants.{Refused, Replied}
+use Rattle.node.specs.Node.{NodeCall, Said, said, refused, replied, Outcome, outcome, Reply, replyTo, replies, bookAfter, answered, served, nodeLadder}
+use Rattle.io.specs.Counts.{Counts}
+use Rattle.io.proofs.Counting.{counts}
+use Rattle.keeper.specs.declared.step.Next.{Next}
+use Rattle.keeper.specs.declared.step.Next.the-variants as next
+use Rattle.keeper.specs.Step.{asksToWrite, answerOf, lengthOf, Looked, Stepped}
+
+module _ (p : Plan) (f b y : List ℕ) where
+  by-verdict : (P : Outcome → Type 0) → ((k : ℕ) → P (outcome (refused k) b y)) → (rungs.None (nodeLadder p f b y) → P (answered p f b y)) → P (served p f b y)
+  unfolding served
+  by-verdict P r a =
+      subst P (sym (rungs.first-read (nodeLadder p f b y) (λ (k : ℕ). outcome (refused k) b y) (answered p f b y)))
+      (go (first (nodeLadder p f b y) rungs.refused rungs.passes) refl)
+    where
+      go : (v : rungs.Verdict) → first (nodeLadder p f b y) rungs.refused rungs.passes ≡ v → P (rungs.read v (λ (k : ℕ). outcome (refused k) b y) (answered p f b y))
+      go (rungs.refused k) e = r k
+      go rungs.passes e = a (rungs.passes-is (nodeLadder p f b y) e)
+
+no-reply : (k j : ℕ) → replied k ≡ refused j → ⊥
+no-reply k j e = let z : _≡_ {A = ℕ} 0 1 = cc in omega arith
+
+over-long : (new old : List ℕ) → length new ≤ length (over new old)
+unfolding over
+over-long new old = let e = length-append new (drop (length new) old) in omega (arith, e)
+
+-- the reply r, written over y
+reply-fits : (f : List ℕ) (r : Reply) (b y b₂ y₂ : List ℕ) (k : ℕ) → outcome (replied k) b₂ y₂ ≡ replies f r b y → k ≤ length y₂
+unfolding replies
+reply-fits f r b y b₂ y₂ k h =
+    let s : replied k ≡ replied (15 + length (r .body)) = ap (λ (o : Outcome). o .answer) h in
+    let e : k ≡ 15 + length (r .body) = cc in
+    let new = frame (r .kind) (frameNode f) (askOf f) (r .body) in
+    let t : y₂ ≡ over new y = ap (λ (o : Outcome). o .reply) h in
+    let l : length new ≡ 15 + length (r .body) = length-frame (r .kind) (frameNode f) (askOf f) (r .body) in
+    subst (λ (z : List ℕ). k ≤ length z) (sym t) (omega (arith, over-long new y, l, e))
+
+reply-is : (f : List ℕ) (r : Reply) (b y b₂ y₂ : List ℕ) (k : ℕ) → outcome (refused k) b₂ y₂ ≡ replies f r b y → ⊥
+unfolding replies
+reply-is f r b y b₂ y₂ k h = no-reply (15 + length (r .body)) k (sym (ap (λ (o : Outcome). o .answer) h))
+
+reply-book : (f : List ℕ) (r : Reply) (s : Said) (b y b₂ y₂ : List ℕ) → outcome s b₂ y₂ ≡ replies f r b y → b₂ ≡ b
+unfolding replies
+reply-book f r s b y b₂ y₂ h = ap (λ (o : Outcome). o .book) h
+
+fits : (p : Plan) (f b y : List ℕ) (k : ℕ) (b₂ y₂ : List ℕ) → NodeCall p f b y (Replied k) b₂ y₂ → k ≤ length y₂
+unfolding answered
+fits p f b y k b₂ y₂ c =
+    by-verdict p f b y (λ (o : Outcome). outcome (replied k) b₂ y₂ ≡ o → k ≤ length y₂)
+    (λ j h. absurd (no-reply k j (ap (λ (o : Outcome). o .answer) h)))
+    (λ n h. reply-fits f (replyTo (kindOf f) (bodyOf f) (recordsOf p b)) (bookAfter p f b) y b₂ y₂ k h)
+    (c .is)
+
+refused-stays : (p : Plan) (f b y : List ℕ) (r : Refusal) (b₂ y₂ : List ℕ) → NodeCall p f b y (Refused r) b₂ y₂ → b₂ ≡ b
+unfolding answered
+refused-stays p f b y r b₂ y₂ c =
+    by-verdict p f b y (λ (o : Outcome). outcome (refused (refusalNumber r)) b₂ y₂ ≡ o → b₂ ≡ b)
+    (λ j h. ap (λ (o : Outcome). o .book) h)
+    (λ n h. absurd (reply-is f (replyTo (kindOf f) (bodyOf f) (recordsOf p b)) (bookAfter p f b) y b₂ y₂ (refusalNumber r) h))
+    (c .is)
+
+-- ---- no write
+long-enough : (f : List ℕ) → 15 ≤ length f → asksToWrite f ≡ eqb (kindOf f) 3
+unfolding asksToWrite
+long-enough f h = rw (le-leb 15 (length f) h)
+
+book-stays : (p : Plan) (f b : List ℕ) → eqb (kindOf f) 3 ≡ false → bookAfter p f b ≡ b
+unfolding bookAfter
+book-stays p f b e = rw e
+
+look-stays : (p : Plan) (f b y : List ℕ) (a : Answer) (b₂ y₂ : List ℕ) → asksToWrite f ≡ false → NodeCall p f b y a b₂ y₂ → b₂ ≡ b
+unfolding answered
+look-stays p f b y a b₂ y₂ w c =
+    by-verdict p f b y (λ (o : Outcome). outcome (said a) b₂ y₂ ≡ o → b₂ ≡ b)
+    (λ j h. ap (λ (o : Outcome). o .book) h)
+    (λ n h.
+    let q = request-is p (nodeOf b) f (not-false _ (n .1 .1 .1 .0)) in
+    let e : eqb (kindOf f) 3 ≡ false = sym (long-enough f (q .frame-is .low)) ∙ w in
+    reply-book f (replyTo (kindOf f) (bodyOf f) (recordsOf p b)) (said a) (bookAfter p f b) y b₂ y₂ h ∙ book-stays p f b e)
+    (c .is)
+
+-- ---- the comparison
+pub told : (b b₂ d d₂ : List ℕ) (n : ℕ) (t : Bool) → d₂ ≡ put d 0 (part b 0 n) → t ≡ alike (part b₂ 0 n) (part d₂ 0 n)
+    → length b ≡ n → length b₂ ≡ n → n ≤ length d → t ≡ alike b₂ b
+told b b₂ d d₂ n t g e l m h =
+    let x : part d₂ 0 n ≡ b =
+    ap (λ (q : List ℕ). part q 0 n) g ∙ part-put-same d 0 (part b 0 n) n (length-part b 0 n (omega arith)) (omega arith)
+    ∙ ap (part b 0) (sym l) ∙ part-all b in
+    let z : part b₂ 0 n ≡ b₂ = ap (part b₂ 0) (sym m) ∙ part-all b₂ in
+    e ∙ ap (λ (q : List ℕ). alike q (part d₂ 0 n)) z ∙ ap (alike b₂) x
+
+-- ---- the contracts
+fits-any : (p : Plan) (f b y : List ℕ) (a : Answer) (b₂ y₂ : List ℕ) → asksToWrite f ≡ false → NodeCall p f b y a b₂ y₂ → Looked p f b y a b₂ y₂
+fits-any p f b y (Refused r) b₂ y₂ w c = record { call = c; stays = look-stays p f b y (Refused r) b₂ y₂ w c; fits = omega arith }
+fits-any p f b y (Replied k) b₂ y₂ w c = record { call = c; stays = look-stays p f b y (Replied k) b₂ y₂ w c; fits = fits p f b y k b₂ y₂ c }
+
+pub looked : {p : Plan} {f b y : List ℕ} {a : Answer} {b₂ y₂ : List ℕ} → asksToWrite f ≡ false → NodeCall p f b y a b₂ y₂ → Looked p f b y a b₂ y₂
+looked {p} {f} {b} {y} {a} {b₂} {y₂} w c = fits-any p f b y a b₂ y₂ w c
+
+pub refuses : (p : Plan) (f b y : List ℕ) (r : Refusal) (b₂ y₂ : List ℕ) → NodeCall p f b y (Refused r) b₂ y₂ → Stepped p f b y (next.Refused r) b₂ y₂
+refuses p f b y r b₂ y₂ c =
+    record { call = c; changed = sym (ap not (is-alike b₂ b (refused-stays p f b y r b₂ y₂ c))); fits = omega arith }
+
+pub sends : (p : Plan) (f b y : List ℕ) (k : ℕ) (b₂ y₂ : List ℕ) → NodeCall p f b y (Replied k) b₂ y₂ → true ≡ alike b₂ b → Stepped p f b y (next.Send k) b₂ y₂
+sends p f b y k b₂ y₂ c e = record { call = c; changed = ap not e; fits = fits p f b y k b₂ y₂ c }
+
+pub stores-it : (p : Plan) (f b y : List ℕ) (k : ℕ) (b₂ y₂ : List ℕ) → NodeCall p f b y (Replied k) b₂ y₂ → false ≡ alike b₂ b → Stepped p f b y (next.Store k) b₂ y₂
+stores-it p f b y k b₂ y₂ c e = record { call = c; changed = ap not e; fits = fits p f b y k b₂ y₂ c }
+
+-- an answer by its case, as a match tells it
+pub refuses-as : (p : Plan) (f b y : List ℕ) (a : Answer) (r : Refusal) (b₂ y₂ : List ℕ) → a ≡ Refused r → NodeCall p f b y a b₂ y₂ → Stepped p f b y (next.Refused r) b₂ y₂
+refuses-as p f b y a r b₂ y₂ e c = refuses p f b y r b₂ y₂ (subst (λ (x : Answer). NodeCall p f b y x b₂ y₂) e c)
+
+pub sends-as : (p : Plan) (f b y : List ℕ) (a : Answer) (k : ℕ) (b₂ y₂ : List ℕ) → a ≡ Replied k → NodeCall p f b y a b₂ y₂ → true ≡ alike b₂ b → Stepped p f b y (next.Send k) b₂ y₂
+sends-as p f b y a k b₂ y₂ e c = sends p f b y k b₂ y₂ (subst (λ (x : Answer). NodeCall p f b y x b₂ y₂) e c)
+
+pub stores-as : (p : Plan) (f b y : List ℕ) (a : Answer) (k : ℕ) (b₂ y₂ : List ℕ) → a ≡ Replied k → NodeCall p f b y a b₂ y₂ → false ≡ alike b₂ b → Stepped p f b y (next.Store k) b₂ y₂
+stores-as p f b y a k b₂ y₂ e c = stores-it p f b y k b₂ y₂ (subst (λ (x : Answer). NodeCall p f b y x b₂ y₂) e c)
+
+-- ---- the test for a write
+pub short : (f : List ℕ) → length f < 15 → false ≡ asksToWrite f
+unfolding asksToWrite
+short f h = rw (lt-leb 15 (length f) h)
+
+pub kind-told : (f : List ℕ) (r : ℕ) → 15 ≤ length f → r ≡ kindOf f → eqb r 3 ≡ asksToWrite f
+kind-told f r h e = ap (λ (x : ℕ). eqb x 3) e ∙ sym (long-enough f h)
+
+-- ---- the length of a reply
+pub counted : (a : Answer) (k : ℕ) (y : List ℕ) → a ≡ Replied k → lengthOf a ≤ length y → Counts k y
+counted a k y e h = counts k y (subst (λ (x : Answer). lengthOf x ≤ length y) e h)
+
+pub counted-send : (x : Next) (k : ℕ) (y : List ℕ) → x ≡ next.Send k → lengthOf (answerOf x) ≤ length y → Counts k y
+counted-send x k y e h = counts k y (subst (λ (z : Next). lengthOf (answerOf z) ≤ length y) e h)
+
+pub counted-store : (x : Next) (k : ℕ) (y : List ℕ) → x ≡ next.Store k → lengthOf (answerOf x) ≤ length y → Counts k y
+counted-store x k y e h = counts k y (subst (λ (z : Next). lengthOf (answerOf z) ≤ length y) e h)

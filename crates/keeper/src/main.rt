@@ -1,0 +1,482 @@
+// keeper PLAN BOOK: one storage-node over files and pipes. Request frames come on standard input, reply frames go to standard output,
+// one line for each fault to standard error. Document 01, "The node"; docs/KEEPER.md says how to run it.
+//
+//     keeper PLAN BOOK                  answers frames until the input ends
+//     keeper PLAN BOOK new NODE BYTES   makes a fresh book for node NODE, of BYTES bytes
+//
+// The book is read from its file for each request and kept nowhere else, so that several keepers may serve one book: each reads an old
+// or a new book whole, and only the one that has made the file BOOK.new may change it (crate files).
+mod step;
+
+use files::say;
+use libc::STDIN_FILENO;
+use libc::STDOUT_FILENO;
+use node::Answer;
+use node::Made;
+use step::Next;
+use terms::Plan;
+use terms::Refusal;
+use text::Numeral;
+use text::Reading;
+ghost use Prim.Native.Nat.{ℕ};
+ghost use Rattle.io.specs.Counts.{Counts};
+ghost use mathlib.Core.Path.{_≡_};
+ghost use mathlib.Core.Bool.{true, false};
+ghost use Rattle.keeper.specs.Step.{asksToWrite};
+
+// The longest request of any plan: R+15 at N 16 and F 1,024. A reply is no longer.
+const LONGEST: usize = 1591;
+
+// ---- frames
+
+// How the next frame came.
+enum How {
+    Whole,
+    Ended,
+    CutOff,
+    TooLong,
+}
+
+struct Came {
+    how: How,
+    length: usize,
+}
+
+fn no_frame(how: How) -> Came
+    ensures { λ r. ⌜ r .length ≡ 0 ⌝ }
+{
+    Came {
+        how: how,
+        length: 0,
+    }
+}
+
+// The rest of a frame whose length field is `rest`, after the 4 bytes of that field.
+fn read_rest(head: &[u8; 4], rest: usize, frame: &mut [u8]) -> Came
+    ensures { λ r. ⌜ Counts (r .length) (now (frame .exit)) ⌝ }
+{
+    if frame.len() < 4 {
+        return no_frame(How::TooLong);
+    }
+    if frame.len() - 4 < rest {
+        return no_frame(How::TooLong);
+    }
+    octets::copy(head, 0, 4, frame, 0);
+    let end = 4 + rest;
+    let n = io::read_full(STDIN_FILENO, &mut frame[4..end]);
+    if n < rest {
+        return no_frame(How::CutOff);
+    }
+    Came {
+        how: How::Whole,
+        length: end,
+    }
+}
+
+// The next frame of standard input.
+fn read_frame(frame: &mut [u8]) -> Came
+    ensures { λ r. ⌜ Counts (r .length) (now (frame .exit)) ⌝ }
+{
+    let mut head = [0u8; 4];
+    let n = io::read_full(STDIN_FILENO, &mut head);
+    if n == 0 {
+        return no_frame(How::Ended);
+    }
+    if n < 4 {
+        return no_frame(How::CutOff);
+    }
+    let rest = octets::get(&head, 0, 4) as usize;
+    read_rest(&head, rest, frame)
+}
+
+// The reply, once the book is safe. False where it cannot be written.
+fn send(reply: &[u8], n: usize) -> bool
+    requires { ⌜ Counts n (now reply) ⌝ }
+{
+    if !io::write_all(STDOUT_FILENO, &reply[..n]) {
+        say::failed(b"standard output");
+        return false;
+    }
+    true
+}
+
+// ---- one request
+
+// A request that cannot change a book, and its reply.
+fn answer_from(p: Plan, request: &[u8], book: &mut [u8], reply: &mut [u8]) -> bool
+    requires { ⌜ asksToWrite (now request) ≡ false ⌝ }
+{
+    let a = step::look(p, request, book, reply);
+    match a {
+        Answer::Refused(r) => refuse(r),
+        Answer::Replied(k) => send(reply, k),
+    }
+}
+
+// A request that cannot change the book: BOOK.new is not asked for, and nothing is written to the disk.
+fn answer_look(p: Plan, path: &[u8], request: &[u8], area: &mut [u8], reply: &mut [u8]) -> bool
+    requires { ⌜ asksToWrite (now request) ≡ false ⌝ }
+{
+    let got = files::load(path, area);
+    if !got.is {
+        return false;
+    }
+    let n = got.length;
+    answer_from(p, request, &mut area[..n], reply)
+}
+
+// A refusal: a line, and no frame. A fault of the plan or the book ends the program, one of the request does not.
+fn refuse(r: Refusal) -> bool {
+    say::refused(r);
+    say::number(r) > 3
+}
+
+// A write request against the book as it is on the disk, while BOOK.new is held. The book that is stored is the one that the node left, and
+// the reply follows it. `before` is as long as any book.
+fn settle(
+    p: Plan,
+    path: &[u8],
+    spare: &[u8],
+    fd: i32,
+    request: &[u8],
+    book: &mut [u8],
+    before: &mut [u8],
+    reply: &mut [u8],
+) -> bool {
+    if before.len() < book.len() {
+        files::let_go(fd, spare);
+        return false;
+    }
+    let next = step::step(p, request, book, before, reply);
+    match next {
+        Next::Refused(r) => {
+            files::let_go(fd, spare);
+            refuse(r)
+        }
+        Next::Send(k) => {
+            files::let_go(fd, spare);
+            send(reply, k)
+        }
+        Next::Store(k) => {
+            if !files::store(fd, spare, path, book) {
+                return false;
+            }
+            send(reply, k)
+        }
+    }
+}
+
+// A write request, once BOOK.new is held.
+fn answer_held(
+    p: Plan,
+    path: &[u8],
+    spare: &[u8],
+    fd: i32,
+    request: &[u8],
+    area: &mut [u8],
+    before: &mut [u8],
+    reply: &mut [u8],
+) -> bool {
+    let got = files::load(path, area);
+    if !got.is {
+        files::let_go(fd, spare);
+        return false;
+    }
+    let n = got.length;
+    settle(p, path, spare, fd, request, &mut area[..n], before, reply)
+}
+
+// A request, and whether to go on.
+fn answer(
+    p: Plan,
+    path: &[u8],
+    spare: &[u8],
+    request: &[u8],
+    area: &mut [u8],
+    before: &mut [u8],
+    reply: &mut [u8],
+) -> bool {
+    if !step::asks_to_write(request) {
+        return answer_look(p, path, request, area, reply);
+    }
+    let fd = files::hold(spare);
+    if fd < 0 {
+        return false;
+    }
+    answer_held(p, path, spare, fd, request, area, before, reply)
+}
+
+// The next request, if there is one, and whether to go on.
+fn turn(
+    p: Plan,
+    path: &[u8],
+    spare: &[u8],
+    frame: &mut [u8],
+    area: &mut [u8],
+    before: &mut [u8],
+    reply: &mut [u8],
+) -> bool {
+    let c = read_frame(frame);
+    let n = c.length;
+    let how = c.how;
+    match how {
+        How::Whole => answer(p, path, spare, &frame[..n], area, before, reply),
+        How::Ended => false,
+        How::CutOff => {
+            say::line(b"the input ends within a frame, which is dropped");
+            false
+        }
+        How::TooLong => {
+            say::line(
+                b"refused 4: a frame longer than any request; the rest of the input is not read",
+            );
+            false
+        }
+    }
+}
+
+// A proved loop has to end, and nothing says that an input does: the turns are counted down from a number that no run uses up.
+fn turns(
+    p: Plan,
+    path: &[u8],
+    spare: &[u8],
+    frame: &mut [u8],
+    area: &mut [u8],
+    before: &mut [u8],
+    reply: &mut [u8],
+) {
+    let mut left = u64::MAX;
+    while left > 0 && turn(p, path, spare, frame, area, before, reply) {
+        left -= 1;
+    }
+}
+
+// ---- the two ways to run
+
+// Whether a book is one of this plan; else a line says why.
+fn good(p: Plan, book: &[u8]) -> bool {
+    if !terms::plan_ok(p) {
+        say::refused(Refusal::OutsidePlan);
+        return false;
+    }
+    if book.len() < 11 {
+        say::refused(Refusal::WrongLength);
+        return false;
+    }
+    let is = book::good(p, book);
+    if !is {
+        say::refused(Refusal::WrongBook);
+    }
+    is
+}
+
+// Whether the book can be had, and is one; else a line says why.
+fn book_ok(p: Plan, path: &[u8], area: &mut [u8]) -> bool {
+    let got = files::load(path, area);
+    if !got.is {
+        return false;
+    }
+    let n = got.length;
+    good(p, &area[..n])
+}
+
+// The requests of the input, where the book is good.
+fn serve_in(
+    p: Plan,
+    path: &[u8],
+    spare: &[u8],
+    frame: &mut [u8],
+    area: &mut [u8],
+    before: &mut [u8],
+    reply: &mut [u8],
+) {
+    if book_ok(p, path, area) {
+        turns(p, path, spare, frame, area, before, reply);
+    }
+}
+
+fn serve(p: Plan, path: &[u8], spare: &[u8]) {
+    let mut frame = [0u8; LONGEST];
+    let mut area = io::large_buffer();
+    let mut before = io::large_buffer();
+    let mut reply = [0u8; LONGEST];
+    serve_in(
+        p,
+        path,
+        spare,
+        &mut frame,
+        &mut area,
+        &mut before,
+        &mut reply,
+    );
+}
+
+// A fresh book on the disk, where there is none yet.
+fn lay_down(path: &[u8], spare: &[u8], book: &[u8]) {
+    let fd = files::hold(spare);
+    if fd < 0 {
+        return;
+    }
+    if files::exists(path) {
+        files::let_go(fd, spare);
+        say::about(path, b"is there already, and stays as it is");
+        return;
+    }
+    if files::store(fd, spare, path, book) {
+        io::write_all(STDOUT_FILENO, b"made\n");
+    }
+}
+
+// A fresh book, and its file.
+fn fill(p: Plan, path: &[u8], spare: &[u8], node: u64, book: &mut [u8]) {
+    let made = node::fresh(p, node, book);
+    match made {
+        Made::Refused(r) => say::refused(r),
+        Made::Fresh => lay_down(path, spare, book),
+    }
+}
+
+// The first bytes of an area of zeros are the book.
+fn fill_in(p: Plan, path: &[u8], spare: &[u8], node: u64, bytes: u64, area: &mut [u8]) {
+    if bytes > area.len() as u64 {
+        say::refused(Refusal::WrongLength);
+        return;
+    }
+    let n = bytes as usize;
+    fill(p, path, spare, node, &mut area[0..n]);
+}
+
+fn make(p: Plan, path: &[u8], spare: &[u8], node: u64, bytes: u64) {
+    let mut area = io::large_buffer();
+    fill_in(p, path, spare, node, bytes, &mut area);
+}
+
+// ---- arguments
+
+fn usage() {
+    say::line(b"usage: keeper PLAN BOOK, or keeper PLAN BOOK new NODE BYTES");
+}
+
+// Argument i as a number.
+fn number_arg(i: usize) -> Numeral {
+    let mut text = io::buffer();
+    let n = os::arg(i, &mut text);
+    text::number_in(&text[..n], 0, n)
+}
+
+// Whether argument 3 is the word new.
+fn is_new() -> bool {
+    let mut text = [0u8; 3];
+    let n = os::arg(3, &mut text);
+    if n != 3 {
+        return false;
+    }
+    octets::same(&text, 0, b"new", 0, 3)
+}
+
+// The numbers of `new NODE BYTES`, and the fresh book.
+fn run_new(p: Plan, path: &[u8], spare: &[u8]) {
+    if !is_new() {
+        usage();
+        return;
+    }
+    let a = number_arg(4);
+    let b = number_arg(5);
+    let Numeral::Is(node) = a else {
+        usage();
+        return;
+    };
+    let Numeral::Is(bytes) = b else {
+        usage();
+        return;
+    };
+    make(p, path, spare, node, bytes);
+}
+
+// The name of value k, as a plan's text has it.
+fn say_form(k: usize) {
+    match k {
+        0 => say::text(b"N and a number"),
+        1 => say::text(b"t and a number"),
+        2 => say::text(b"b and a number"),
+        3 => say::text(b"Q and a number"),
+        4 => say::text(b"m and a number"),
+        5 => say::text(b"F and a number"),
+        6 => say::text(b"member, and repairable or non-repair"),
+        7 => say::text(b"clients, and crash or byzantine"),
+        8 => say::text(b"W and a number"),
+        _ => say::text(b"nothing more"),
+    }
+}
+
+fn say_wrong(path: &[u8], line: u64, k: usize) {
+    say::text(path);
+    say::text(b", line ");
+    say::decimal(line);
+    say::text(b": here belongs ");
+    say_form(k);
+    say::text(b"\n");
+}
+
+// The nine values of the file PLAN. Where they cannot be had, a line says why.
+fn read_plan(path: &[u8], values: &mut [u64; 9]) -> bool {
+    let mut area = io::buffer();
+    let got = files::load(path, &mut area);
+    if !got.is {
+        return false;
+    }
+    let n = got.length;
+    let how = text::read_plan(&area[..n], values);
+    match how {
+        Reading::All => true,
+        Reading::Wrong(line, k) => {
+            say_wrong(path, line, k);
+            false
+        }
+    }
+}
+
+fn run(plan_path: &[u8], path: &[u8], spare: &[u8], count: usize) {
+    let mut values = [0u64; 9];
+    if !read_plan(plan_path, &mut values) {
+        return;
+    }
+    let p = text::plan_of(&values);
+    if count == 3 {
+        serve(p, path, spare);
+    } else {
+        run_new(p, path, spare);
+    }
+}
+
+// The name BOOK.new beside BOOK.
+fn run_beside(plan_path: &[u8], path: &[u8], count: usize) {
+    let mut name = io::buffer();
+    let n = files::beside(path, &mut name);
+    if n == 0 {
+        say::about(path, b"the name is too long");
+        return;
+    }
+    run(plan_path, path, &name[..n], count);
+}
+
+fn main() {
+    let count = os::arg_count();
+    if count != 3 && count != 6 {
+        usage();
+        return;
+    }
+    let mut plan_path = io::buffer();
+    let n = os::arg(1, &mut plan_path);
+    if os::errno() != 0 {
+        say::failed(b"PLAN");
+        return;
+    }
+    let mut path = io::buffer();
+    let k = os::arg(2, &mut path);
+    if os::errno() != 0 {
+        say::failed(b"BOOK");
+        return;
+    }
+    run_beside(&plan_path[..n], &path[..k], count);
+}

@@ -1,0 +1,53 @@
+// What one request comes to: the node's call, and whether the book is to be stored before the reply goes out.
+ghost use mathlib.Core.Path.{_≡_};
+ghost use mathlib.Core.Bool.{true, false};
+ghost use Prim.Native.Nat.{ℕ, _≤_};
+ghost use lib.ListN.{length};
+ghost use Rattle.keeper.specs.Step.{asksToWrite, Looked, Stepped};
+use node::Answer;
+use terms::Plan;
+use terms::Refusal;
+
+// Refused; a reply of this length over a book that is as it was; or one over a book that has changed.
+pub enum Next {
+    Refused(Refusal),
+    Send(usize),
+    Store(usize),
+}
+
+// Whether a request may change a book: a frame of kind 3.
+pub fn asks_to_write(request: &[u8]) -> bool
+    ensures { λ r. ⌜ r ≡ asksToWrite (now (request .entry)) ⌝ }
+{
+    if request.len() < 15 {
+        return false;
+    }
+    frame::kind_of(request) == 3
+}
+
+// A request that may not change the book, and does not.
+pub fn look(p: Plan, request: &[u8], book: &mut [u8], reply: &mut [u8]) -> Answer
+    requires { ⌜ asksToWrite (now request) ≡ false ⌝ }
+    ensures { λ a. ⌜ Looked p (now (request .entry)) (now (book .entry)) (now (reply .entry)) a (now (book .exit)) (now (reply .exit)) ⌝ }
+{
+    node::serve(p, request, book, reply)
+}
+
+// Any request. `before` is lent to hold the book as it came.
+pub fn step(p: Plan, request: &[u8], book: &mut [u8], before: &mut [u8], reply: &mut [u8]) -> Next
+    requires { ⌜ length (now book) ≤ length (now before) ⌝ }
+    ensures { λ x. ⌜ Stepped p (now (request .entry)) (now (book .entry)) (now (reply .entry)) x (now (book .exit)) (now (reply .exit)) ⌝ }
+{
+    let n = book.len();
+    octets::copy(book, 0, n, before, 0);
+    let a = node::serve(p, request, book, reply);
+    match a {
+        Answer::Refused(r) => Next::Refused(r),
+        Answer::Replied(k) => {
+            if octets::same(book, 0, before, 0, n) {
+                return Next::Send(k);
+            }
+            Next::Store(k)
+        }
+    }
+}

@@ -27,9 +27,11 @@ use Rattle.session.specs.declared.opening.Opened.{Opened}
 use Rattle.session.specs.declared.opening.Opening.the-variants.{Accepted}
 use Rattle.session.specs.declared.Operation.the-variants.{Write, Read}
 use Rattle.session.specs.Opening.{OpenCall}
+use Rattle.conduct.specs.Turns.{Turn}
 use Rattle.report.specs.Figure1.{RECEIVE-TIME-REQUEST, RECEIVE-READ-LATEST, RECEIVE-READ-PREVIOUS}
 use Rattle.report.specs.Ours.{history, timeIn}
-use Rattle.report.specs.Run.{Answered, Reads, AllApart, closedOver, EachTells, Writes, untimed, EachWrites}
+use Rattle.report.specs.Run.{Reads, AllApart, closedOver, EachTells}
+use Rattle.report.specs.WriteRun.{Writes, untimed, EachWrites}
 use Rattle.report.proofs.Plans.{Ranges, Table2-of, accepted-is, accepted-back}
 use Rattle.report.proofs.Node.{Sends, Executes, time-acts, latest-acts, previous-acts, write-acts}
 use Rattle.report.proofs.Run.{opened-read}
@@ -61,13 +63,13 @@ node-as-the-report p f b y of ob n b₂ y₂ c =
 
 -- Over any replies from an accepted opening on: the write round sends what Figure 2's WRITE sends for the times heard and the item, and
 -- "done" bears its timestamp.
-pub write-as-the-report : (p : Plan) (a : Ask) (r : Opened) (d : List ℕ) (cs : List Answered) → OpenCall Write p a r → r .answer ≡ Accepted
+pub write-as-the-report : (p : Plan) (a : Ask) (r : Opened) (d : List ℕ) (cs : List Turn) → OpenCall Write p a r → r .answer ≡ Accepted
     → Writes p (r .session) d cs → EachWrites p (r .session) d untimed cs
 write-as-the-report = opened-write
 
 -- Over any replies from an accepted opening on: each answer is what Figure 3's READ says of the response sets of the rounds closed so far,
 -- where no two cross checksums of one response set share a hash.
-pub read-as-the-report : (p : Plan) (a : Ask) (r : Opened) (d : List ℕ) (cs : List Answered) → OpenCall Read p a r → r .answer ≡ Accepted
+pub read-as-the-report : (p : Plan) (a : Ask) (r : Opened) (d : List ℕ) (cs : List Turn) → OpenCall Read p a r → r .answer ≡ Accepted
     → length d ≡ p .n * recordLength p → Octets d → Reads p (r .session) d cs → AllApart (closedOver p (r .session) d [] cs)
     → EachTells p (r .session) d [] cs
 read-as-the-report p a r d cs call e l o h k = opened-read p a r d cs call e l o h k .0

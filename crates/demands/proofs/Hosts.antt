@@ -1,34 +1,12 @@
 -- Two outcomes that one contract of the interface allows are equal: the number answered and every byte of every lent slice, session bytes
--- too, at every input (fresh-unique, node-unique, open-unique, owed-unique, write-unique, read-unique). Then what a host relies on: a
--- refused reply leaves every byte (read-refused-stays, write-refused-stays), and bytes that code no session are refused 9 in 9's place
--- (read-codes-none, write-codes-none, owed-codes-none). Assumes nothing.
-use Prim.{tt}
-use Prim.Native.Nat.{ℕ, suc, _+_, _*_, _≤_, _<_}
-use mathlib.Core.Path.{_≡_, refl, sym, ap, _∙_}
-use mathlib.Core.Bool.{Bool, true, false, cond, not}
-use mathlib.Core.List.{List, [], _∷_}
-use native.Mathlib.Omega.{arith}
-use lib.ListN.{length}
-use lib.Dec.{eqb}
-use Rattle.terms.specs.Ladder.{Rung, on, first, _and_}
-use Rattle.terms.specs.Terms.{planOk, recordLength}
+-- too, at every input. fresh-unique node-unique open-unique owed-unique write-unique read-unique. Assumes nothing.
+use Prim.Native.Nat.{ℕ}
+use mathlib.Core.Path.{_≡_, sym, ap, _∙_}
+use mathlib.Core.List.{List}
 use Rattle.session.specs.declared.Operation.{Operation}
-use Rattle.session.specs.declared.Operation.the-variants.{Write, Read}
-use Rattle.session.specs.declared.Session.{Session}
-use Rattle.session.specs.Session.{Said, refused, stillOpen, done, neverWritten, aborted, roundsSpent, clockSpent}
-use Rattle.session.specs.Ranges.{inRange}
-use Rattle.session.specs.Reply.{lengthsOk, sameOperation, replyLadder}
-use Rattle.session.specs.Owed as owed
-use Rattle.session.specs.Owed.{roomOk, owedTo, dues}
-use Rattle.session.specs.Reader.{outcome, readReply}
-use Rattle.session.specs.Writer.{leaves, writeReply}
-use Rattle.packing.specs.PlanBytes.{planOf}
-use Rattle.packing.specs.SessionBytes.{sessionShaped, sessionOf}
-use Rattle.packing.proofs.Inverse.{no-session}
 use Rattle.pasis.specs.Store.{FreshBook, NodeServes}
-use Rattle.pasis.specs.Client.{sessionFits, bothFit, lentLadder, sessionAfter, endingAfter, Opened, opened, openBytes, OpenServes, Asked, asked, askedAs, owedBytes, OwedServes, Took, took, tookAs, withItem, readBytes, writeBytes, WriteServes, ReadServes}
+use Rattle.pasis.specs.Client.{Opened, OpenServes, Asked, OwedServes, Took, WriteServes, ReadServes}
 
--- ---- uniqueness
 pub fresh-unique : (x : List ℕ) (n : ℕ) (b : List ℕ) (r r′ : ℕ) (b₂ b₂′ : List ℕ) → FreshBook x n b r b₂ → FreshBook x n b r′ b₂′
     → (r ≡ r′) × (b₂ ≡ b₂′)
 fresh-unique x n b r r′ b₂ b₂′ c c′ = (c .number ∙ sym (c′ .number), c .book ∙ sym (c′ .book))

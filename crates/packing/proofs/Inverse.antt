@@ -7,14 +7,14 @@ use mathlib.Core.Path.{_≡_, refl, sym, ap, _∙_}
 use mathlib.Core.Bool.{Bool, true, false, cond}
 use mathlib.Core.List.{List, [], _∷_, _++_, append-assoc, append-nil}
 use native.Mathlib.Omega.{arith}
-use borrow.Author.Tests.{le-leb, leb-true, eq-eqb, eqb-true, eqb-false}
+use borrow.Author.Tests.{le-leb, leb-true, eq-eqb, eqb-true}
 use lib.ListN.{length, take, drop, length-append}
 use lib.Seq.{take-at, take-all, drop-at, drop-drop}
 use lib.Dec.{leb, eqb, lit<}
 use Rattle.octets.specs.Bytes.{part, num, be, Octets}
-use Rattle.octets.proofs.Laws.{length-be, part-middle, part-all}
+use Rattle.octets.proofs.Laws.{length-be, part-all}
 use Rattle.octets.proofs.Meaning.{num-be, be-part, part-add}
-use Rattle.terms.specs.Ladder.{all, _and_, _or_}
+use Rattle.terms.specs.Ladder.{all}
 use Rattle.terms.specs.Terms.{planOk}
 use Rattle.terms.specs.Stamp.{stampNumber, stampAt}
 use Rattle.terms.specs.declared.Plan.{Plan}
@@ -39,18 +39,18 @@ use Rattle.session.specs.declared.Session.{Session}
 use Rattle.session.specs.Opening.{noSession}
 use Rattle.session.specs.Ranges.{inRange}
 use Rattle.session.proofs.Openings.{none-in-range}
-use Rattle.session.proofs.Rules.{holds, last}
 use Rattle.packing.specs.PlanBytes.{field, memberByte, clientsByte, memberOf, clientsOf, planBytes, planShaped, planAt, planOf}
 use Rattle.packing.specs.SessionBytes.{operationByte, stageByte, markByte, boundBytes, markBytes, sessionBytes, operationOf, stageOf, heardOf, boundShaped, boundOf, marksShaped, marksOf, sessionShaped, sessionAt, sessionOf}
-use Rattle.packing.proofs.Laws.{length-marks, length-bound, length-session, plan-length, session-length}
+use Rattle.packing.proofs.Laws.{length-marks, length-session, plan-length, session-length}
 
 -- ---- fields that follow one another
 -- a number that was laid out is read back, and what follows it
 cut : (x : List ℕ) (at n to v : ℕ) (z : List ℕ) → at + n ≡ to → drop at x ≡ be n v ++ z → v < 256 ^ n → (field x at n ≡ v) × (drop to x ≡ z)
 unfolding part
-cut x at n to v z k e h =
-    (ap (λ (l : List ℕ). num (take n l)) e ∙ ap num (take-at (be n v) z n (length-be n v)) ∙ num-be n v h,
-    ap (λ (m : ℕ). drop m x) (sym k) ∙ sym (drop-drop n at x) ∙ ap (drop n) e ∙ drop-at (be n v) z n (length-be n v))
+cut x at n to v z k e h = (
+  ap (λ (l : List ℕ). num (take n l)) e ∙ ap num (take-at (be n v) z n (length-be n v)) ∙ num-be n v h,
+  ap (λ (m : ℕ). drop m x) (sym k) ∙ sym (drop-drop n at x) ∙ ap (drop n) e ∙ drop-at (be n v) z n (length-be n v),
+)
 
 -- the number that was read, laid out
 field-again : (x : List ℕ) (at n k : ℕ) → at + n ≤ length x → Octets x → k ≡ field x at n → be n k ≡ part x at n

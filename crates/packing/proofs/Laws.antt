@@ -1,5 +1,5 @@
 -- Laws of a plan and a session as bytes, for the functions that read and write them. Assumes nothing.
-use Prim.Native.Nat.{ℕ, zero, suc, _+_, _≤_, _<_}
+use Prim.Native.Nat.{ℕ, suc, _+_, _≤_, _<_}
 use mathlib.Core.Path.{_≡_, refl, sym, ap, _∙_}
 use mathlib.Core.Bool.{Bool, true, false, cond}
 use mathlib.Core.List.{List, [], _∷_, _++_, append-assoc, append-nil}
@@ -9,8 +9,8 @@ use native.Mathlib.Omega.{arith}
 use borrow.Author.Tests.{le-leb, lt-leb, eq-eqb, ne-eqb, eqb-true}
 use lib.ListN.{length, getD, take, drop, set, drop-of-length-le, length-append}
 use lib.Seq.{drop-cons, take-suc, take-all, take-suc-set, length-take-le}
-use lib.Dec.{leb, eqb}
-use Rattle.octets.specs.Bytes.{part, put, num, be, over}
+use lib.Dec.{eqb}
+use Rattle.octets.specs.Bytes.{put, be, over}
 use Rattle.octets.proofs.Laws.{length-be, put-snoc, put-nil, put-then}
 use Rattle.octets.proofs.Meaning.{over-start, over-more}
 use Rattle.terms.specs.Ladder.{all}

@@ -9,7 +9,7 @@
 --   sessionOf                          any bytes as a session: those that code none give one in no range, so that every call refuses it 9
 -- Assumes nothing.
 use Prim.Native.Nat.{ℕ}
-use mathlib.Core.Bool.{Bool, true, false, cond}
+use mathlib.Core.Bool.{Bool, true, cond}
 use mathlib.Core.List.{List, [], _∷_, _++_}
 use lib.ListN.{length}
 use lib.Dec.{leb, eqb}

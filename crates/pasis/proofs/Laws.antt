@@ -1,7 +1,7 @@
 -- From the calls on a plan and a session to the calls on bytes, for the functions of the interface. Assumes nothing.
 use Prim.Native.Nat.{ℕ, zero, suc, _≤_}
 use mathlib.Core.Path.{_≡_, refl, sym, ap, _∙_, subst}
-use mathlib.Core.Bool.{Bool, true, false, cond}
+use mathlib.Core.Bool.{Bool, true, cond}
 use mathlib.Core.List.{List}
 use native.Mathlib.Omega.{arith}
 use borrow.Author.Tests.{eqb-true, ne-eqb, not-false}
@@ -32,7 +32,7 @@ use Rattle.session.specs.declared.opening.Opening.the-variants.{Refused, Accept
 use Rattle.session.specs.declared.owed.Owed.{Owed}
 use Rattle.session.specs.Session.{saidOf}
 use Rattle.session.specs.Opening.{Opens, openingNumber, openWith, OpenCall}
-use Rattle.session.specs.Owed.{Dues, dueOf, owedTo, OwedCall}
+use Rattle.session.specs.Owed.{dueOf, owedTo, OwedCall}
 use Rattle.session.specs.Writer.{Leaves, writeReply, WriteReplyCall}
 use Rattle.session.specs.Reader.{Outcome, readReply, ReadReplyCall}
 use Rattle.session.proofs.Checks.{none-applies, goes-on, stops, refusal-low}

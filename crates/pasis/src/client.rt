@@ -12,7 +12,6 @@ use terms::Plan;
 use terms::Timestamp;
 ghost use mathlib.Core.Path.{_≡_};
 ghost use mathlib.Core.Bool.{cond};
-ghost use Prim.Native.Nat.{ℕ};
 ghost use lib.Dec.{eqb};
 ghost use lib.ListN.{length};
 ghost use Rattle.terms.specs.Ladder.{first};
@@ -22,7 +21,7 @@ ghost use Rattle.session.specs.Session.{saidOf};
 ghost use Rattle.session.specs.Opening.{openingNumber, OpenCall};
 ghost use Rattle.session.specs.Owed.{dueOf};
 ghost use Rattle.packing.specs.SessionBytes.{sessionBytes};
-ghost use Rattle.pasis.specs.Client.{sessionFits, bothFit, lentLadder, dueNumber, answerNumber, isRefused, sessionAfter, endingBytes, endingAfter, OpenServes, OwedServes, WriteServes, ReadServes};
+ghost use Rattle.pasis.specs.Client.{bothFit, lentLadder, dueNumber, answerNumber, isRefused, sessionAfter, endingBytes, endingAfter, OpenServes, OwedServes, WriteServes, ReadServes};
 
 // 1 and 2 of what every client's call is lent: 0 where neither applies.
 fn lent(p: Plan, fits: bool) -> u32
@@ -114,7 +113,13 @@ fn due_number(o: Owed) -> u32
 
 // The request frame owed to a node, into the request buffer.
 #[no_mangle]
-pub extern "C" fn pasis_owed(plan: &[u8], session: &[u8], node: u64, desk: &[u8], request: &mut [u8]) -> u32
+pub extern "C" fn pasis_owed(
+    plan: &[u8],
+    session: &[u8],
+    node: u64,
+    desk: &[u8],
+    request: &mut [u8],
+) -> u32
     ensures { λ r. ⌜ OwedServes
         (now (plan .entry))
         (now (session .entry))

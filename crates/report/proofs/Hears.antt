@@ -1,7 +1,7 @@
 -- One turn of DO_READ's loop. Its tests are the client's: VALIDATE is the hash checks of refusal 6 (valid-record), the bound's test that of
 -- refusal 12 (in-time-is), and S is in the set exactly where refusal 11 finds the node heard (heard-has, unheard-has). What fails one of them
 -- is left out (heard-hears, hash-hears, late-hears); what passes all is put in (puts), and a node that is marked then is in the set
--- (record-after, first-after). Assumes nothing.
+-- (record-after, first-after). DO_READ goes by the set, and not by its list (receives-same, gathers-more). Assumes nothing.
 use Prim.Native.Nat.{ℕ, zero, suc, _+_, _*_, _≤_, _<_}
 use mathlib.Core.Path.{_≡_, refl, sym, ap, _∙_, subst}
 use mathlib.Core.Bool.{Bool, true, false, cond}
@@ -9,7 +9,7 @@ use mathlib.Core.List.{List, [], _∷_, _++_}
 use mathlib.Core.Logic.{_⊎_, inl, inr}
 use native.Mathlib.Decide.{ℕ-discrete}
 use native.Mathlib.Omega.{arith}
-use borrow.Author.Tests.{lt-ltb, leb-true, eq-eqb, ne-eqb}
+use borrow.Author.Tests.{lt-ltb, leb-true, eq-eqb, ne-eqb, eqb-true}
 use lib.Dec.{ltb, leb, eqb}
 use lib.ListN.{length, set}
 use Rattle.octets.specs.Bytes.{put, alike, Octets}
@@ -28,9 +28,10 @@ use Rattle.rounds.specs.Rounds.{bitOf, markOf, underOf}
 use Rattle.session.specs.Ranges.{boundOk}
 use Rattle.report.specs.Triple.{Message, In, Same}
 use Rattle.report.specs.Figure1.{initial}
-use Rattle.report.specs.Figure3.{Command, VALIDATE, in-time, has, with-it, receives}
+use Rattle.report.specs.Figure3.{Command, VALIDATE, in-time, has, with-it, receives, DO-READ}
 use Rattle.report.specs.Ours.{family, tripleOf, responseOf, responses, commandOf}
-use Rattle.report.proofs.Lists.{in-append, in-split}
+use Rattle.report.specs.Run.{Gathers}
+use Rattle.report.proofs.Lists.{in-append, in-split, same-more, same-trans}
 use Rattle.report.proofs.Triples.{stamp-low, validate-is}
 use Rattle.report.proofs.Marks.{mark-set, mark-other, slot-own, slot-other}
 
@@ -237,3 +238,67 @@ module _ (p : Plan) (ms : List Mark) (d : List ℕ) (i : ℕ) (hi : i < p .n) (i
       ∙ ap (λ (x : List ℕ). said-by p i x ∷ []) (slot-own d rec (recordLength p) (p .n) i ld lr hi))
       (λ k hk q. ap (responseOf p (put d (i * recordLength p) rec) k) (mark-other ms i k (record { is = Record }) q)
       ∙ response-slot p d (put d (i * recordLength p) rec) k (markOf ms k) (slot-other d rec (recordLength p) (p .n) i ld lr hi k q))
+
+-- ---- DO_READ goes by the set, and not by its list
+record Heard-by (S : ℕ) (A : List Message) : Type 0 where
+  x : Message
+  there : In x A
+  same : x .S ≡ S
+
+has-in : (S : ℕ) (A : List Message) → has S A ≡ true → Heard-by S A
+unfolding has
+has-in S [] e = absurd (clash (sym e))
+has-in S (x ∷ A) e = go (eqb (x .S) S) refl e (has-in S A)
+  where
+    go : (t : Bool) → eqb (x .S) S ≡ t → cond t true (has S A) ≡ true → (has S A ≡ true → Heard-by S A) → Heard-by S (x ∷ A)
+    go true q k ih = record { x = x; there = inl refl; same = eqb-true (x .S) S q }
+    go false q k ih = let u = ih k in record { x = u .x; there = inr (u .there); same = u .same }
+
+in-has : (y : Message) (A : List Message) → In y A → has (y .S) A ≡ true
+unfolding has
+in-has y [] h = absurd h
+in-has y (x ∷ A) (inl e) = rw (eq-eqb (x .S) (y .S) (ap (λ (z : Message). z .S) (sym e)))
+in-has y (x ∷ A) (inr h) = go (eqb (x .S) (y .S)) (in-has y A h)
+  where
+    go : (t : Bool) → has (y .S) A ≡ true → cond t true (has (y .S) A) ≡ true
+    go true k = refl
+    go false k = k
+
+has-same : (S : ℕ) (A B : List Message) → Same A B → has S A ≡ has S B
+has-same S A B f = go (has S A) (has S B) refl refl
+  where
+    over : (C D : List Message) → ((y : Message) → In y C → In y D) → has S C ≡ true → has S D ≡ true
+    over C D g e = let u = has-in S C e in subst (λ (k : ℕ). has k D ≡ true) (u .same) (in-has (u .x) D (g (u .x) (u .there)))
+
+    go : (s t : Bool) → has S A ≡ s → has S B ≡ t → s ≡ t
+    go true true a b = refl
+    go true false a b = absurd (clash (sym (over A B (λ y. f y .0) a) ∙ b))
+    go false true a b = absurd (clash (sym (over B A (λ y. f y .1) b) ∙ a))
+    go false false a b = refl
+
+pub receives-same : (p : Plan) (command : Command) (x : Message) (A B : List Message) → Same A B → Same (receives (family p) command A x) (receives (family p) command B x)
+unfolding receives
+receives-same p command x A B f =
+    subst (λ (t : Bool). Same (cond (VALIDATE (family p) x) (cond (in-time command (x .Response .ts)) (cond (has (x .S) A) A (with-it x A)) A) A)
+    (cond (VALIDATE (family p) x) (cond (in-time command (x .Response .ts)) (cond t B (with-it x B)) B) B)) (has-same (x .S) A B f)
+    (go (VALIDATE (family p) x) (in-time command (x .Response .ts)) (has (x .S) A))
+  where
+    go : (a b c : Bool) → Same (cond a (cond b (cond c A (with-it x A)) A) A) (cond a (cond b (cond c B (with-it x B)) B) B)
+    go true true true = f
+    go true true false = same-more x A B f
+    go true false c = f
+    go false b c = f
+
+-- one message more
+pub gathers-more : (p : Plan) (command : Command) (x : Message) (A B : List Message) → Gathers p command A → Same B (receives (family p) command A x) → Gathers p command B
+unfolding DO-READ
+gathers-more p command x A B g s =
+    record {
+      received = x ∷ g .received;
+      is = same-trans B (receives (family p) command A x) (receives (family p) command (DO-READ (family p) command (g .received)) x) s
+          (receives-same p command x A (DO-READ (family p) command (g .received)) (g .is));
+    }
+
+pub gathers-none : (p : Plan) (command : Command) (A : List Message) → A ≡ [] → Gathers p command A
+unfolding DO-READ
+gathers-none p command A e = record { received = []; is = λ y. ((λ h. subst (In y) e h), (λ h. subst (In y) (sym e) h)) }

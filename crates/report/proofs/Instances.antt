@@ -51,7 +51,9 @@ use Rattle.conduct.proofs.Node as theorems
 use Rattle.report.specs.Triple.{Message, Same}
 use Rattle.report.specs.Figure1.{INITIALIZE}
 use Rattle.report.specs.Ours.{history, bearing, responseOf, responses}
-use Rattle.report.specs.Run.{received, Answered, Reads, closing, closedOver, EachTells, AllFull, Apart, AllApart, Writes, untimed, EachWrites}
+use Rattle.conduct.specs.Turns as turns
+use Rattle.report.specs.Run.{received, Reads, closing, closedOver, EachTells, AllClose, Apart, AllApart}
+use Rattle.report.specs.WriteRun.{Writes, untimed, EachWrites}
 use Rattle.report.proofs.Node.{Executes, write-acts, Added, fresh-run}
 use Rattle.report.proofs.Run.{opened-read}
 use Rattle.report.proofs.Write.{opened-write}
@@ -112,8 +114,8 @@ said-is : left .said ≡ done (stampNumber (stampAt rec 0)) 1
 unfolding left reply desk rec readReply first planOk tableOk columnOf all recordLength lengthsOk inRange standingRules openRules every heardCount slotsFit slotFits goodReply goodFrame shaped forParty oneOf bodyFits awaited askNow kindAwaited isHeard bears accepted heard settled closeWith leadOf stepOf aheadOf slotStamp joinsOf setOf actFor actOn sound validates decided classOf among regenerated fragmentHash row crossMade hashesOk underOf num numFrom part put be beOnto alike timeZero stampAt stampNumber then sha256 after compressOf addedOf roundsOf roundOf T1 T2 scheduleOf words padding bigEndian K
 said-is = refl
 
-pub call : Answered
-call = record { frame = reply; item = 0 ∷ []; took = record { answer = Done (stampAt rec 0) 1; session = left .session }; desk = left .desk; left = left .item }
+pub call : turns.Turn
+call = record { reply = reply; item = 0 ∷ []; took = record { answer = Done (stampAt rec 0) 1; session = left .session }; deskLeft = left .desk; itemLeft = left .item }
 
 met : ReadReplyCall plan start reply desk (0 ∷ []) (record { answer = Done (stampAt rec 0) 1; session = left .session }) (left .desk) (left .item)
 unfolding left
@@ -141,7 +143,7 @@ unfolding call
 apart = subst AllApart (sym closed-one) (one-apart heard-one, tt)
 
 -- the theorem at this run: READ returns that timestamp and the item that is left, in one round
-pub read-so : EachTells plan start desk [] (call ∷ []) × AllFull plan (closedOver plan start desk [] (call ∷ []))
+pub read-so : EachTells plan start desk [] (call ∷ []) × AllClose plan (closedOver plan start desk [] (call ∷ []))
 unfolding opened desk recordLength
 read-so = opened-read plan ask opened desk (call ∷ []) opens refl refl (small-octets desk desk-small) calls apart
 
@@ -167,9 +169,9 @@ still-is : after-time .said ≡ stillOpen
 unfolding after-time time-reply desk writeReply acceptedWrite timeTurn timeEnd first planOk tableOk columnOf all recordLength lengthsOk inRange standingRules openRules every heardCount slotsFit slotFits goodReply goodFrame shaped forParty oneOf bodyFits awaited askNow kindAwaited isHeard num numFrom part be beOnto
 still-is = refl
 
-pub write-call : Answered
+pub write-call : turns.Turn
 write-call =
-    record { frame = time-reply; item = 7 ∷ []; took = record { answer = Open; session = after-time .session }; desk = after-time .desk; left = 7 ∷ [] }
+    record { reply = time-reply; item = 7 ∷ []; took = record { answer = Open; session = after-time .session }; deskLeft = after-time .desk; itemLeft = 7 ∷ [] }
 
 write-met : WriteReplyCall plan start-to-write time-reply desk (7 ∷ []) (record { answer = Open; session = after-time .session }) (after-time .desk)
 unfolding after-time

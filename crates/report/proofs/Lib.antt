@@ -12,3 +12,4 @@ pub mod Hears
 pub mod Run
 pub mod Write
 pub mod Instances
+pub mod Examples

@@ -10,7 +10,7 @@ use lib.Dec.{ltb, leb}
 use lib.ListN.{length, take, length-append}
 use lib.Seq.{take-append-le, take-all}
 use Rattle.record.specs.Desk.{row}
-use Rattle.report.specs.Triple.{those, each, In, larger, MAX, listed, strung}
+use Rattle.report.specs.Triple.{those, each, In, Same, larger, MAX, listed, strung}
 
 -- ---- the greatest
 pub larger-is : (a b : ℕ) → larger a b ≡ a + (b - a)
@@ -120,3 +120,17 @@ module _ {A : Type 0} where
       go : In x l ⊎ In x m → In x (y ∷ l) ⊎ In x m
       go (inl k) = inl (inr k)
       go (inr k) = inr k
+
+  pub same-more : (x : A) (l m : List A) → Same l m → Same (x ∷ l) (x ∷ m)
+  same-more x l m f y = (there, back)
+    where
+      there : In y (x ∷ l) → In y (x ∷ m)
+      there (inl e) = inl e
+      there (inr h) = inr (f y .0 h)
+
+      back : In y (x ∷ m) → In y (x ∷ l)
+      back (inl e) = inl e
+      back (inr h) = inr (f y .1 h)
+
+  pub same-trans : (l m k : List A) → Same l m → Same m k → Same l k
+  same-trans l m k f g y = ((λ h. g y .0 (f y .0 h)), (λ h. f y .1 (g y .1 h)))

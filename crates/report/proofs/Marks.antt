@@ -34,11 +34,14 @@ use Rattle.report.proofs.Lists.{in-split}
 use Rattle.report.proofs.Triples.{octets-part, stamp-low, verifier-in}
 
 -- ---- marks
--- among unheard marks none is record
+-- unheard marks
+pub mark-none : (n j : ℕ) → markOf (replicate n unheard) j ≡ Unheard
+mark-none zero j = refl
+mark-none (suc n) zero = refl
+mark-none (suc n) (suc j) = mark-none n j
+
 pub no-mark : (n j : ℕ) → markOf (replicate n unheard) j ≡ Record → ⊥
-no-mark zero j e = let z : _≡_ {A = ℕ} 0 1 = cc in omega arith
-no-mark (suc n) zero e = let z : _≡_ {A = ℕ} 0 1 = cc in omega arith
-no-mark (suc n) (suc j) e = no-mark n j e
+no-mark n j e = let u = mark-none n j in let z : _≡_ {A = ℕ} 0 1 = cc in omega arith
 
 pub mark-own : (ms : List Mark) (i : ℕ) (m : Mark) → markOf (set ms i m) i ≡ Record → m .is ≡ Record
 mark-own [] i m e = absurd (let z : _≡_ {A = ℕ} 0 1 = cc in omega arith)
@@ -119,6 +122,12 @@ module _ (p : Plan) (ms : List Mark) (d : List ℕ) where
       go : In x (responses p ms d n) ⊎ In x (responseOf p d n (markOf ms n)) → (In x (responses p ms d n) → Member x n) → Member x (suc n)
       go (inl q) ih = member-more x n (ih q)
       go (inr q) ih = member-one x n (markOf ms n) refl q
+
+  -- where no node is heard there is none
+  pub none-heard : ((k : ℕ) → markOf ms k ≡ Unheard) → (n : ℕ) → responses p ms d n ≡ []
+  unfolding responses responseOf
+  none-heard h zero = refl
+  none-heard h (suc n) = rw (none-heard h n, h n)
 
   module _ (ld : length d ≡ p .n * recordLength p) (od : Octets d)
       (ok : (k : ℕ) → k < p .n → markOf ms k ≡ Record → Passed p k (slotOf p d k)) where

@@ -50,6 +50,7 @@ use Rattle.report.specs.Figure1.{initial, INITIALIZE, RECEIVE-TIME-REQUE
 use Rattle.report.specs.Ours.{family, tripleOf, history, timeIn}
 use Rattle.report.specs.Run.{OfPlan, replies-to, received}
 use Rattle.report.proofs.Triples.{octets-part, octets-drop, stamp-low, time-in, time-none, validate-is}
+use Rattle.report.proofs.Lists.{same-more, same-trans}
 use Rattle.report.proofs.Latest.{time-of, latest-of, previous-of}
 
 -- ---- the records of a book
@@ -275,20 +276,6 @@ module _ (p : Plan) (node : ℕ) (b b₂ : List ℕ) (c : FreshCall p node b Fre
   fresh-acts = ap (λ (rs : List (List ℕ)). initial ∷ each (tripleOf p) rs) (one.is-records laid-fresh)
 
 -- ---- a run of calls
-same-trans : (A B C : List Triple) → Same A B → Same B C → Same A C
-same-trans A B C f g X = ((λ h. g X .0 (f X .0 h)), (λ h. f X .1 (g X .1 h)))
-
-with-same : (X : Triple) (A B : List Triple) → Same A B → Same (with-it X A) (with-it X B)
-with-same X A B f Y = (there, back)
-  where
-    there : In Y (with-it X A) → In Y (with-it X B)
-    there (inl e) = inl e
-    there (inr h) = inr (f Y .0 h)
-
-    back : In Y (with-it X B) → In Y (with-it X A)
-    back (inl e) = inl e
-    back (inr h) = inr (f Y .1 h)
-
 abbrev written : List Triple → Bool → Written
 written H t = record { History = H; sent = t }
 
@@ -299,7 +286,7 @@ unfolding RECEIVE-WRITE-REQUEST
 write-same p S X A B f = go (VALIDATE (family p) S X)
   where
     go : (t : Bool) → Same (cond t (written (with-it X A) true) (written A false) .History) (cond t (written (with-it X B) true) (written B false) .History)
-    go true = with-same X A B f
+    go true = same-more X A B f
     go false = f
 
 -- one call: the book stays good and of its node, and its History follows

@@ -253,14 +253,17 @@ module _ (p : Plan) (s : Session) (d i : List ℕ) (u : Full p s d i) where
     abbrev rec : ℕ → List ℕ
     rec k = recordFrom d h r (p .f) qs a k
 
-    up-to : repair.Upto d h r (p .f) (p .n) qs a (u .desk) parts ha src below (all-take (λ (q : ℕ). part d (q * r) h ≡ part d (a * r) h) (p .m) Z heads) (p .n) filled
-    up-to = repair.upto d h r (p .f) (p .n) qs a (u .desk) parts ha src below (all-take (λ (q : ℕ). part d (q * r) h ≡ part d (a * r) h) (p .m) Z heads) (p .n) (omega arith)
+    source-heads : All (λ (q : ℕ). part d (q * r) h ≡ part d (a * r) h) qs
+    source-heads = all-take (λ (q : ℕ). part d (q * r) h ≡ part d (a * r) h) (p .m) Z heads
+
+    up-to : repair.Upto d h r (p .f) (p .n) qs a (u .desk) parts ha src below source-heads (p .n) filled
+    up-to = repair.upto d h r (p .f) (p .n) qs a (u .desk) parts ha src below source-heads (p .n) (omega arith)
 
     rec-head : (k : ℕ) → part (rec k) 0 h ≡ part d (a * r) h
-    rec-head = repair.rec-head d h r (p .f) (p .n) qs a (u .desk) parts ha src below (all-take (λ (q : ℕ). part d (q * r) h ≡ part d (a * r) h) (p .m) Z heads)
+    rec-head = repair.rec-head d h r (p .f) (p .n) qs a (u .desk) parts ha src below source-heads
 
     rec-rest : (k : ℕ) → part (rec k) h (p .f) ≡ regenerated d h r (p .f) qs k
-    rec-rest = repair.rec-rest d h r (p .f) (p .n) qs a (u .desk) parts ha src below (all-take (λ (q : ℕ). part d (q * r) h ≡ part d (a * r) h) (p .m) Z heads)
+    rec-rest = repair.rec-rest d h r (p .f) (p .n) qs a (u .desk) parts ha src below source-heads
 
     -- slot k is the request to node k
     sends-one : 1 ≤ length Z → (k : ℕ) → k < p .n → bearing p filled k ≡ request (generated p cs) T (CC-of cs) k

@@ -32,7 +32,7 @@ use Rattle.record.proofs.Desks.{slot-fits}
 use Rattle.rounds.specs.declared.Heard.the-variants.{Unheard, First, Record}
 use Rattle.rounds.specs.declared.Mark.{Mark}
 use Rattle.rounds.specs.declared.Bound.the-variants.{Free}
-use Rattle.rounds.specs.Rounds.{bitOf, heardCount, markOf, restUnheard, underOf}
+use Rattle.rounds.specs.Rounds.{bitOf, heardCount, unheards, markOf, restUnheard, underOf}
 use Rattle.session.specs.declared.Session.{Session}
 use Rattle.session.specs.declared.Stage.{Stage}
 use Rattle.session.specs.declared.Stage.the-variants.{Asking, Storing, Ended}
@@ -54,14 +54,15 @@ use Rattle.report.specs.Figure3.{READ-LATEST, READ-PREVIOUS, Decision, r
 use Rattle.report.specs.Ours.{family, responses, sending, commandOf}
 use Rattle.report.specs.Decides.{Decides}
 use Rattle.report.specs.Run as run
-use Rattle.report.specs.Run.{Answered, closedBy, closing, closedOver, Tells, Repairing, EachTells, AllFull, AllApart}
+use Rattle.conduct.specs.Turns as turns
+use Rattle.report.specs.Run.{closedBy, closing, closedOver, Tells, Repairing, EachTells, Gathers, AllClose, AllApart}
 use Rattle.report.proofs.Lists.{strung-same}
 use Rattle.report.proofs.Triples.{octets-drop, octets-put}
 use Rattle.report.proofs.Sets.{size-is}
-use Rattle.report.proofs.Hears.{puts, said-by, said-first, valid-record, valid-first, in-time-is, first-in-time, unheard-has, record-after, first-after}
+use Rattle.report.proofs.Hears.{puts, said-by, said-first, valid-record, valid-first, in-time-is, first-in-time, unheard-has, record-after, first-after, gathers-more, gathers-none}
 use Rattle.report.proofs.Erasure.{fragment-place, laid-is}
 use Rattle.report.proofs.Round.{Full, round-decides}
-use Rattle.report.proofs.Marks.{no-mark, not-heard, count-set, mark-own, mark-other, slot-own, slot-other, Passed, one-cross}
+use Rattle.report.proofs.Marks.{no-mark, mark-none, none-heard, not-heard, count-set, mark-own, mark-other, slot-own, slot-other, Passed, one-cross}
 
 -- ---- what is known between two calls: by the stage, of the session, its desk and the rounds closed so far
 -- in a read round: READ is to send what the bound says
@@ -71,6 +72,7 @@ pub record Asks (p : Plan) (s : Session) (d : List ℕ) (closed : List (List Mes
   pub desk : length d ≡ p .n * recordLength p
   pub octets : Octets d
   pub size : length (s .marks) ≡ 16
+  pub gathered : Gathers p (commandOf (s .bound)) (responses p (s .marks) d (p .n))
   pub passed : (k : ℕ) → k < p .n → markOf (s .marks) k ≡ Record → Passed p k (slotOf p d k)
 
 -- in a repair round: READ has repaired, and the desk holds what DO_WRITE sends
@@ -95,12 +97,12 @@ Keeps p s d closed = KeepsAt (s .stage) p s d closed
 pub record Leaves (p : Plan) (o : Outcome) (closed : List (List Message)) : Type 0 where
   pub keeps : Keeps p (o .session) (o .desk) closed
   pub tells : Tells p (o .session) (o .said) (o .item) closed
-  pub sized : AllFull p closed
+  pub sized : AllClose p closed
 
 -- ---- a read round after a mark
 module _ (p : Plan) (s : Session) (d i : List ℕ) (sets : List (List Message)) (st : s .stage ≡ Asking) (k : Asks p s d sets)
     (ok : planOk p ≡ true) (li : length i ≡ p .m * p .f) (rest : restUnheard (s .marks) (p .n) ≡ true) (few : s .round ≤ p .w)
-    (most : heardCount (s .marks) ≤ replies p) (sz : AllFull p sets) where
+    (most : heardCount (s .marks) ≤ replies p) (sz : AllClose p sets) where
   abbrev set-now : List Message
   set-now = responses p (s .marks) d (p .n)
 
@@ -125,8 +127,11 @@ module _ (p : Plan) (s : Session) (d i : List ℕ) (sets : List (List Message)) 
     unfolding READ
     loop-next = ap (λ (x : Decision). goes-on (family p) x set-now) (k .decision)
 
-    full-now : AllFull p (set-now ∷ sets)
-    full-now = (size-is p (s .marks) d rest ∙ omega (arith, most, enough), sz)
+    full-now : AllClose p (set-now ∷ sets)
+    full-now = (
+      record { command = commandOf (s .bound); asked = k .decision; gathered = k .gathered; full = size-is p (s .marks) d rest ∙ omega (arith, most, enough) },
+      sz,
+    )
 
     counted : s .round ≡ length (set-now ∷ sets)
     counted = k .rounds
@@ -183,6 +188,7 @@ module _ (p : Plan) (s : Session) (d i : List ℕ) (sets : List (List Message)) 
                     desk = k .desk;
                     octets = k .octets;
                     size = refl;
+                    gathered = gathers-none p _ (responses p unheards d (p .n)) (none-heard p unheards d (mark-none 16) (p .n));
                     passed = λ j h m. absurd (no-mark 16 j m);
                   };
               tells = tt;
@@ -226,7 +232,7 @@ module _ (p : Plan) (d i : List ℕ) (ok : planOk p ≡ true) (ld : length d ≡
       own : (k : ℕ) → k < p .m → regenerated d head (recordLength p) (p .f) (from 0 (p .m)) k ≡ fragmentIn p d k
       own k h = sym (itself d head (recordLength p) (p .f) (from 0 (p .m)) k (sym (among-from k (p .m) ∙ lt-ltb k (p .m) h))) ∙ sym (fragment-place p d k)
 
-  stores : (s : Session) (f : List ℕ) (sets : List (List Message)) → s .stage ≡ Storing → Stores p s d sets → AllFull p sets
+  stores : (s : Session) (f : List ℕ) (sets : List (List Message)) → s .stage ≡ Storing → Stores p s d sets → AllClose p sets
       → heardCount (markedOf s (frameNode f) Record .marks) ≤ replies p → Leaves p (stored p s f d i) sets
   unfolding stored
   stores s f sets st k sz most = go (ltb (heardCount (markedOf s (frameNode f) Record .marks)) (replies p)) refl
@@ -265,7 +271,7 @@ module _ (p : Plan) (d i : List ℕ) (ok : planOk p ≡ true) (ld : length d ≡
           }
 
 -- ---- an accepted reply
-module _ (p : Plan) (s : Session) (f d i : List ℕ) (sets : List (List Message)) (of : Octets f) (keep : Keeps p s d sets) (sz : AllFull p sets)
+module _ (p : Plan) (s : Session) (f d i : List ℕ) (sets : List (List Message)) (of : Octets f) (keep : Keeps p s d sets) (sz : AllClose p sets)
     (e₁ : first (replyLadder Read p s f d (length i)) (λ (j : ℕ). j) 0 ≡ 0) (e₂ : first (recordLadder p s f) (λ (j : ℕ). j) 0 ≡ 0) where
   abbrev node : ℕ
   node = frameNode f
@@ -304,62 +310,17 @@ module _ (p : Plan) (s : Session) (f d i : List ℕ) (sets : List (List Message)
       let w = ltb-true (heardCount (s .marks)) (replies p) (ranges .1 .few) in
       omega (arith, c, w)
 
-  -- a first triple
-  first-asks : Asks p s d sets → Asks p (markedOf s node First) d sets
-  first-asks k =
+  -- the body of a record
+  body-length : bears p f ≡ true → length (bodyOf f) ≡ recordLength p
+  body-length b = let l = bears-is p f true (sym b) refl .1 in simp length-drop (omega arith)
+
+  body-passed : bears p f ≡ true → Passed p node (bodyOf f)
+  unfolding timeZero
+  body-passed b =
       record {
-        decision = k .decision;
-        rounds = k .rounds;
-        desk = k .desk;
-        octets = k .octets;
-        size = length-set (s .marks) node (record { is = First }) ∙ k .size;
-        passed = λ j h m. go j h m (ℕ-discrete j node);
+        timed = positive (time (bodyOf f)) (rw b at (n₂ .0));
+        hashes = not-false (hashesOk p node (bodyOf f)) (rw b at (n₂ .1 .0));
       }
-    where
-      go : (j : ℕ) → j < p .n → markOf (set (s .marks) node (record { is = First })) j ≡ Record → Dec (j ≡ node) → Passed p j (slotOf p d j)
-      go j h m (yes q) =
-          let w : First ≡ Record = mark-own (s .marks) node (record { is = First }) (rw q at m) in
-          let z : _≡_ {A = ℕ} 0 1 = cc in
-          absurd (omega arith)
-      go j h m (no q) = k .passed j h (sym (mark-other (s .marks) node j (record { is = First }) q) ∙ m)
-
-  -- a record
-  module _ (b : bears p f ≡ true) where
-    abbrev body : List ℕ
-    body = bodyOf f
-
-    body-length : length body ≡ recordLength p
-    body-length = let l = bears-is p f true (sym b) refl .1 in simp length-drop (omega arith)
-
-    body-passed : Passed p node body
-    unfolding timeZero
-    body-passed =
-        record {
-          timed = positive (time body) (rw b at (n₂ .0));
-          hashes = not-false (hashesOk p node body) (rw b at (n₂ .1 .0));
-        }
-
-    abbrev desk-after : List ℕ
-    desk-after = put d (node * recordLength p) body
-
-    record-asks : Asks p s d sets → Asks p (markedOf s node Record) desk-after sets
-    record-asks k =
-        record {
-          decision = k .decision;
-          rounds = k .rounds;
-          desk = length-put d (node * recordLength p) body (omega (arith, body-length, slot-fits node (p .n) (recordLength p) node-low, k .desk)) ∙ k .desk;
-          octets = octets-put d (node * recordLength p) body (k .octets) (octets-drop f 15 of);
-          size = length-set (s .marks) node (record { is = Record }) ∙ k .size;
-          passed = λ j h m. go j h m (ℕ-discrete j node);
-        }
-      where
-        go : (j : ℕ) → j < p .n → markOf (set (s .marks) node (record { is = Record })) j ≡ Record → Dec (j ≡ node) → Passed p j (slotOf p desk-after j)
-        go j h m (yes q) =
-            subst (λ (x : ℕ). Passed p x (slotOf p desk-after x)) (sym q)
-            (subst (Passed p node) (sym (slot-own d body (recordLength p) (p .n) node (k .desk) body-length node-low)) body-passed)
-        go j h m (no q) =
-            subst (Passed p j) (sym (slot-other d body (recordLength p) (p .n) node (k .desk) body-length node-low j q))
-            (k .passed j h (sym (mark-other (s .marks) node j (record { is = Record }) q) ∙ m))
 
   -- AN ACCEPTED REPLY OF A READ ROUND IS PUT INTO THE RESPONSE SET AS LINES 8 TO 11 OF DO_READ PUT IT
   module _ (k : Asks p s d sets) where
@@ -387,6 +348,51 @@ module _ (p : Plan) (s : Session) (f d i : List ℕ) (sets : List (List Message)
         (sym (puts p (commandOf (s .bound)) before (said-first node) (valid-first p node) (first-in-time (s .bound) (s .round) (ranges .0 .bounded))
         (unheard-has p (s .marks) d node (p .n) unmarked)))
         (first-after p (s .marks) d node node-low inside unmarked)
+
+  -- a first triple
+  first-asks : Asks p s d sets → Asks p (markedOf s node First) d sets
+  first-asks k =
+      record {
+        decision = k .decision;
+        rounds = k .rounds;
+        desk = k .desk;
+        octets = k .octets;
+        size = length-set (s .marks) node (record { is = First }) ∙ k .size;
+        gathered = gathers-more p (commandOf (s .bound)) (said-first node) (responses p (s .marks) d (p .n)) _ (k .gathered) (first-hears k);
+        passed = λ j h m. go j h m (ℕ-discrete j node);
+      }
+    where
+      go : (j : ℕ) → j < p .n → markOf (set (s .marks) node (record { is = First })) j ≡ Record → Dec (j ≡ node) → Passed p j (slotOf p d j)
+      go j h m (yes q) =
+          let w : First ≡ Record = mark-own (s .marks) node (record { is = First }) (rw q at m) in
+          let z : _≡_ {A = ℕ} 0 1 = cc in
+          absurd (omega arith)
+      go j h m (no q) = k .passed j h (sym (mark-other (s .marks) node j (record { is = First }) q) ∙ m)
+
+  -- a record
+  module _ (b : bears p f ≡ true) where
+    abbrev desk-after : List ℕ
+    desk-after = put d (node * recordLength p) (bodyOf f)
+
+    record-asks : Asks p s d sets → Asks p (markedOf s node Record) desk-after sets
+    record-asks k =
+        record {
+          decision = k .decision;
+          rounds = k .rounds;
+          desk = length-put d (node * recordLength p) (bodyOf f) (omega (arith, body-length b, slot-fits node (p .n) (recordLength p) node-low, k .desk)) ∙ k .desk;
+          octets = octets-put d (node * recordLength p) (bodyOf f) (k .octets) (octets-drop f 15 of);
+          size = length-set (s .marks) node (record { is = Record }) ∙ k .size;
+          gathered = gathers-more p (commandOf (s .bound)) (said-by p node (bodyOf f)) (responses p (s .marks) d (p .n)) _ (k .gathered) (record-hears k b);
+          passed = λ j h m. go j h m (ℕ-discrete j node);
+        }
+      where
+        go : (j : ℕ) → j < p .n → markOf (set (s .marks) node (record { is = Record })) j ≡ Record → Dec (j ≡ node) → Passed p j (slotOf p desk-after j)
+        go j h m (yes q) =
+            subst (λ (x : ℕ). Passed p x (slotOf p desk-after x)) (sym q)
+            (subst (Passed p node) (sym (slot-own d (bodyOf f) (recordLength p) (p .n) node (k .desk) (body-length b) node-low)) (body-passed b))
+        go j h m (no q) =
+            subst (Passed p j) (sym (slot-other d (bodyOf f) (recordLength p) (p .n) node (k .desk) (body-length b) node-low j q))
+            (k .passed j h (sym (mark-other (s .marks) node j (record { is = Record }) q) ∙ m))
 
   round-high : s .round ≤ p .w
   round-high = leb-true (s .round) (p .w) (ranges .0 .high)
@@ -465,7 +471,7 @@ module _ (p : Plan) (s : Session) (f d i : List ℕ) (sets : List (List Message)
   abbrev Right : Turn → Type 0
   Right t = AllApart (t .sets) → Leaves p (t .now) (t .sets)
 
-  module _ (of : Octets f) (keep : Keeps p s d sets) (sz : AllFull p sets) where
+  module _ (of : Octets f) (keep : Keeps p s d sets) (sz : AllClose p sets) where
     storing-size : s .stage ≡ Storing → Keeps p s d sets → length (s .marks) ≡ 16
     storing-size st k = let q : Stores p s d sets = subst (λ (x : Stage). KeepsAt x p s d sets) st k in q .size
 
@@ -512,10 +518,10 @@ module _ (p : Plan) (s : Session) (f d i : List ℕ) (sets : List (List Message)
       go false false b = one (markedOf s (frameNode f) First) d b
 
 -- ---- the run
-runs-fewer : (p : Plan) (s : Session) (d : List ℕ) (sets : List (List Message)) (cs : List Answered) → AllApart (closedOver p s d sets cs) → AllApart sets
+runs-fewer : (p : Plan) (s : Session) (d : List ℕ) (sets : List (List Message)) (cs : List turns.Turn) → AllApart (closedOver p s d sets cs) → AllApart sets
 runs-fewer p s d sets [] a = a
 runs-fewer p s d sets (c ∷ cs) a =
-    fewer p s (c .frame) d (c .item) sets (runs-fewer p (c .took .session) (c .desk) (closing p s (c .frame) d (length (c .item)) sets) cs a)
+    fewer p s (c .reply) d (c .item) sets (runs-fewer p (c .took .session) (c .deskLeft) (closing p s (c .reply) d (length (c .item)) sets) cs a)
 
 repairing : (p : Plan) (s : Session) (d : List ℕ) (sets : List (List Message)) → s .stage ≡ Storing → Keeps p s d sets → Repairing p s d sets
 repairing p s d sets e k =
@@ -523,20 +529,20 @@ repairing p s d sets e k =
     record { Data = q .Data; is = q .decision ∙ ap (λ (l : List Message). repaired l (stampNumber (s .stamp)) (q .Data)) (sym (q .sends)) }
 
 -- EACH CALL OF A READ TELLS WHAT FIGURE 3'S READ DECIDES OF THE RESPONSE SETS OF THE ROUNDS CLOSED SO FAR, cut at W
-pub read-run : (p : Plan) (s : Session) (d : List ℕ) (sets : List (List Message)) (cs : List Answered) → Keeps p s d sets → AllFull p sets
-    → run.Reads p s d cs → AllApart (closedOver p s d sets cs) → EachTells p s d sets cs × AllFull p (closedOver p s d sets cs)
+pub read-run : (p : Plan) (s : Session) (d : List ℕ) (sets : List (List Message)) (cs : List turns.Turn) → Keeps p s d sets → AllClose p sets
+    → run.Reads p s d cs → AllApart (closedOver p s d sets cs) → EachTells p s d sets cs × AllClose p (closedOver p s d sets cs)
 read-run p s d sets [] k sz r a = (tt, sz)
 read-run p s d sets (c ∷ cs) k sz r a =
-    let q : Leaves p (outcome (saidOf (c .took .answer)) (c .took .session) (c .desk) (c .left)) (closing p s (c .frame) d (length (c .item)) sets) =
-    subst (λ (o : Outcome). Leaves p o (closing p s (c .frame) d (length (c .item)) sets)) (sym (r .1 .is))
-    (call-leaves p s (c .frame) d (c .item) sets (r .0) k sz (runs-fewer p (c .took .session) (c .desk) (closing p s (c .frame) d (length (c .item)) sets) cs a)) in
-    let t = read-run p (c .took .session) (c .desk) (closing p s (c .frame) d (length (c .item)) sets) cs (q .keeps) (q .sized) (r .2) a in
-    ((q .tells, (λ e. repairing p (c .took .session) (c .desk) (closing p s (c .frame) d (length (c .item)) sets) e (q .keeps)), t .0), t .1)
+    let q : Leaves p (outcome (saidOf (c .took .answer)) (c .took .session) (c .deskLeft) (c .itemLeft)) (closing p s (c .reply) d (length (c .item)) sets) =
+    subst (λ (o : Outcome). Leaves p o (closing p s (c .reply) d (length (c .item)) sets)) (sym (r .1 .is))
+    (call-leaves p s (c .reply) d (c .item) sets (r .0) k sz (runs-fewer p (c .took .session) (c .deskLeft) (closing p s (c .reply) d (length (c .item)) sets) cs a)) in
+    let t = read-run p (c .took .session) (c .deskLeft) (closing p s (c .reply) d (length (c .item)) sets) cs (q .keeps) (q .sized) (r .2) a in
+    ((q .tells, (λ e. repairing p (c .took .session) (c .deskLeft) (closing p s (c .reply) d (length (c .item)) sets) e (q .keeps)), t .0), t .1)
 
 -- FROM OPENING: no round is closed yet
-pub opened-read : (p : Plan) (a : Ask) (r : Opened) (d : List ℕ) (cs : List Answered) → OpenCall Read p a r → r .answer ≡ Accepted
+pub opened-read : (p : Plan) (a : Ask) (r : Opened) (d : List ℕ) (cs : List turns.Turn) → OpenCall Read p a r → r .answer ≡ Accepted
     → length d ≡ p .n * recordLength p → Octets d → run.Reads p (r .session) d cs
-    → AllApart (closedOver p (r .session) d [] cs) → EachTells p (r .session) d [] cs × AllFull p (closedOver p (r .session) d [] cs)
+    → AllApart (closedOver p (r .session) d [] cs) → EachTells p (r .session) d [] cs × AllClose p (closedOver p (r .session) d [] cs)
 opened-read p a r d cs call e ld od h apart = read-run p (r .session) d [] cs start tt h apart
   where
     fresh : Keeps p (freshOf Read 1 Free a) d []
@@ -547,6 +553,7 @@ opened-read p a r d cs call e ld od h apart = read-run p (r .session) d [] cs st
           desk = ld;
           octets = od;
           size = refl;
+          gathered = gathers-none p READ-LATEST (responses p unheards d (p .n)) (none-heard p unheards d (mark-none 16) (p .n));
           passed = λ j l m. absurd (no-mark 16 j m);
         }
 

@@ -1,6 +1,6 @@
 -- Figure 3 of CMU-PDL-03-105: client-side read operation pseudo-code. A line's number stands beside it. READ's loop is a recursion over the
 -- response sets that DO_READ returned, the last one first.
---   VALIDATE, receives    DO_READ: one turn of its loop
+--   VALIDATE receives DO-READ    one turn of DO_READ's loop; DO_READ
 --   ts-candidate CandidateSet    CHOOSE_CANDIDATE
 --   VALIDATE-CANDIDATE-SET
 --   Decision LOOP READ    what lines 3 to 24 decide of one response set; the whole read
@@ -51,6 +51,11 @@ receives f command ResponseSet x =
     (with-it x ResponseSet))  -- 11
     ResponseSet)
     ResponseSet
+
+-- the response set, from the messages received, the last one first; line 16 returns it when it has N - t
+unfoldable pub DO-READ : Family → Command → List Message → List Message
+DO-READ f command [] = []  -- 1
+DO-READ f command (x ∷ before) = receives f command (DO-READ f command before) x  -- 2 to 15
 
 -- ---- CHOOSE_CANDIDATE, section 4.2.2: "the greatest timestamp in the response set. All data-fragments that share ts_candidate are
 -- identified and returned as the candidate set."

@@ -6,3 +6,4 @@ pub mod Table2
 pub mod Ours
 pub mod Decides
 pub mod Run
+pub mod WriteRun

@@ -1,13 +1,10 @@
--- Whole runs of ours: calls one after another, each on the book, or the session and the desk, that the one before it handed back; and what the
--- figures are given from them.
+-- Whole runs of a node and of a read: calls one after another, each on the book, or the session and the desk, that the one before it handed
+-- back; and what the figures are given from them. Writes are in WriteRun.
 --   OfPlan received      the calls of a node under one plan; what Figure 1 makes of them
---   Answered             a call: the frame and the item lent, and what it left
 --   Reads closing closedOver     the calls of a read; the response sets of its closed rounds, the last one first
 --   Tells EachTells      what an answer says, and that Figure 3's READ says it of the rounds closed so far; the same of each call of a run
---   AllFull              each closed set has N-t responses
+--   Gathers Closes AllClose      what DO_READ gathered; so is each closed set, and it has N-t responses
 --   Apart AllApart       (01) no two cross checksums of a response set share a hash; so of each closed set
---   Writes timing        the calls of a write; the times of its time round and the item
---   Wrote EachWrites     what an answer says, and that Figure 2's WRITE says it; what is sent in a write round; so of each call of a run
 -- Assumes nothing.
 use Prim.{Unit}
 use Prim.Native.Nat.{ℕ, _*_}
@@ -20,7 +17,7 @@ use lib.Dec.{ltb}
 use Rattle.octets.specs.Bytes.{put, Octets}
 use Rattle.sha256.specs.Sha256.{sha256}
 use Rattle.terms.specs.Ladder.{first, _and_}
-use Rattle.terms.specs.Stamp.{time, stampNumber}
+use Rattle.terms.specs.Stamp.{stampNumber}
 use Rattle.terms.specs.Terms.{recordLength}
 use Rattle.terms.specs.declared.Plan.{Plan}
 use Rattle.frame.specs.Frame.{frameNode, bodyOf}
@@ -29,19 +26,19 @@ use Rattle.rounds.specs.Rounds.{heardCount}
 use Rattle.session.specs.declared.Session.{Session}
 use Rattle.session.specs.declared.Took.{Took}
 use Rattle.session.specs.declared.Stage.the-variants.{Storing}
-use Rattle.session.specs.declared.Operation.the-variants.{Write, Read}
+use Rattle.session.specs.declared.Operation.the-variants.{Read}
 use Rattle.session.specs.Session.{isStoring, replies, markedOf, Said, refused, stillOpen, done, neverWritten, aborted, roundsSpent, clockSpent, saidOf}
 use Rattle.session.specs.Reply.{bears, replyLadder, recordLadder}
 use Rattle.session.specs.Reader.{ReadReplyCall}
-use Rattle.session.specs.Writer.{WriteReplyCall}
 use Rattle.node.specs.declared.Answer.{Answer}
 use Rattle.node.specs.declared.Answer.the-variants.{Refused, Replied}
 use Rattle.node.specs.Node.{writes}
 use Rattle.conduct.specs.History.{Call}
-use Rattle.report.specs.Triple.{Triple, Message, null, In, MAX}
+use Rattle.conduct.specs.Turns.{Turn}
+use Rattle.report.specs.Triple.{Triple, Message, null, In, Same}
 use Rattle.report.specs.Figure1.{RECEIVE-WRITE-REQUEST}
-use Rattle.report.specs.Figure2.{enough, ts-written, WRITE}
-use Rattle.report.specs.Figure3.{READ-PREVIOUS, returned, repaired, ABORT, reading, READ}
+use Rattle.report.specs.Figure2.{enough}
+use Rattle.report.specs.Figure3.{Command, READ-PREVIOUS, DO-READ, returned, repaired, ABORT, reading, READ}
 use Rattle.report.specs.Ours.{family, tripleOf, responses, sending}
 
 -- ---- a node
@@ -62,19 +59,12 @@ received p S History (c ∷ cs) =
     cs
 
 -- ---- a client
-pub record Answered : Type 0 where
-  pub frame : List ℕ
-  pub item : List ℕ
-  pub took : Took
-  pub desk : List ℕ
-  pub left : List ℕ
-
 -- ---- reading
 -- each call met its contract; a frame is bytes
-abbrev pub Reads : Plan → Session → List ℕ → List Answered → Type 0
+abbrev pub Reads : Plan → Session → List ℕ → List Turn → Type 0
 Reads p s d [] = Unit {0}
 Reads p s d (c ∷ cs) =
-    Octets (c .frame) × ReadReplyCall p s (c .frame) d (c .item) (c .took) (c .desk) (c .left) × Reads p (c .took .session) (c .desk) cs
+    Octets (c .reply) × ReadReplyCall p s (c .reply) d (c .item) (c .took) (c .deskLeft) (c .itemLeft) × Reads p (c .took .session) (c .deskLeft) cs
 
 -- a round that has N-t replies is closed
 abbrev pub closedBy : Plan → Session → List ℕ → List (List Message) → List (List Message)
@@ -89,10 +79,10 @@ closing p s f d item before =
     (cond (bears p f) (closedBy p (markedOf s (frameNode f) Record) (put d (frameNode f * recordLength p) (bodyOf f)) before)
     (closedBy p (markedOf s (frameNode f) First) d before))))
 
-abbrev pub closedOver : Plan → Session → List ℕ → List (List Message) → List Answered → List (List Message)
+abbrev pub closedOver : Plan → Session → List ℕ → List (List Message) → List Turn → List (List Message)
 closedOver p s d before [] = before
 closedOver p s d before (c ∷ cs) =
-    closedOver p (c .took .session) (c .desk) (closing p s (c .frame) d (length (c .item)) before) cs
+    closedOver p (c .took .session) (c .deskLeft) (closing p s (c .reply) d (length (c .item)) before) cs
 
 -- done by repair, once DO_WRITE has its N-t responses; the session handed back has their marks
 pub record RepairedTo (p : Plan) (s : Session) (closed : List (List Message)) (ts : ℕ) (item : List ℕ) : Type 0 where
@@ -121,17 +111,28 @@ pub record Repairing (p : Plan) (s : Session) (d : List ℕ) (closed : List (Lis
   pub Data : List ℕ
   pub is : READ (family p) closed ≡ repaired (sending p d) (stampNumber (s .stamp)) Data
 
-abbrev pub EachTells : Plan → Session → List ℕ → List (List Message) → List Answered → Type 0
+abbrev pub EachTells : Plan → Session → List ℕ → List (List Message) → List Turn → Type 0
 EachTells p s d before [] = Unit {0}
 EachTells p s d before (c ∷ cs) =
-    Tells p (c .took .session) (saidOf (c .took .answer)) (c .left) (closing p s (c .frame) d (length (c .item)) before)
-    × (c .took .session .stage ≡ Storing → Repairing p (c .took .session) (c .desk) (closing p s (c .frame) d (length (c .item)) before))
-    × EachTells p (c .took .session) (c .desk) (closing p s (c .frame) d (length (c .item)) before) cs
+    Tells p (c .took .session) (saidOf (c .took .answer)) (c .itemLeft) (closing p s (c .reply) d (length (c .item)) before)
+    × (c .took .session .stage ≡ Storing → Repairing p (c .took .session) (c .deskLeft) (closing p s (c .reply) d (length (c .item)) before))
+    × EachTells p (c .took .session) (c .deskLeft) (closing p s (c .reply) d (length (c .item)) before) cs
 
--- line 16 of DO_READ: until (|ResponseSet| = N - t)
-abbrev pub AllFull : Plan → List (List Message) → Type 0
-AllFull p [] = Unit {0}
-AllFull p (set ∷ sets) = (length set ≡ enough (family p)) × AllFull p sets
+-- a set is what DO_READ gathered for a command from some messages
+pub record Gathers (p : Plan) (command : Command) (set : List Message) : Type 0 where
+  pub received : List Message
+  pub is : Same set (DO-READ (family p) command received)
+
+-- a closed set: READ was to send a command, DO_READ gathered the set for it, and it has N - t responses (line 16)
+pub record Closes (p : Plan) (set : List Message) (before : List (List Message)) : Type 0 where
+  pub command : Command
+  pub asked : READ (family p) before ≡ reading command
+  pub gathered : Gathers p command set
+  pub full : length set ≡ enough (family p)
+
+abbrev pub AllClose : Plan → List (List Message) → Type 0
+AllClose p [] = Unit {0}
+AllClose p (set ∷ before) = Closes p set before × AllClose p before
 
 -- of these strings, no two with one hash
 abbrev pub Apart : List Message → Type 0
@@ -140,46 +141,3 @@ Apart set = (x y : Message) → In x set → In y set → sha256 (x .Response .C
 abbrev pub AllApart : List (List Message) → Type 0
 AllApart [] = Unit {0}
 AllApart (set ∷ sets) = Apart set × AllApart sets
-
--- ---- writing
-abbrev pub Writes : Plan → Session → List ℕ → List Answered → Type 0
-Writes p s d [] = Unit {0}
-Writes p s d (c ∷ cs) =
-    Octets (c .frame) × WriteReplyCall p s (c .frame) d (c .item) (c .took) (c .desk) × Writes p (c .took .session) (c .desk) cs
-
--- the times of the time replies that were accepted, the last one first, and the item that was lent with it
-pub record Timed : Type 0 where
-  pub Times : List ℕ
-  pub Data : List ℕ
-
-abbrev pub untimed : Timed
-untimed = record { Times = []; Data = null }
-
-unfoldable pub timing : Plan → Session → List ℕ → List ℕ → List ℕ → Timed → Timed
-timing p s f d item before =
-    first (replyLadder Write p s f d (length item)) (λ (k : ℕ). before)
-    (cond (isStoring (s .stage)) before (record { Times = time (bodyOf f) ∷ before .Times; Data = item }))
-
--- done: WRITE's timestamp, and DO_WRITE has its N-t responses; clock spent (01): a greatest time of 2^64-1, whose next has no 8 bytes; a write
--- has no other ending
-abbrev pub Wrote : Plan → Session → Said → Timed → Type 0
-Wrote p s (refused k) w = Unit {0}
-Wrote p s stillOpen w = Unit {0}
-Wrote p s (done ts rounds) w = (ts ≡ ts-written (family p) (w .Data) (w .Times)) × (heardCount (s .marks) ≡ enough (family p))
-Wrote p s (neverWritten rounds) w = ⊥
-Wrote p s (aborted rounds) w = ⊥
-Wrote p s (roundsSpent rounds) w = ⊥
-Wrote p s clockSpent w = MAX (w .Times) ≡ 18446744073709551615
-
--- in a write round: the time round had N-t replies, and the desk holds what DO_WRITE sends
-pub record Sending (p : Plan) (s : Session) (d : List ℕ) (w : Timed) : Type 0 where
-  pub times : length (w .Times) ≡ enough (family p)
-  pub stamp : stampNumber (s .stamp) ≡ ts-written (family p) (w .Data) (w .Times)
-  pub sends : sending p d ≡ WRITE (family p) (w .Data) (w .Times)
-
-abbrev pub EachWrites : Plan → Session → List ℕ → Timed → List Answered → Type 0
-EachWrites p s d before [] = Unit {0}
-EachWrites p s d before (c ∷ cs) =
-    Wrote p (c .took .session) (saidOf (c .took .answer)) (timing p s (c .frame) d (c .item) before)
-    × (c .took .session .stage ≡ Storing → Sending p (c .took .session) (c .desk) (timing p s (c .frame) d (c .item) before))
-    × EachWrites p (c .took .session) (c .desk) (timing p s (c .frame) d (c .item) before) cs

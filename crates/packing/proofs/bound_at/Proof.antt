@@ -1,14 +1,10 @@
-use mathlib.Core.Path.{_≡_, ap, sym, _∙_}
+use mathlib.Core.Path.{ap, sym, _∙_}
 use Rattle.packing.proofs.Laws as laws
 use Rattle.packing.specs.SessionBytes.{boundOf}
 use Rattle.rounds.specs.declared.Bound.the-variants.{Under}
 use borrow.Author.Needs.{needs}
 use Rattle.packing.proofs.bound_at.Statement.{statement}
 use Rattle.packing.proofs.bound_at.Tie as tie
-use Rattle.packing.proofs.bound_at.Reads as reads
-use Rattle.packing.proofs.bound_at.Lts as lts
-use Rattle.octets.proofs.get.Reads as get-reads
-use Rattle.terms.proofs.stamp_at.Reads as stamp-at-reads
 
 get-requires : tie.Need-get-requires
 get-requires c κs = search needs

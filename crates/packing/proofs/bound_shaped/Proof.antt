@@ -4,12 +4,6 @@ use native.Mathlib.Omega.{arith}
 use borrow.Author.Needs.{needs}
 use Rattle.packing.proofs.bound_shaped.Statement.{statement}
 use Rattle.packing.proofs.bound_shaped.Tie as tie
-use Rattle.packing.proofs.bound_shaped.Reads as reads
-use Rattle.packing.proofs.bound_shaped.Lts as lts
-use Rattle.octets.proofs.get.Reads as get-reads
-use Rattle.terms.proofs.Timestamp.same.Reads as same-reads
-use Rattle.terms.proofs.stamp_at.Reads as stamp-at-reads
-use Rattle.terms.proofs.zero_stamp.Reads as zero-stamp-reads
 
 get-requires : tie.Need-get-requires
 get-requires c κs = search needs

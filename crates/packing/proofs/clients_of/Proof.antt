@@ -4,8 +4,6 @@ use Rattle.packing.specs.PlanBytes.{clientsOf}
 use native.Mathlib.Omega.{arith}
 use Rattle.packing.proofs.clients_of.Statement.{statement}
 use Rattle.packing.proofs.clients_of.Tie as tie
-use Rattle.packing.proofs.clients_of.Reads as reads
-use Rattle.packing.proofs.clients_of.Lts as lts
 
 returns : tie.Need-returns
 unfolding clientsOf

@@ -4,8 +4,6 @@ use Rattle.packing.specs.SessionBytes.{heardOf}
 use native.Mathlib.Omega.{arith}
 use Rattle.packing.proofs.heard_of.Statement.{statement}
 use Rattle.packing.proofs.heard_of.Tie as tie
-use Rattle.packing.proofs.heard_of.Reads as reads
-use Rattle.packing.proofs.heard_of.Lts as lts
 
 returns : tie.Need-returns
 unfolding heardOf

@@ -7,9 +7,6 @@ use borrow.Author.Needs.{needs}
 use native.Mathlib.Omega.{arith}
 use Rattle.packing.proofs.marks_of.Statement.{statement}
 use Rattle.packing.proofs.marks_of.Tie as tie
-use Rattle.packing.proofs.marks_of.Reads as reads
-use Rattle.packing.proofs.marks_of.Lts as lts
-use Rattle.packing.proofs.heard_of.Reads as heard-of-reads
 
 abbrev Inv-loop : tie.InvT-loop
 Inv-loop b marks₀ i₀ marks i = (i ≤ 16) × (length marks ≡ 16) × (take i marks ≡ marksOf (take i b))

@@ -6,8 +6,6 @@ use lib.ListN.{length, drop}
 use native.Mathlib.Omega.{arith}
 use Rattle.packing.proofs.marks_shaped.Statement.{statement}
 use Rattle.packing.proofs.marks_shaped.Tie as tie
-use Rattle.packing.proofs.marks_shaped.Reads as reads
-use Rattle.packing.proofs.marks_shaped.Lts as lts
 
 abbrev Inv-loop : tie.InvT-loop
 Inv-loop b i₀ i = marksShaped b ≡ marksShaped (drop i b)

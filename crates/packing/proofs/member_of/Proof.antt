@@ -4,8 +4,6 @@ use Rattle.packing.specs.PlanBytes.{memberOf}
 use native.Mathlib.Omega.{arith}
 use Rattle.packing.proofs.member_of.Statement.{statement}
 use Rattle.packing.proofs.member_of.Tie as tie
-use Rattle.packing.proofs.member_of.Reads as reads
-use Rattle.packing.proofs.member_of.Lts as lts
 
 returns : tie.Need-returns
 unfolding memberOf

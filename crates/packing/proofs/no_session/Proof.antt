@@ -1,5 +1,3 @@
-use Rattle.terms.specs.declared.Timestamp.{Timestamp}
-use mathlib.Core.Path.{ap}
 use Rattle.session.specs.declared.Operation.the-variants.{Read}
 use Rattle.session.specs.declared.Stage.the-variants.{Asking}
 use Rattle.rounds.specs.declared.Bound.the-variants.{Free}
@@ -7,9 +5,6 @@ use Rattle.rounds.specs.Rounds.{unheards}
 use borrow.Author.Needs.{needs}
 use Rattle.packing.proofs.no_session.Statement.{statement}
 use Rattle.packing.proofs.no_session.Tie as tie
-use Rattle.packing.proofs.no_session.Reads as reads
-use Rattle.packing.proofs.no_session.Lts as lts
-use Rattle.terms.proofs.zero_stamp.Reads as zero-stamp-reads
 
 zero-stamp-requires : tie.Need-zero-stamp-requires
 zero-stamp-requires c κs = search needs

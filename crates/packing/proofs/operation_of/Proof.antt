@@ -4,8 +4,6 @@ use Rattle.packing.specs.SessionBytes.{operationOf}
 use native.Mathlib.Omega.{arith}
 use Rattle.packing.proofs.operation_of.Statement.{statement}
 use Rattle.packing.proofs.operation_of.Tie as tie
-use Rattle.packing.proofs.operation_of.Reads as reads
-use Rattle.packing.proofs.operation_of.Lts as lts
 
 returns : tie.Need-returns
 unfolding operationOf

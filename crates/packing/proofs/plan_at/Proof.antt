@@ -3,11 +3,6 @@ use Rattle.packing.specs.PlanBytes.{planAt, memberOf, clientsOf}
 use borrow.Author.Needs.{needs}
 use Rattle.packing.proofs.plan_at.Statement.{statement}
 use Rattle.packing.proofs.plan_at.Tie as tie
-use Rattle.packing.proofs.plan_at.Reads as reads
-use Rattle.packing.proofs.plan_at.Lts as lts
-use Rattle.octets.proofs.get.Reads as get-reads
-use Rattle.packing.proofs.clients_of.Reads as clients-of-reads
-use Rattle.packing.proofs.member_of.Reads as member-of-reads
 
 get-requires : tie.Need-get-requires
 get-requires c κs = search needs

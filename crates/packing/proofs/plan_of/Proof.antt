@@ -6,11 +6,6 @@ use native.Mathlib.Omega.{arith}
 use borrow.Author.Needs.{needs}
 use Rattle.packing.proofs.plan_of.Statement.{statement}
 use Rattle.packing.proofs.plan_of.Tie as tie
-use Rattle.packing.proofs.plan_of.Reads as reads
-use Rattle.packing.proofs.plan_of.Lts as lts
-use Rattle.packing.proofs.no_plan.Reads as no-plan-reads
-use Rattle.packing.proofs.plan_at.Reads as plan-at-reads
-use Rattle.packing.proofs.plan_shaped.Reads as plan-shaped-reads
 
 plan-shaped-requires : tie.Need-plan-shaped-requires
 plan-shaped-requires c κs = search needs

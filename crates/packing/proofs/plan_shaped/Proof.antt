@@ -1,4 +1,4 @@
-use mathlib.Core.Path.{ap, sym, _∙_, subst}
+use mathlib.Core.Path.{ap, subst}
 use Prim.Native.Nat.{ℕ, _≤_, _<_}
 use Rattle.session.proofs.Rules as rules
 use Rattle.packing.specs.PlanBytes.{planShaped}
@@ -7,9 +7,6 @@ use lib.Dec.{leb}
 use borrow.Author.Needs.{needs}
 use Rattle.packing.proofs.plan_shaped.Statement.{statement}
 use Rattle.packing.proofs.plan_shaped.Tie as tie
-use Rattle.packing.proofs.plan_shaped.Reads as reads
-use Rattle.packing.proofs.plan_shaped.Lts as lts
-use Rattle.octets.proofs.get.Reads as get-reads
 
 returns : tie.Need-returns
 unfolding planShaped

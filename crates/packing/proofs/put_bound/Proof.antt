@@ -3,10 +3,6 @@ use native.Mathlib.Omega.{arith}
 use borrow.Author.Needs.{needs}
 use Rattle.packing.proofs.put_bound.Statement.{statement}
 use Rattle.packing.proofs.put_bound.Tie as tie
-use Rattle.packing.proofs.put_bound.Reads as reads
-use Rattle.packing.proofs.put_bound.Lts as lts
-use Rattle.octets.proofs.put_num.Reads as put-num-reads
-use Rattle.terms.proofs.put_stamp.Reads as put-stamp-reads
 
 put-num-requires : tie.Need-put-num-requires
 put-num-requires c κs = search needs

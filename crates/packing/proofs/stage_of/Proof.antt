@@ -4,8 +4,6 @@ use Rattle.packing.specs.SessionBytes.{stageOf}
 use native.Mathlib.Omega.{arith}
 use Rattle.packing.proofs.stage_of.Statement.{statement}
 use Rattle.packing.proofs.stage_of.Tie as tie
-use Rattle.packing.proofs.stage_of.Reads as reads
-use Rattle.packing.proofs.stage_of.Lts as lts
 
 returns : tie.Need-returns
 unfolding stageOf

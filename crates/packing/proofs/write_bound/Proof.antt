@@ -2,10 +2,6 @@ use Rattle.packing.proofs.Laws as laws
 use borrow.Author.Needs.{needs}
 use Rattle.packing.proofs.write_bound.Statement.{statement}
 use Rattle.packing.proofs.write_bound.Tie as tie
-use Rattle.packing.proofs.write_bound.Reads as reads
-use Rattle.packing.proofs.write_bound.Lts as lts
-use Rattle.packing.proofs.put_bound.Reads as put-bound-reads
-use Rattle.terms.proofs.zero_stamp.Reads as zero-stamp-reads
 
 enum-told : tie.Need-enum-told
 enum-told c = search needs

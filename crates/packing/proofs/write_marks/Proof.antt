@@ -9,9 +9,6 @@ use borrow.Author.Needs.{needs}
 use native.Mathlib.Omega.{arith}
 use Rattle.packing.proofs.write_marks.Statement.{statement}
 use Rattle.packing.proofs.write_marks.Tie as tie
-use Rattle.packing.proofs.write_marks.Reads as reads
-use Rattle.packing.proofs.write_marks.Lts as lts
-use Rattle.packing.proofs.mark_byte.Reads as mark-byte-reads
 
 abbrev Inv-loop : tie.InvT-loop
 Inv-loop x₀ marks i₀ x i = (i ≤ 16) × (length x ≡ length x₀) × (x ≡ put x₀ 101 (markBytes (take i marks)))

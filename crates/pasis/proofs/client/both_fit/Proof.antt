@@ -2,7 +2,6 @@ use Rattle.pasis.specs.Client.{bothFit}
 use Rattle.session.proofs.Rules as rules
 use borrow.Author.Tests.{eq-eqb, ne-eqb}
 use mathlib.Core.Path.{refl}
-use borrow.Author.Needs.{needs}
 use Rattle.pasis.proofs.client.both_fit.Statement.{statement}
 use Rattle.pasis.proofs.client.both_fit.Tie as tie
 

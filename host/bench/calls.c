@@ -1,0 +1,198 @@
+// calls WHO WHAT N M F: one timing of the protocol, printed as microseconds a call; the script ./bench takes the best of five.
+//   WHO    ours: the calls of libpasis.a, on books and buffers in memory
+//          floor: what cannot be avoided of the same work: its hashes by OpenSSL and its copies by memcpy, and nothing else
+//   WHAT   time latest previous newest held: one request at a node whose book holds 20 records (newest: the 21st, put last)
+//          save open: a whole save or open by one client over N books, N - t nodes answering
+// A plan has t = b = 1 where N is 5, t = b = 2 where N is 16, crash clients, the repairable member. The floor of a request at a node: a
+// write hashes cross checksum and fragment and copies the record; a read copies it; a time request and a held record copy nothing (held:
+// the hashes). Of a save: N fragment hashes and one of the cross checksum at the client, N records laid out, then at each of the N - t
+// nodes the hashes and the copy of a write, and its frame. Of an open: at N - t nodes the copy of a read, at the client the hashes of each
+// record and its copy to the desk, and the item copied out.
+#define _POSIX_C_SOURCE 200809L
+#define OPENSSL_SUPPRESS_DEPRECATED
+#include <openssl/sha.h>
+#include <stdio.h>
+#include <stdlib.h>
+#include <string.h>
+#include <time.h>
+
+#include "../pasis.h"
+
+enum { MOST = 16, HELD = 20 };
+
+static uint8_t plan[PASIS_PLAN_SIZE], item[MOST * 1024], back[MOST * 1024], session[PASIS_SESSION_SIZE], ending[PASIS_ENDING_SIZE];
+static uint8_t books[MOST][PASIS_BOOK_MOST], saved[PASIS_BOOK_MOST], desk[MOST * 1592], request[1607], reply[1607], hold[1607];
+static size_t n, t, m, f, record, frame_room;
+static uint64_t ask = 1;
+
+static void fail(const char *why) {
+  fprintf(stderr, "calls: %s\n", why);
+  exit(1);
+}
+
+static double seconds(void) {
+  struct timespec now;
+  clock_gettime(CLOCK_PROCESS_CPUTIME_ID, &now);
+  return (double)now.tv_sec + (double)now.tv_nsec / 1e9;
+}
+
+// Microseconds a call of `work`: as many calls as fill a fifth of a second, after as many as fill a twentieth. What `before` does
+// between two calls is timed by itself and taken off.
+static double pace(void (*work)(void), void (*before)(void)) {
+  unsigned long calls = 0;
+  double start = seconds(), idle = 0;
+  do {
+    if (before) before();
+    work();
+    calls++;
+  } while (seconds() - start < 0.05);
+  calls *= 4;
+  if (before) {
+    start = seconds();
+    for (unsigned long i = 0; i < calls; i++) before();
+    idle = seconds() - start;
+  }
+  start = seconds();
+  for (unsigned long i = 0; i < calls; i++) {
+    if (before) before();
+    work();
+  }
+  return (seconds() - start - idle) / (double)calls * 1e6;
+}
+
+// ---- ours
+static void node(size_t i) {
+  if (pasis_node(plan, sizeof plan, request, pasis_frame_length(request), books[i], PASIS_BOOK_MOST, reply, frame_room) != PASIS_OK)
+    fail("a node refused");
+}
+
+static void owed(size_t i) {
+  if (pasis_owed(plan, sizeof plan, session, sizeof session, i, desk, n * record, request, frame_room) != PASIS_OK)
+    fail("no request is owed");
+}
+
+// One round: the first n - t nodes are asked and answer; the last answer is given back.
+static uint32_t round_of(int reading) {
+  uint32_t answer = 0;
+  for (size_t i = 0; i < n - t; i++) {
+    owed(i);
+    node(i);
+    answer = reading ? pasis_read_reply(plan, sizeof plan, session, sizeof session, reply, pasis_frame_length(reply), desk, n * record, back,
+                                        m * f, ending, sizeof ending)
+                     : pasis_write_reply(plan, sizeof plan, session, sizeof session, reply, pasis_frame_length(reply), desk, n * record, item,
+                                         m * f, ending, sizeof ending);
+    if (pasis_is_refusal(answer)) fail("a reply was refused");
+  }
+  return answer;
+}
+
+static void fresh_books(void) {
+  for (size_t i = 0; i < n; i++)
+    if (pasis_fresh_book(plan, sizeof plan, i, books[i], PASIS_BOOK_MOST) != PASIS_OK) fail("no fresh book");
+}
+
+static void ours_save(void) {
+  if (pasis_open_write(plan, sizeof plan, ask, session, sizeof session) != PASIS_OK) fail("a write did not open");
+  ask += 17;
+  if (round_of(0) != PASIS_OK || round_of(0) != PASIS_DONE) fail("a save did not end");
+}
+
+static void ours_open(void) {
+  if (pasis_open_read(plan, sizeof plan, ask, session, sizeof session) != PASIS_OK) fail("a read did not open");
+  ask += 17;
+  if (round_of(1) != PASIS_DONE) fail("an open did not end");
+}
+
+static void ours_request(void) { node(0); }
+
+static void book_back(void) { memcpy(books[0], saved, PASIS_BOOK_SIZE(n, f, HELD) + 64); }
+
+// A request frame of node 0, with the first `body` bytes of `from`.
+static void make(unsigned kind, const uint8_t *from, size_t body) {
+  memset(request, 0, PASIS_FRAME_HEAD);
+  request[2] = (uint8_t)((11 + body) >> 8);
+  request[3] = (uint8_t)(11 + body);
+  request[4] = 1;
+  request[5] = (uint8_t)kind;
+  memcpy(request + PASIS_FRAME_HEAD, from, body);
+}
+
+// ---- the floor
+static uint8_t digest[32];
+
+static void hashed(const uint8_t *at, size_t bytes) {
+  SHA256_CTX c;
+  if (!SHA256_Init(&c) || !SHA256_Update(&c, at, bytes) || !SHA256_Final(digest, &c)) fail("OpenSSL refused");
+}
+
+static void both_hashes(const uint8_t *r) {
+  hashed(r + 40, 32 * n);
+  hashed(r + 40 + 32 * n, f);
+}
+
+static void floor_copy(void) { memcpy(hold, desk, record); }
+static void floor_nothing(void) { memcpy(hold, desk, 23); }
+static void floor_hashes(void) { both_hashes(desk); }
+static void floor_write(void) {
+  both_hashes(desk);
+  memcpy(hold, desk, record);
+}
+static void floor_save(void) {
+  for (size_t i = 0; i < n; i++) hashed(desk + i * record, f);
+  hashed(desk, 32 * n);
+  for (size_t i = 0; i < n; i++) memcpy(books[1] + i * record, desk + i * record, record);
+  for (size_t i = 0; i < n - t; i++) {
+    memcpy(hold, desk + i * record, record);
+    floor_write();
+  }
+}
+static void floor_open(void) {
+  for (size_t i = 0; i < n - t; i++) {
+    memcpy(hold, desk + i * record, record);
+    both_hashes(desk + i * record);
+    memcpy(books[1] + i * record, hold, record);
+  }
+  memcpy(back, item, m * f);
+}
+
+static double timed(int ours, const char *what) {
+  if (!strcmp(what, "save")) return ours ? pace(ours_save, fresh_books) : pace(floor_save, NULL);
+  if (!strcmp(what, "open")) {
+    if (!ours) return pace(floor_open, NULL);
+    double us = pace(ours_open, NULL);
+    if (memcmp(back, item, m * f) != 0) fail("what was opened is not what was saved");
+    return us;
+  }
+  if (!strcmp(what, "time")) return make(1, desk, 0), ours ? pace(ours_request, NULL) : pace(floor_nothing, NULL);
+  if (!strcmp(what, "latest")) return make(5, desk, 0), ours ? pace(ours_request, NULL) : pace(floor_copy, NULL);
+  if (!strcmp(what, "previous")) return make(6, books[0] + 11 + (HELD - 1) * record, 40), ours ? pace(ours_request, NULL) : pace(floor_copy, NULL);
+  if (!strcmp(what, "held")) return make(3, books[0] + 11 + (HELD - 1) * record, record), ours ? pace(ours_request, NULL) : pace(floor_hashes, NULL);
+  if (!strcmp(what, "newest")) {
+    memcpy(saved, books[0], sizeof saved);
+    ours_save();
+    memcpy(hold, books[0] + 11 + HELD * record, record);
+    make(3, hold, record);
+    book_back();
+    return ours ? pace(ours_request, book_back) : pace(floor_write, NULL);
+  }
+  fail("no such work");
+  return 0;
+}
+
+int main(int count, char **words) {
+  if (count != 6) fail("usage: calls ours|floor time|latest|previous|newest|held|save|open N M F");
+  n = strtoul(words[3], NULL, 10), m = strtoul(words[4], NULL, 10), f = strtoul(words[5], NULL, 10);
+  if (n > MOST || m > n || f > 1024) fail("N, m or F is too large");
+  t = n < 16 ? 1 : 2;
+  struct pasis_plan p = {(uint8_t)n, (uint8_t)t, (uint8_t)t, (uint8_t)(n - 2 * t), (uint8_t)m, (uint16_t)f, PASIS_REPAIRABLE, PASIS_CRASH, 16};
+  pasis_plan_bytes(&p, plan);
+  record = PASIS_RECORD_SIZE(n, f), frame_room = PASIS_FRAME_SIZE(n, f);
+  for (size_t i = 0; i < m * f; i++) item[i] = (uint8_t)(i * 2654435761u >> 13);
+  fresh_books();
+  for (int i = 0; i < HELD; i++) {
+    item[0] = (uint8_t)i;
+    ours_save();
+  }
+  printf("%.3f\n", timed(!strcmp(words[1], "ours"), words[2]));
+  return 0;
+}

@@ -1,0 +1,65 @@
+// pasis.h from C++: its macros against its functions, and both against the archive. Ends with 0 if all agree, else with 1 and a line.
+#include <cstdio>
+#include <cstring>
+#include <vector>
+
+#include "pasis.h"
+
+#define MUST(what)                                                     \
+  do {                                                                 \
+    if (!(what)) {                                                     \
+      std::fprintf(stderr, "header: line %d: %s\n", __LINE__, #what); \
+      return 1;                                                        \
+    }                                                                  \
+  } while (0)
+
+static_assert(PASIS_RECORD_SIZE(5, 4) == 204, "document 01: N5 F4, R 204");
+static_assert(PASIS_BOOK_SIZE(5, 4, 2) == 419, "document 01: N5 F4, two records, 419 bytes");
+static_assert((PASIS_BOOK_MOST - 11) / PASIS_RECORD_SIZE(16, 1024) == 41, "document 01: N16 F1024, 41 records");
+
+// The sizes that the header gives are those that the library takes, and no others.
+static int sizes(const uint8_t *plan) {
+  std::vector<uint8_t> session(PASIS_SESSION_SIZE), desk(pasis_desk_size(plan)), frame(pasis_frame_size(plan));
+  std::vector<uint8_t> item(pasis_item_size(plan)), ending(PASIS_ENDING_SIZE), reply(1);
+  MUST(pasis_open_read(plan, 11, 7, session.data(), session.size() - 1) == PASIS_REFUSED_LENGTH);
+  MUST(pasis_open_read(plan, 11, 7, session.data(), session.size()) == PASIS_OK);
+  MUST(pasis_owed(plan, 11, session.data(), 117, 0, desk.data(), desk.size() - 1, frame.data(), frame.size()) == PASIS_REFUSED_LENGTH);
+  MUST(pasis_owed(plan, 11, session.data(), 117, 0, desk.data(), desk.size(), frame.data(), frame.size() - 1) == PASIS_REFUSED_LENGTH);
+  MUST(pasis_owed(plan, 11, session.data(), 117, 0, desk.data(), desk.size(), frame.data(), frame.size()) == PASIS_OK);
+  MUST(pasis_frame_length(frame.data()) == PASIS_FRAME_HEAD && pasis_frame_node(frame.data()) == 0);
+  MUST(pasis_number(frame.data() + 7, 8) == 7);
+  for (size_t wrong = 0; wrong < 3; wrong++) {
+    uint32_t answer = pasis_read_reply(plan, 11, session.data(), 117, reply.data(), 1, desk.data(), desk.size(), item.data(),
+                                       item.size() - (wrong == 1), ending.data(), ending.size() - (wrong == 2));
+    MUST(answer == (wrong ? PASIS_REFUSED_LENGTH : PASIS_REFUSED_FRAME));
+  }
+  return 0;
+}
+
+// Every answer has words of its own.
+static int words() {
+  std::vector<uint32_t> answers = {0, 101, 102, 103, 104, 105};
+  for (uint32_t refusal = 1; refusal <= 14; refusal++) answers.push_back(refusal);
+  for (uint32_t a : answers) {
+    MUST(std::strcmp(pasis_strerror(a), pasis_strerror(77)) != 0);
+    MUST(pasis_is_refusal(a) + pasis_is_ending(a) + (a == PASIS_OK) == 1);
+    for (uint32_t b : answers) MUST(a == b || std::strcmp(pasis_strerror(a), pasis_strerror(b)) != 0);
+  }
+  return 0;
+}
+
+int main() {
+  MUST(pasis_interface() == PASIS_INTERFACE && pasis_session_size() == PASIS_SESSION_SIZE);
+  MUST(pasis_plan_size() == PASIS_PLAN_SIZE && pasis_ending_size() == PASIS_ENDING_SIZE);
+  const pasis_plan values[] = {{5, 1, 1, 3, 2, 4, PASIS_REPAIRABLE, PASIS_CRASH, 16},
+                               {7, 1, 1, 3, 4, 300, PASIS_NON_REPAIR, PASIS_BYZANTINE, 1000},
+                               {16, 3, 1, 12, 8, 1024, PASIS_REPAIRABLE, PASIS_BYZANTINE, 65535}};
+  for (const pasis_plan &p : values) {
+    uint8_t plan[PASIS_PLAN_SIZE];
+    pasis_plan_bytes(&p, plan);
+    MUST(pasis_record_size(plan) == PASIS_RECORD_SIZE(p.N, p.F) && pasis_desk_size(plan) == PASIS_DESK_SIZE(p.N, p.F));
+    MUST(pasis_item_size(plan) == PASIS_ITEM_SIZE(p.m, p.F) && pasis_frame_size(plan) == PASIS_FRAME_SIZE(p.N, p.F));
+    if (sizes(plan)) return 1;
+  }
+  return words();
+}

@@ -1,0 +1,129 @@
+//! What a call answers: a refusal, or where the operation stands.
+
+use std::fmt;
+
+/// The refusals of document 01, under its numbers.
+#[derive(Clone, Copy, Debug, PartialEq, Eq)]
+pub enum Refusal {
+    Plan,
+    Length,
+    Book,
+    Frame,
+    Time,
+    Hash,
+    Held,
+    Room,
+    Session,
+    Awaited,
+    Heard,
+    Bound,
+    Ask,
+    Ended,
+    /// A number that this interface does not have.
+    Other(u32),
+}
+
+const KNOWN: [(Refusal, &str); 14] = [
+    (Refusal::Plan, "plan outside its rules"),
+    (Refusal::Length, "a lent length is wrong"),
+    (Refusal::Book, "book not of this shape, or not of this plan"),
+    (
+        Refusal::Frame,
+        "frame length (for its kind too), version, kind for this party, or node wrong; a node number of N or more",
+    ),
+    (Refusal::Time, "time 0 in a record or a bound"),
+    (Refusal::Hash, "a hash check fails"),
+    (Refusal::Held, "same timestamp held with other bytes"),
+    (Refusal::Room, "no room in the book for R more bytes"),
+    (Refusal::Session, "session out of its ranges, or of the other operation"),
+    (Refusal::Awaited, "ask number, kind or write timestamp not the one awaited"),
+    (Refusal::Heard, "this node is already heard"),
+    (Refusal::Bound, "reply not strictly below the bound"),
+    (Refusal::Ask, "opening ask number plus W above 2^64-1"),
+    (Refusal::Ended, "session has ended"),
+];
+
+impl Refusal {
+    pub(crate) fn from_number(number: u32) -> Refusal {
+        let known = (number as usize).checked_sub(1).and_then(|at| KNOWN.get(at));
+        known.map_or(Refusal::Other(number), |(refusal, _)| *refusal)
+    }
+
+    /// Document 01's number.
+    pub fn number(self) -> u32 {
+        match self {
+            Refusal::Other(number) => number,
+            known => KNOWN.iter().position(|(refusal, _)| *refusal == known).map_or(0, |at| at as u32 + 1),
+        }
+    }
+}
+
+impl fmt::Display for Refusal {
+    fn fmt(&self, f: &mut fmt::Formatter<'_>) -> fmt::Result {
+        let words = KNOWN.iter().find(|(refusal, _)| refusal == self).map(|(_, words)| *words);
+        write!(f, "refusal {}: {}", self.number(), words.unwrap_or("not a number of this interface"))
+    }
+}
+
+impl std::error::Error for Refusal {}
+
+/// An 8 byte time, then the hash of the cross checksum; ordered as document 01 orders them.
+#[derive(Clone, Copy, PartialEq, Eq, PartialOrd, Ord, Hash)]
+pub struct Timestamp(pub [u8; 40]);
+
+impl Timestamp {
+    pub fn time(&self) -> u64 {
+        u64::from_be_bytes(*self.0.first_chunk().expect("40 bytes"))
+    }
+}
+
+/// The time and the first 4 bytes of the verifier, for people: `7:3fa90c11`.
+impl fmt::Display for Timestamp {
+    fn fmt(&self, f: &mut fmt::Formatter<'_>) -> fmt::Result {
+        let head: String = self.0[8..12].iter().map(|byte| format!("{byte:02x}")).collect();
+        f.pad(&format!("{}:{head}", self.time()))
+    }
+}
+
+impl fmt::Debug for Timestamp {
+    fn fmt(&self, f: &mut fmt::Formatter<'_>) -> fmt::Result {
+        fmt::Display::fmt(self, f)
+    }
+}
+
+/// What an accepted reply brings. Rounds are the read rounds that were used; a write has none and says 0.
+#[derive(Clone, Copy, Debug, PartialEq, Eq)]
+pub enum Answer {
+    /// The operation goes on.
+    Open,
+    Done {
+        timestamp: Timestamp,
+        rounds: u16,
+    },
+    NeverWritten {
+        rounds: u16,
+    },
+    Aborted {
+        rounds: u16,
+    },
+    RoundsSpent {
+        rounds: u16,
+    },
+    ClockSpent,
+}
+
+impl Answer {
+    pub(crate) fn from_number(number: u32, ending: &[u8; 42]) -> Result<Answer, Refusal> {
+        let timestamp = Timestamp(*ending.first_chunk().expect("42 bytes"));
+        let rounds = u16::from_be_bytes(*ending.last_chunk().expect("42 bytes"));
+        Ok(match number {
+            0 => Answer::Open,
+            101 => Answer::Done { timestamp, rounds },
+            102 => Answer::NeverWritten { rounds },
+            103 => Answer::Aborted { rounds },
+            104 => Answer::RoundsSpent { rounds },
+            105 => Answer::ClockSpent,
+            refusal => return Err(Refusal::from_number(refusal)),
+        })
+    }
+}

@@ -1,0 +1,60 @@
+//! Files: written whole or not at all, read up to a limit.
+
+use std::ffi::OsStr;
+use std::fs::{self, File, OpenOptions};
+use std::io::{self, Read, Write};
+use std::path::{Path, PathBuf};
+
+/// `path` with something behind its name.
+fn beside(path: &Path, ending: &str) -> PathBuf {
+    let mut name = path.as_os_str().to_os_string();
+    name.push(ending);
+    PathBuf::from(name)
+}
+
+/// The folder that a file lies in.
+fn folder_of(path: &Path) -> &Path {
+    match path.parent() {
+        Some(folder) if folder != Path::new("") => folder,
+        _ => Path::new("."),
+    }
+}
+
+/// Puts these bytes in the place of a file: a new file, fsync, rename, fsync of the folder. A crash at any moment leaves the old file or the
+/// new one, whole. A file that cannot be finished is taken away again.
+fn replace(path: &Path, new: &Path, bytes: &[u8], options: &mut OpenOptions) -> io::Result<()> {
+    let mut file = options.write(true).open(new)?;
+    let written = file.write_all(bytes).and_then(|()| file.sync_all()).and_then(|()| fs::rename(new, path));
+    if written.is_err() {
+        let _ = fs::remove_file(new);
+    }
+    written?;
+    File::open(folder_of(path))?.sync_all()
+}
+
+/// A file of our own folder; what an earlier crash left behind as NAME.new is written over.
+pub fn keep(path: &Path, bytes: &[u8]) -> io::Result<()> {
+    replace(path, &beside(path, ".new"), bytes, OpenOptions::new().create(true).truncate(true))
+}
+
+/// A file of somebody's: no other file is touched, a link is followed, and a pipe or device is written as it is.
+pub fn give(path: &Path, bytes: &[u8]) -> io::Result<()> {
+    let path = fs::canonicalize(path).unwrap_or_else(|_| path.to_path_buf());
+    if fs::metadata(&path).is_ok_and(|is| !is.is_file()) {
+        return OpenOptions::new().write(true).open(&path)?.write_all(bytes);
+    }
+    let new = beside(&path, &format!(".{}.new", std::process::id()));
+    replace(&path, &new, bytes, OpenOptions::new().create_new(true))
+}
+
+/// All of a file, or of standard input where its name is `-`; of more than `most` bytes the first most+1.
+pub fn read(path: &OsStr, most: usize) -> io::Result<Vec<u8>> {
+    let mut bytes = Vec::new();
+    let most = most as u64 + 1;
+    if path == "-" {
+        io::stdin().lock().take(most).read_to_end(&mut bytes)?;
+    } else {
+        File::open(path)?.take(most).read_to_end(&mut bytes)?;
+    }
+    Ok(bytes)
+}

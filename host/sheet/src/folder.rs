@@ -1,0 +1,135 @@
+//! The folder of a sheet: `plan`, `ask` (the next unused ask number) and the books `book-0` to `book-(N-1)`.
+
+use crate::code::{fault, Code, Fault};
+use crate::files;
+use crate::plan_text;
+use pasis::{Plan, BOOK_MOST};
+use std::ffi::OsStr;
+use std::fs::{self, File, TryLockError};
+use std::io::{self, Write};
+use std::path::{Path, PathBuf};
+
+pub struct Folder {
+    pub path: PathBuf,
+    pub plan: Plan,
+    /// Held until the command ends, so that no other command of this folder runs beside it.
+    _lock: File,
+}
+
+/// What stands between us and a node's book; a node without one is silent.
+pub type Silence = String;
+
+pub fn missing(error: &io::Error) -> bool {
+    [io::ErrorKind::NotFound, io::ErrorKind::NotADirectory].contains(&error.kind())
+}
+
+/// Waits until the folder is ours.
+fn lock(path: &Path) -> Result<File, Fault> {
+    let failed = |error: io::Error| Fault { code: Code::System, line: format!("{}: {error}", path.display()) };
+    let file = match File::open(path) {
+        Err(error) if missing(&error) => {
+            return fault(Code::WrongUse, format!("{}: there is no sheet here (sheet new makes one)", path.display()))
+        }
+        other => other.map_err(failed)?,
+    };
+    match file.try_lock() {
+        Ok(()) => return Ok(file),
+        Err(TryLockError::WouldBlock) => {
+            let _ = writeln!(io::stderr(), "sheet: {}: in use, waiting", path.display());
+        }
+        Err(TryLockError::Error(error)) => return Err(failed(error)),
+    }
+    file.lock().map_err(failed)?;
+    Ok(file)
+}
+
+/// The plan of a file, within its rules.
+pub fn read_plan(path: &OsStr, code: Code) -> Result<Plan, Fault> {
+    let shown = path.display();
+    let bytes = match files::read(path, 4096) {
+        Ok(bytes) => bytes,
+        Err(error) if missing(&error) => return fault(Code::WrongUse, format!("{shown}: no such file")),
+        Err(error) => return fault(Code::System, format!("{shown}: {error}")),
+    };
+    let Some(text) = String::from_utf8(bytes).ok().filter(|text| text.len() <= 4096) else {
+        return fault(code, format!("{shown}: this is not a plan's nine lines of text"));
+    };
+    let plan = plan_text::read(&text).or_else(|why| fault(code, format!("{shown}: {why}")))?;
+    match plan.check() {
+        Ok(()) => Ok(plan),
+        Err(refusal) => fault(code, format!("{shown}: {refusal}; sheet new --help has the rules")),
+    }
+}
+
+impl Folder {
+    pub fn enter(path: &Path) -> Result<Folder, Fault> {
+        let file = path.join("plan");
+        let lock = lock(&file)?;
+        let plan = read_plan(file.as_os_str(), Code::Damaged)?;
+        Ok(Folder { path: path.to_path_buf(), plan, _lock: lock })
+    }
+
+    /// A new sheet. The plan is written last: a folder without a plan is no sheet.
+    pub fn make(path: &Path, plan: &Plan, room: usize) -> Result<(), Fault> {
+        let failed = |error: io::Error| Fault { code: Code::System, line: format!("{}: {error}", path.display()) };
+        if fs::metadata(path).is_ok_and(|is| !is.is_dir()) {
+            return fault(Code::WrongUse, format!("{}: this is not a folder", path.display()));
+        }
+        fs::create_dir_all(path).map_err(failed)?;
+        if fs::read_dir(path).map_err(failed)?.next().is_some() {
+            return fault(Code::WrongUse, format!("{}: the folder is not empty; nothing was written", path.display()));
+        }
+        for node in 0..u64::from(plan.n) {
+            let mut book = vec![0; room];
+            if let Err(refusal) = pasis::fresh_book(plan, node, &mut book) {
+                return fault(Code::WrongUse, format!("book-{node}: {refusal}"));
+            }
+            files::keep(&path.join(format!("book-{node}")), &book).map_err(failed)?;
+        }
+        files::keep(&path.join("ask"), b"1\n").map_err(failed)?;
+        files::keep(&path.join("plan"), plan_text::write(plan).as_bytes()).map_err(failed)
+    }
+
+    pub fn book_path(&self, node: usize) -> PathBuf {
+        self.path.join(format!("book-{node}"))
+    }
+
+    /// A node's book, or why it cannot be had. A missing book is not made anew: an empty book in its place would be a lie.
+    pub fn book(&self, node: usize) -> Result<Vec<u8>, Silence> {
+        match files::read(self.book_path(node).as_os_str(), BOOK_MOST) {
+            Ok(bytes) => Ok(bytes),
+            Err(error) if missing(&error) => Err("missing".to_string()),
+            Err(error) => Err(format!("cannot be read: {error}")),
+        }
+    }
+
+    /// The next unused ask number.
+    pub fn next_ask(&self) -> Result<u64, Fault> {
+        let path = self.path.join("ask");
+        let shown = path.display();
+        let advice = "put a number above all that were used into it";
+        let text = match files::read(path.as_os_str(), 32) {
+            Ok(bytes) => String::from_utf8_lossy(&bytes).trim_end().to_string(),
+            Err(error) if missing(&error) => return fault(Code::Damaged, format!("{shown}: missing; {advice}")),
+            Err(error) => return fault(Code::System, format!("{shown}: {error}")),
+        };
+        let digits = !text.is_empty() && text.bytes().all(|byte| byte.is_ascii_digit());
+        match text.parse() {
+            Ok(ask) if digits => Ok(ask),
+            _ => fault(Code::Damaged, format!("{shown}: this is not an ask number; {advice}")),
+        }
+    }
+
+    /// The first of W+1 ask numbers for an operation. That they are used stands in the file before this comes back.
+    pub fn take_ask(&self) -> Result<u64, Fault> {
+        let ask = self.next_ask()?;
+        let path = self.path.join("ask");
+        let Some(next) = ask.checked_add(u64::from(self.plan.w) + 1) else {
+            return fault(Code::Damaged, format!("{}: the ask numbers are used up", path.display()));
+        };
+        match files::keep(&path, format!("{next}\n").as_bytes()) {
+            Ok(()) => Ok(ask),
+            Err(error) => fault(Code::System, format!("{}: {error}", path.display())),
+        }
+    }
+}

@@ -1,0 +1,348 @@
+//! The command as people meet it: each exit code, wrong use, damaged books, and that nothing is lost.
+
+use std::fs;
+use std::io::Write;
+use std::path::{Path, PathBuf};
+use std::process::{Command, Stdio};
+
+/// A folder for one test, taken away at its end.
+struct Place(PathBuf);
+
+impl Place {
+    fn new(name: &str) -> Place {
+        let path = std::env::temp_dir().join(format!("sheet-test-{}-{name}", std::process::id()));
+        let _ = fs::remove_dir_all(&path);
+        fs::create_dir(&path).expect("a temporary folder");
+        Place(path)
+    }
+
+    fn file(&self, name: &str) -> PathBuf {
+        self.0.join(name)
+    }
+
+    fn put(&self, name: &str, bytes: impl AsRef<[u8]>) {
+        fs::write(self.file(name), bytes).expect("a file");
+    }
+
+    fn get(&self, name: &str) -> Vec<u8> {
+        fs::read(self.file(name)).expect("a file")
+    }
+
+    /// `sheet` with these words, in this folder: exit code, standard output, standard error.
+    fn sheet(&self, words: &str) -> (i32, String, String) {
+        self.sheet_with(words, b"")
+    }
+
+    fn sheet_with(&self, words: &str, input: &[u8]) -> (i32, String, String) {
+        let mut command = Command::new(env!("CARGO_BIN_EXE_sheet"));
+        command.args(words.split_whitespace()).current_dir(&self.0);
+        command.stdin(Stdio::piped()).stdout(Stdio::piped()).stderr(Stdio::piped());
+        let mut child = command.spawn().expect("it starts");
+        let _ = child.stdin.take().expect("a pipe").write_all(input);
+        let output = child.wait_with_output().expect("it ends");
+        let text = |bytes: Vec<u8>| String::from_utf8_lossy(&bytes).into_owned();
+        (output.status.code().expect("a code"), text(output.stdout), text(output.stderr))
+    }
+
+    fn code(&self, words: &str) -> i32 {
+        self.sheet(words).0
+    }
+
+    /// All bytes of the sheet `s`.
+    fn bytes(&self) -> Vec<(PathBuf, Vec<u8>)> {
+        let files = fs::read_dir(self.file("s")).expect("a folder").map(|entry| entry.expect("an entry").path());
+        let mut all: Vec<_> = files.map(|path| (path.clone(), fs::read(&path).expect("a file"))).collect();
+        all.sort();
+        all
+    }
+
+    /// Changes one byte of a file.
+    fn damage(&self, name: &str, at: usize) {
+        let mut bytes = self.get(name);
+        bytes[at] ^= 0xff;
+        self.put(name, bytes);
+    }
+}
+
+impl Drop for Place {
+    fn drop(&mut self) {
+        let _ = fs::remove_dir_all(&self.0);
+    }
+}
+
+fn plan(n: u8, t: u8, b: u8, q: u8, m: u8, member: &str, w: u16) -> String {
+    format!("# a plan\nN {n}\nt {t}\nb {b}\nQ {q}\nm {m}\nF 4  # small\nmember {member}\nclients crash\n\nW {w}\n")
+}
+
+/// A sheet `s` of five nodes and blocks of 8 bytes, and two blocks `one` and `two`.
+fn five(name: &str) -> Place {
+    let place = Place::new(name);
+    place.put("p", plan(5, 1, 1, 3, 2, "repairable", 3));
+    place.put("one", "one leaf");
+    place.put("two", "two leaf");
+    assert_eq!(place.code("new s --plan p"), 0);
+    place
+}
+
+/// One clear line on standard error.
+fn one_line(text: &str) -> bool {
+    text.starts_with("sheet: ") && text.ends_with('\n') && text.lines().count() == 1
+}
+
+#[test]
+fn a_save_and_an_open() {
+    let place = five("save");
+    assert_eq!(place.code("open s out"), 3);
+    assert!(!place.file("out").exists());
+    let (code, out, err) = place.sheet("save s one");
+    assert_eq!((code, err.as_str()), (0, ""));
+    assert!(out.starts_with("saved: 1:") && out.ends_with("stored at nodes 0 1 2 3 4\n"), "{out}");
+    assert_eq!(place.code("save s two --down 3"), 0);
+    assert_eq!(place.code("open s out --down=0"), 0);
+    assert_eq!(place.get("out"), b"two leaf");
+    assert_eq!(place.get("s/ask"), b"17\n");
+    assert_eq!(place.code("check s"), 0);
+}
+
+#[test]
+fn standard_input_and_output() {
+    let place = five("pipes");
+    assert_eq!(place.sheet_with("save s -", b"by pipe.").0, 0);
+    let (code, out, err) = place.sheet("open s -");
+    assert_eq!((code, out.as_str()), (0, "by pipe."));
+    assert!(err.starts_with("done: 1:"), "{err}");
+    assert_eq!(place.sheet_with("save s -", b"too long for it").0, 2);
+    assert_eq!(place.sheet_with("new q --plan -", plan(1, 0, 0, 1, 1, "non-repair", 1).as_bytes()).0, 0);
+}
+
+#[test]
+fn a_save_in_part_is_passed_or_repaired() {
+    let place = five("part");
+    assert_eq!(place.code("save s one"), 0);
+    let (code, out, _) = place.sheet("save s two --stop-after 2");
+    assert!(code == 1 && out.starts_with("cut off: 2:") && out.ends_with("stored at nodes 0 1\n"), "{out}");
+    assert_eq!(place.code("open s out --down 1"), 0);
+    assert_eq!(place.get("out"), b"one leaf");
+    let before = place.bytes();
+    let (_, out, _) = place.sheet("show s");
+    assert!(out.contains("its set nodes 0 1: unclassifiable, repair\n"), "{out}");
+    assert_eq!(place.bytes(), before, "show wrote");
+    assert_eq!(place.code("open s out"), 0);
+    assert_eq!(place.get("out"), b"two leaf");
+    let (_, out, _) = place.sheet("show s");
+    assert!(out.contains("its set nodes 0 1 2 3: complete\n"), "{out}");
+}
+
+#[test]
+fn endings_without_a_value() {
+    let place = Place::new("endings");
+    place.put("p", plan(7, 1, 1, 3, 4, "non-repair", 3));
+    place.put("block", "four by four run");
+    assert_eq!(place.code("new s --plan p"), 0);
+    assert_eq!(place.code("save s block --stop-after 3"), 1);
+    assert_eq!(place.code("open s out"), 4);
+    place.put("p", plan(5, 1, 1, 3, 2, "repairable", 1));
+    place.put("one", "one leaf");
+    assert_eq!(place.code("new w --plan p"), 0);
+    assert_eq!(place.code("save w one --stop-after 1"), 1);
+    assert_eq!(place.code("open w out"), 5);
+    assert!(!place.file("out").exists());
+}
+
+#[test]
+fn clock_spent_and_full_books() {
+    let place = Place::new("clock");
+    place.put("p", plan(1, 0, 0, 1, 1, "repairable", 1));
+    place.put("leaf", "leaf");
+    assert_eq!(place.code("new s --plan p --room 87"), 0);
+    assert_eq!(place.code("save s leaf"), 0);
+    let (code, out, err) = place.sheet("save s leaf");
+    assert_eq!((code, err.as_str()), (7, "sheet: book-0: full; node 0 counts as silent\n"));
+    assert!(out.ends_with("nothing was stored\n"), "{out}");
+    let mut book = place.get("s/book-0");
+    book[11..19].fill(0xff);
+    place.put("s/book-0", book);
+    assert_eq!(place.code("save s leaf"), 6);
+}
+
+#[test]
+fn too_few_nodes() {
+    let place = five("few");
+    assert_eq!(place.code("save s one"), 0);
+    let (code, out, _) = place.sheet("save s two --down 0,4");
+    assert_eq!(code, 7);
+    assert!(out.starts_with("no end: the time round heard nodes 1 2 3, and 4 replies end it"), "{out}");
+    assert_eq!(place.code("open s out --down 0,4"), 7);
+    let (_, out, _) = place.sheet("show s --down 0,4");
+    assert!(out.contains("round 1  heard nodes 1 2 3: not closed\nverdict  no end: the read round heard"), "{out}");
+}
+
+#[test]
+fn damaged_books_count_as_silent() {
+    let place = five("damage");
+    assert_eq!(place.code("save s one"), 0);
+    let last = 11 + 204 - 1;
+    place.damage("s/book-1", last);
+    let (code, out, _) = place.sheet("check s");
+    assert_eq!(code, 8);
+    assert!(out.contains("book-1: damaged: a hash check fails in 1:"), "{out}");
+    assert!(
+        out.ends_with("1 of 5 books not good, 1 of them serving: within what the plan allows (t 1, b 1)\n"),
+        "{out}"
+    );
+    let (code, _, err) = place.sheet("open s out");
+    assert!(code == 0 && one_line(&err) && err.contains("refusal 6"), "{err}");
+    assert_eq!(place.get("out"), b"one leaf");
+    place.damage("s/book-1", 4);
+    assert!(place.sheet("check s").1.contains("book-1: damaged (refusal 3: "));
+    fs::remove_file(place.file("s/book-1")).expect("removed");
+    let (code, _, err) = place.sheet("save s two");
+    assert_eq!((code, err.as_str()), (0, "sheet: book-1: missing; node 1 counts as silent\n"));
+    assert!(!place.file("s/book-1").exists());
+    fs::copy(place.file("s/book-0"), place.file("s/book-1")).expect("copied");
+    assert!(place.sheet("check s").1.contains("book-1: damaged: it is the book of another node"));
+    place.put("s/book-1", vec![0; 65_537]);
+    assert!(place.sheet("check s").1.contains("book-1: damaged: 65537 bytes"));
+    fs::remove_file(place.file("s/book-2")).expect("removed");
+    assert!(place.sheet("check s").1.contains("MORE than what the plan allows"));
+    assert_eq!(place.code("open s out"), 7);
+}
+
+#[test]
+fn wrong_use_is_one_line_and_loses_nothing() {
+    let place = five("wrong");
+    assert_eq!(place.code("save s one"), 0);
+    let before = place.bytes();
+    place.put("bad", plan(5, 1, 1, 4, 2, "repairable", 3));
+    place.put("worse", "N 5\nt one\n");
+    #[rustfmt::skip]
+    let wrong = [
+        "", "paint s", "save", "save s", "save s one two", "save s nothing", "save s p", "save s one --down 5",
+        "save s one --down 1,", "save s one --down", "save s one --down=0 --down=1", "save s one --stop-after 6",
+        "save s one --stop-after few", "open s", "open s out --stop-after 1", "show", "show nowhere", "show one", "check s s",
+        "check s --json=yes", "new s", "new one", "new q --plan bad", "new q --plan worse", "new q --plan nothing",
+        "new q --room 10", "new q --room 65537", "show s --al",
+    ];
+    for words in wrong {
+        let (code, out, err) = place.sheet(words);
+        assert_eq!((code, out.as_str()), (2, ""), "sheet {words}: {err}");
+        assert!(one_line(&err), "sheet {words}: {err}");
+    }
+    assert_eq!(place.bytes(), before);
+    assert!(!place.file("q").exists());
+    assert!(place.sheet("new q --plan worse").2.contains("worse: line 2: t is a number, at most 255"));
+}
+
+#[test]
+fn a_damaged_folder_and_a_failing_system() {
+    let place = five("folder");
+    assert_eq!(place.code("save s one"), 0);
+    let (ask, plan) = (place.get("s/ask"), place.get("s/plan"));
+    for bad in ["", "x\n", "-1\n", "18446744073709551616\n", "18446744073709551615\n"] {
+        place.put("s/ask", bad);
+        let before = place.bytes();
+        let (code, _, err) = place.sheet("open s out");
+        assert!(code == 8 && one_line(&err), "{bad}: {err}");
+        assert_eq!(place.bytes(), before);
+    }
+    place.put("s/ask", ask);
+    place.put("s/plan", "N 5\n");
+    let (code, _, err) = place.sheet("check s");
+    assert_eq!((code, err.as_str()), (8, "sheet: s/plan: there is no line t and its value\n"));
+    place.put("s/plan", plan);
+    let (code, _, err) = place.sheet("open s nowhere/out");
+    assert!(code == 9 && one_line(&err), "{err}");
+    place.put("out", "old");
+    assert_eq!(place.code("open s out --down 0,1"), 7);
+    assert_eq!(place.get("out"), b"old");
+}
+
+#[test]
+fn what_a_crash_left_behind_is_not_read() {
+    let place = five("crash");
+    assert_eq!(place.code("save s one"), 0);
+    place.put("s/book-0.new", "half a b");
+    assert_eq!(place.code("save s two"), 0);
+    assert!(!place.file("s/book-0.new").exists());
+    assert_eq!(place.code("open s out"), 0);
+    assert_eq!(place.get("out"), b"two leaf");
+}
+
+/// Saves that are killed at moments spread over the time that a save takes: every book stays good, and an open ends with one of the blocks.
+/// Each may leave a save at one node, which costs every later open a round, so W is above their number.
+#[test]
+fn killed_at_any_moment() {
+    let place = five("killed");
+    place.put("p", plan(5, 1, 1, 3, 2, "repairable", 64));
+    fs::remove_dir_all(place.file("s")).expect("removed");
+    assert_eq!(place.code("new s --plan p"), 0);
+    assert_eq!(place.code("save s one"), 0);
+    for turn in 0..25 {
+        let mut command = Command::new(env!("CARGO_BIN_EXE_sheet"));
+        command.args(["save", "s", "two"]).current_dir(&place.0).stdout(Stdio::null()).stderr(Stdio::null());
+        let mut child = command.spawn().expect("it starts");
+        std::thread::sleep(std::time::Duration::from_micros(700 * turn));
+        let _ = child.kill();
+        child.wait().expect("it ends");
+        let (code, out, _) = place.sheet("check s");
+        assert_eq!(code, 0, "{out}");
+        assert_eq!(place.code("open s out"), 0);
+        assert!([b"one leaf", b"two leaf"].contains(&place.get("out").as_slice().try_into().expect("8 bytes")));
+    }
+}
+
+/// A disk that takes no more: the node whose book cannot be written is silent, and no file is lost.
+#[test]
+fn a_book_that_cannot_be_written() {
+    let place = five("disk");
+    assert_eq!(place.code("save s one"), 0);
+    for node in 0..5 {
+        fs::create_dir(place.file(&format!("s/book-{node}.new"))).expect("in the way of the new file");
+    }
+    let books = |place: &Place| (0..5).map(|node| place.get(&format!("s/book-{node}"))).collect::<Vec<_>>();
+    let before = books(&place);
+    let (code, out, err) = place.sheet("save s two");
+    assert!(code == 7 && out.ends_with("nothing was stored\n"), "{out}");
+    assert_eq!(err.lines().filter(|line| line.contains("cannot be written: ")).count(), 5, "{err}");
+    assert_eq!(books(&place), before);
+}
+
+#[test]
+fn two_at_once_take_turns() {
+    let place = five("turns");
+    std::thread::scope(|scope| {
+        let saves: Vec<_> = (0..4).map(|_| scope.spawn(|| place.code("save s one"))).collect();
+        for save in saves {
+            assert_eq!(save.join().expect("no panic"), 0);
+        }
+    });
+    assert_eq!(place.get("s/ask"), b"17\n");
+    assert!(place.sheet("open s out").1.starts_with("done: 4:"));
+}
+
+#[test]
+fn json_is_one_object() {
+    let place = five("json");
+    let object = |words: &str| {
+        let (_, out, _) = place.sheet(words);
+        assert!(out.starts_with("{\"code\":") && out.ends_with("}\n") && out.lines().count() == 1, "{out}");
+        out
+    };
+    assert!(object("save s one --json").contains("\"outcome\":\"done\",\"timestamp\":\"1:"));
+    assert!(object("show s --json").contains("\"set\":[0,1,2,3],\"verdict\":\"complete\""));
+    assert!(object("check s --json").contains("\"bad\":0,\"within\":true"));
+    assert!(object("open s out --json").contains("\"rounds\":1"));
+    assert!(object("open s --json").contains("\"outcome\":\"wrong use\",\"error\":\"sheet open wants a FILE"));
+}
+
+#[test]
+fn help_at_each_verb() {
+    let place = Place::new("help");
+    for words in ["--help", "new --help", "save --help", "open s -h", "show --help", "check --help --json"] {
+        let (code, out, err) = place.sheet(words);
+        assert_eq!((code, err.as_str()), (0, ""), "{words}");
+        assert!(out.contains("Exit codes:\n  0  done\n") && out.contains("  9  system"), "{words}");
+    }
+    assert_eq!(place.sheet("--version").1, "sheet 1.0.0, interface 1 of libpasis\n");
+    assert!(Path::new(env!("CARGO_BIN_EXE_sheet")).is_file());
+}

@@ -271,7 +271,7 @@ impl Block<'_> {
         } += 1;
     }
 
-    /// All nodes speak again and all that is under way arrives; an open; a save and an open that must return it. Then the books and
+    /// All nodes speak again and all that is under way arrives; an open; a save and an open that returns it. Then the books and
     /// the history are looked at.
     fn end(mut self) -> Result<(), String> {
         self.calm = true;
@@ -286,6 +286,8 @@ impl Block<'_> {
         let opened = self.alone(false)?;
         match (saved, opened) {
             (Outcome::Saved(call), Outcome::Opened(Some(from))) if call == from => {}
+            // One node's forged record may lie above the save; with one round, an open cannot step below it.
+            (Outcome::Saved(_), Outcome::Nothing) if self.plan.w == 1 => {}
             _ => return Err(format!("in calm, a save gave {saved:?} and the open after it {opened:?}")),
         }
         if let Some(lost) = self.nodes.lost().map_err(|e| e.to_string())? {

@@ -17,16 +17,17 @@ use std::process::ExitCode;
 use std::time::Instant;
 use std::{env, fs};
 
-/// The most calls of one block: the checker's window, with the three calls at the end.
-const CALLS: usize = 60;
+/// The most calls of one block; three more come at its end. A history is small enough for the checker, and 300 calls meet every plan.
+const CALLS: usize = 40;
 
 #[rustfmt::skip]
-const PLANS: [Plan; 6] = [
+const PLANS: [Plan; 7] = [
     Plan { n: 5, t: 1, b: 1, q: 3, m: 2, f: 16, repairable: true, byzantine: false, w: 16 },
     Plan { n: 7, t: 2, b: 1, q: 4, m: 2, f: 8, repairable: true, byzantine: true, w: 16 },
     Plan { n: 7, t: 1, b: 1, q: 3, m: 4, f: 5, repairable: false, byzantine: false, w: 8 },
     Plan { n: 3, t: 1, b: 0, q: 2, m: 1, f: 32, repairable: true, byzantine: false, w: 4 },
     Plan { n: 10, t: 2, b: 1, q: 4, m: 3, f: 8, repairable: false, byzantine: true, w: 16 },
+    Plan { n: 5, t: 1, b: 1, q: 3, m: 2, f: 3, repairable: true, byzantine: true, w: 1 },
     Plan { n: 9, t: 2, b: 2, q: 5, m: 3, f: 7, repairable: true, byzantine: true, w: 16 },
 ];
 

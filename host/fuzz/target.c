@@ -5,21 +5,11 @@
  *
  * The first bytes choose a plan, the rest are steps: a call, a change to what will be lent next, or a whole exchange of a client with a
  * node, so that deep states are near. host/fuzz/replay runs stored inputs; ./fuzz finds new ones. */
-#include <stddef.h>
-#include <stdint.h>
+#include "../pasis.h"
+
 #include <stdio.h>
 #include <stdlib.h>
 #include <string.h>
-
-uint32_t pasis_fresh_book(const uint8_t *, size_t, uint64_t, uint8_t *, size_t);
-uint32_t pasis_node(const uint8_t *, size_t, const uint8_t *, size_t, uint8_t *, size_t, uint8_t *, size_t);
-uint32_t pasis_open_write(const uint8_t *, size_t, uint64_t, uint8_t *, size_t);
-uint32_t pasis_open_read(const uint8_t *, size_t, uint64_t, uint8_t *, size_t);
-uint32_t pasis_owed(const uint8_t *, size_t, const uint8_t *, size_t, uint64_t, const uint8_t *, size_t, uint8_t *, size_t);
-uint32_t pasis_write_reply(const uint8_t *, size_t, uint8_t *, size_t, const uint8_t *, size_t, uint8_t *, size_t, const uint8_t *, size_t,
-                           uint8_t *, size_t);
-uint32_t pasis_read_reply(const uint8_t *, size_t, uint8_t *, size_t, const uint8_t *, size_t, uint8_t *, size_t, uint8_t *, size_t,
-                          uint8_t *, size_t);
 
 int LLVMFuzzerTestOneInput(const uint8_t *data, size_t size);
 
@@ -81,6 +71,10 @@ static const struct call calls[CALLS] = {
 __attribute__((section("__libfuzzer_extra_counters")))
 #endif
 static uint8_t met[CALLS * 128];
+
+/* Calls of this input so far, and the most of one: inputs stay quick. */
+enum { MOST = 250 };
+static unsigned made;
 
 unsigned long fuzz_answers[CALLS][128]; /* the same, counted over all inputs, for replay */
 
@@ -172,6 +166,7 @@ static uint32_t make(unsigned which, struct slice *s, uint64_t k) {
     free(rooms[0][i]);
     free(rooms[1][i]);
   }
+  made++;
   met[which * 128 + answer]++;
   fuzz_answers[which][answer]++;
   return answer;
@@ -314,6 +309,6 @@ int LLVMFuzzerTestOneInput(const uint8_t *data, size_t size) {
   input.left = size;
   choose_plan(&lent.plan);
   prepare(&lent);
-  for (int steps = 0; input.left && steps < 200; steps++) step(&lent);
+  for (made = 0; input.left && made < MOST;) step(&lent);
   return 0;
 }

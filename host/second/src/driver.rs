@@ -1,0 +1,207 @@
+//! Makes each call twice, once at each of two libraries, and compares the answer and every lent byte; counts the answers met.
+//! The first library is lent each slice apart; the other has all of them in one area, with guard bytes between, at shifting places.
+
+use crate::library::{make, Call, Kind, Library};
+
+/// The answers counted: 0 to 14 and 101 to 105.
+pub const NUMBERS: [u32; 20] = [0, 1, 2, 3, 4, 5, 6, 7, 8, 9, 10, 11, 12, 13, 14, 101, 102, 103, 104, 105];
+/// How often each answer must have been met.
+pub const ENOUGH: u64 = 100;
+const GUARD: u8 = 0xa5;
+
+/// Why the calls end.
+#[derive(Clone, Debug, PartialEq, Eq)]
+pub enum Stop {
+    Enough,
+    Wrong(String),
+}
+
+/// The answer and every lent slice after the call.
+#[derive(Clone, Debug, PartialEq, Eq)]
+pub struct Outcome {
+    pub number: u32,
+    pub lent: Vec<Vec<u8>>,
+}
+
+/// Whoever makes the generator's calls.
+pub trait Maker {
+    fn make(&mut self, call: Call) -> Result<Outcome, Stop>;
+}
+
+/// The call with each slice in a vector of its own.
+pub fn apart(library: &mut dyn Library, call: &Call) -> Outcome {
+    let mut lent = call.lent.clone();
+    let mut slices: Vec<&mut [u8]> = lent.iter_mut().map(Vec::as_mut_slice).collect();
+    let number = make(library, call.kind, &call.plan, call.number, &mut slices);
+    Outcome { number, lent }
+}
+
+/// The call with all slices in one area, `shift` guard bytes before the first and 1 to 16 between; the error is a guard written over.
+pub fn together(library: &mut dyn Library, call: &Call, shift: usize) -> Result<Outcome, String> {
+    let gap = |i: usize| 1 + (shift + 5 * i) % 16;
+    let mut area = vec![GUARD; shift];
+    for (i, slice) in call.lent.iter().enumerate() {
+        area.extend(slice);
+        area.resize(area.len() + gap(i), GUARD);
+    }
+    let (before, mut rest) = area.split_at_mut(shift);
+    let (mut slices, mut guards) = (Vec::new(), vec![before]);
+    for (i, slice) in call.lent.iter().enumerate() {
+        let (lent, after) = rest.split_at_mut(slice.len());
+        let (guard, after) = after.split_at_mut(gap(i));
+        slices.push(lent);
+        guards.push(guard);
+        rest = after;
+    }
+    let number = make(library, call.kind, &call.plan, call.number, &mut slices);
+    if guards.iter().any(|guard| guard.iter().any(|byte| *byte != GUARD)) {
+        return Err("a byte outside the lent slices was written".into());
+    }
+    Ok(Outcome { number, lent: slices.iter().map(|slice| slice.to_vec()).collect() })
+}
+
+pub struct Driver<'a> {
+    pub seed: u64,
+    /// Calls to make.
+    pub limit: u64,
+    pub made: u64,
+    first: &'a mut dyn Library,
+    other: &'a mut dyn Library,
+    counts: [[u64; NUMBERS.len()]; Kind::ALL.len()],
+    turns: [u64; TURNS.len()],
+}
+
+/// What an accepted call may do beside its answer, as its bytes tell.
+const TURNS: [&str; 9] = [
+    "record stored",
+    "held record acknowledged",
+    "record below a bound",
+    "first triple below a bound",
+    "write round opened",
+    "next read round opened",
+    "repair round opened",
+    "done without repair",
+    "done after repair",
+];
+
+/// Which of them this call did.
+fn turn(call: &Call, outcome: &Outcome) -> Option<&'static str> {
+    let (before, after) = (&call.lent[0], &outcome.lent[0]);
+    let (staged, rounded) = (before.get(1) != after.get(1), before.get(2..4) != after.get(2..4));
+    match (call.kind, outcome.number) {
+        (Kind::Node, 0) if before[5] == 3 && call.lent[1] == outcome.lent[1] => Some("held record acknowledged"),
+        (Kind::Node, 0) if before[5] == 3 => Some("record stored"),
+        (Kind::Node, 0) if before[5] == 6 && outcome.lent[2][..4] == [0, 0, 0, 11] => {
+            Some("first triple below a bound")
+        }
+        (Kind::Node, 0) if before[5] == 6 => Some("record below a bound"),
+        (Kind::WriteReply, 0) if staged => Some("write round opened"),
+        (Kind::ReadReply, 0) if rounded => Some("next read round opened"),
+        (Kind::ReadReply, 0) if staged => Some("repair round opened"),
+        (Kind::ReadReply, 101) if before[1] == 0 => Some("done without repair"),
+        (Kind::ReadReply, 101) => Some("done after repair"),
+        _ => None,
+    }
+}
+
+impl Maker for Driver<'_> {
+    fn make(&mut self, call: Call) -> Result<Outcome, Stop> {
+        if self.made == self.limit {
+            return Err(Stop::Enough);
+        }
+        self.made += 1;
+        let one = apart(self.first, &call);
+        let two = together(self.other, &call, (self.made % 16) as usize).map_err(|why| self.wrong(&call, &why))?;
+        if one != two {
+            return Err(self.wrong(&call, &difference(&call, &one, &two)));
+        }
+        self.count(&call, &one)?;
+        Ok(one)
+    }
+}
+
+impl<'a> Driver<'a> {
+    pub fn new(first: &'a mut dyn Library, other: &'a mut dyn Library, seed: u64, limit: u64) -> Driver<'a> {
+        Driver { seed, limit, made: 0, first, other, counts: Default::default(), turns: Default::default() }
+    }
+
+    fn wrong(&self, call: &Call, why: &str) -> Stop {
+        Stop::Wrong(format!("seed {}, call {}, {}: {why}", self.seed, self.made, call.kind.name()))
+    }
+
+    /// Counts the answer, and holds both libraries to what the document says of every call: the answers of its list, and no byte
+    /// changed by a refusal.
+    fn count(&mut self, call: &Call, outcome: &Outcome) -> Result<(), Stop> {
+        let number = outcome.number;
+        if !call.kind.answers().contains(&number) {
+            return Err(self.wrong(call, &format!("answer {number} is not one of this call")));
+        }
+        if (1..=14).contains(&number) && outcome.lent != call.lent {
+            return Err(self.wrong(call, &format!("refusal {number} changed a lent byte")));
+        }
+        let column = NUMBERS.iter().position(|other| *other == number).expect("every answer of a call is counted");
+        self.counts[call.kind as usize][column] += 1;
+        if let Some(turn) = turn(call, outcome) {
+            self.turns[TURNS.iter().position(|name| *name == turn).expect("a turn")] += 1;
+        }
+        Ok(())
+    }
+
+    fn met(&self, kind: Kind, number: u32) -> u64 {
+        let column = NUMBERS.iter().position(|other| *other == number).expect("an answer");
+        self.counts[kind as usize][column]
+    }
+
+    /// One row for each call, one column for each answer; a dot where the call cannot give that answer.
+    pub fn table(&self) -> String {
+        let mut text = format!("{:<12}", "");
+        for number in NUMBERS {
+            text += &format!("{number:>7}");
+        }
+        for kind in Kind::ALL {
+            text += &format!("\n{:<12}", kind.name());
+            for number in NUMBERS {
+                let met = kind.answers().contains(&number).then(|| self.met(kind, number));
+                text += &met.map_or(format!("{:>7}", "."), |met| format!("{met:>7}"));
+            }
+        }
+        for (name, met) in TURNS.iter().zip(self.turns) {
+            text += &format!("\n{name}: {met}");
+        }
+        text
+    }
+
+    /// The answers of a call that were met too seldom for the comparison to say much of them.
+    pub fn seldom(&self) -> Vec<String> {
+        let mut seldom = Vec::new();
+        for kind in Kind::ALL {
+            for number in kind.answers() {
+                if self.met(kind, *number) < ENOUGH {
+                    seldom.push(format!("{} {number}: {}", kind.name(), self.met(kind, *number)));
+                }
+            }
+        }
+        let turns = TURNS.iter().zip(self.turns).filter(|(_, met)| *met < ENOUGH);
+        seldom.extend(turns.map(|(name, met)| format!("{name}: {met}")));
+        seldom
+    }
+}
+
+/// The two outcomes of one call, and the call itself, in hex.
+fn difference(call: &Call, one: &Outcome, two: &Outcome) -> String {
+    let mut text = format!("answers {} and {}", one.number, two.number);
+    text += &format!("\n  plan {} number {}", hex(&call.plan), call.number);
+    for (i, slice) in call.kind.slices().iter().enumerate() {
+        text += &format!("\n  {slice:?} {}", hex(&call.lent[i]));
+        let (a, b) = (&one.lent[i], &two.lent[i]);
+        if let Some(first) = (0..a.len()).find(|at| a[*at] != b[*at]) {
+            let end = (first + 32).min(a.len());
+            text += &format!("\n    from byte {first} on: {} and {}", hex(&a[first..end]), hex(&b[first..end]));
+        }
+    }
+    text
+}
+
+pub fn hex(bytes: &[u8]) -> String {
+    bytes.iter().map(|byte| format!("{byte:02x}")).collect()
+}

@@ -1,0 +1,27 @@
+//! A second program for document 01, written from the documents alone: it shares no code, no table and no data layout in memory with
+//! the proved library. Modules in the order of document 01; `wire` is the host interface on bytes; `library`, `craft`, `mutate`,
+//! `gen`, `driver` and `cases` make and compare calls.
+
+pub mod book;
+pub mod cases;
+pub mod code;
+pub mod craft;
+pub mod driver;
+pub mod field;
+pub mod frame;
+pub mod gen;
+pub mod library;
+pub mod mutate;
+pub mod node;
+pub mod plan;
+pub mod random;
+pub mod reader;
+pub mod record;
+pub mod refusal;
+pub mod session;
+pub mod sha256;
+pub mod wire;
+pub mod writer;
+
+#[cfg(feature = "archive")]
+pub mod archive;

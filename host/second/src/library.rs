@@ -1,0 +1,181 @@
+//! What is compared: the seven calls of the host interface, as a trait, and a call as a value.
+
+use crate::wire;
+
+/// The host interface. Our own program is one, the proved library's archive another.
+pub trait Library {
+    fn fresh_book(&mut self, plan: &[u8], node: u64, book: &mut [u8]) -> u32;
+    fn node(&mut self, plan: &[u8], request: &[u8], book: &mut [u8], reply: &mut [u8]) -> u32;
+    fn open_write(&mut self, plan: &[u8], ask: u64, session: &mut [u8]) -> u32;
+    fn open_read(&mut self, plan: &[u8], ask: u64, session: &mut [u8]) -> u32;
+    fn owed(&mut self, plan: &[u8], session: &[u8], node: u64, desk: &[u8], request: &mut [u8]) -> u32;
+    fn write_reply(
+        &mut self,
+        plan: &[u8],
+        session: &mut [u8],
+        reply: &[u8],
+        desk: &mut [u8],
+        item: &[u8],
+        ending: &mut [u8],
+    ) -> u32;
+    fn read_reply(
+        &mut self,
+        plan: &[u8],
+        session: &mut [u8],
+        reply: &[u8],
+        desk: &mut [u8],
+        item: &mut [u8],
+        ending: &mut [u8],
+    ) -> u32;
+}
+
+/// Our own program.
+pub struct Second;
+
+impl Library for Second {
+    fn fresh_book(&mut self, plan: &[u8], node: u64, book: &mut [u8]) -> u32 {
+        wire::fresh_book(plan, node, book)
+    }
+
+    fn node(&mut self, plan: &[u8], request: &[u8], book: &mut [u8], reply: &mut [u8]) -> u32 {
+        wire::node(plan, request, book, reply)
+    }
+
+    fn open_write(&mut self, plan: &[u8], ask: u64, session: &mut [u8]) -> u32 {
+        wire::open_write(plan, ask, session)
+    }
+
+    fn open_read(&mut self, plan: &[u8], ask: u64, session: &mut [u8]) -> u32 {
+        wire::open_read(plan, ask, session)
+    }
+
+    fn owed(&mut self, plan: &[u8], session: &[u8], node: u64, desk: &[u8], request: &mut [u8]) -> u32 {
+        wire::owed(plan, session, node, desk, request)
+    }
+
+    fn write_reply(
+        &mut self,
+        plan: &[u8],
+        session: &mut [u8],
+        reply: &[u8],
+        desk: &mut [u8],
+        item: &[u8],
+        ending: &mut [u8],
+    ) -> u32 {
+        wire::write_reply(plan, session, reply, desk, item, ending)
+    }
+
+    fn read_reply(
+        &mut self,
+        plan: &[u8],
+        session: &mut [u8],
+        reply: &[u8],
+        desk: &mut [u8],
+        item: &mut [u8],
+        ending: &mut [u8],
+    ) -> u32 {
+        wire::read_reply(plan, session, reply, desk, item, ending)
+    }
+}
+
+#[derive(Clone, Copy, Debug, PartialEq, Eq)]
+pub enum Kind {
+    FreshBook,
+    Node,
+    OpenWrite,
+    OpenRead,
+    Owed,
+    WriteReply,
+    ReadReply,
+}
+
+/// What lies in a lent slice; `Out` is a buffer that a frame or an ending is written into.
+#[derive(Clone, Copy, Debug, PartialEq, Eq)]
+pub enum Slice {
+    Book,
+    Request,
+    Reply,
+    Session,
+    Desk,
+    Item,
+    Out,
+}
+
+impl Kind {
+    pub const ALL: [Kind; 7] =
+        [Kind::FreshBook, Kind::Node, Kind::OpenWrite, Kind::OpenRead, Kind::Owed, Kind::WriteReply, Kind::ReadReply];
+
+    pub fn name(self) -> &'static str {
+        match self {
+            Kind::FreshBook => "fresh_book",
+            Kind::Node => "node",
+            Kind::OpenWrite => "open_write",
+            Kind::OpenRead => "open_read",
+            Kind::Owed => "owed",
+            Kind::WriteReply => "write_reply",
+            Kind::ReadReply => "read_reply",
+        }
+    }
+
+    /// Every answer that document 01 allows to this call, refusals in their order.
+    pub fn answers(self) -> &'static [u32] {
+        match self {
+            Kind::FreshBook => &[0, 1, 2, 4],
+            Kind::Node => &[0, 1, 2, 3, 4, 5, 6, 7, 8],
+            Kind::OpenWrite | Kind::OpenRead => &[0, 1, 2, 13],
+            Kind::Owed => &[0, 1, 2, 9, 14, 4, 11],
+            Kind::WriteReply => &[0, 1, 2, 9, 14, 4, 10, 11, 101, 105],
+            Kind::ReadReply => &[0, 1, 2, 9, 14, 4, 10, 11, 5, 6, 12, 101, 102, 103, 104],
+        }
+    }
+
+    /// Whether the call takes a node or ask number.
+    pub fn numbered(self) -> bool {
+        !matches!(self, Kind::Node | Kind::WriteReply | Kind::ReadReply)
+    }
+
+    /// The lent slices after the plan, in the order of the call.
+    pub fn slices(self) -> &'static [Slice] {
+        match self {
+            Kind::FreshBook => &[Slice::Book],
+            Kind::Node => &[Slice::Request, Slice::Book, Slice::Out],
+            Kind::OpenWrite | Kind::OpenRead => &[Slice::Session],
+            Kind::Owed => &[Slice::Session, Slice::Desk, Slice::Out],
+            Kind::WriteReply | Kind::ReadReply => &[Slice::Session, Slice::Reply, Slice::Desk, Slice::Item, Slice::Out],
+        }
+    }
+}
+
+/// One call: bytes in, and after it bytes out. `number` is the node or the ask number, 0 where the call takes none.
+#[derive(Clone, Debug, PartialEq, Eq)]
+pub struct Call {
+    pub kind: Kind,
+    pub plan: Vec<u8>,
+    pub number: u64,
+    pub lent: Vec<Vec<u8>>,
+}
+
+impl Call {
+    /// Where this kind of call is lent such a slice.
+    pub fn place(&self, slice: Slice) -> Option<usize> {
+        self.kind.slices().iter().position(|other| *other == slice)
+    }
+}
+
+/// Makes a call on slices, wherever they lie.
+pub fn make(library: &mut dyn Library, kind: Kind, plan: &[u8], number: u64, lent: &mut [&mut [u8]]) -> u32 {
+    match (kind, lent) {
+        (Kind::FreshBook, [book]) => library.fresh_book(plan, number, book),
+        (Kind::Node, [request, book, reply]) => library.node(plan, request, book, reply),
+        (Kind::OpenWrite, [session]) => library.open_write(plan, number, session),
+        (Kind::OpenRead, [session]) => library.open_read(plan, number, session),
+        (Kind::Owed, [session, desk, request]) => library.owed(plan, session, number, desk, request),
+        (Kind::WriteReply, [session, reply, desk, item, ending]) => {
+            library.write_reply(plan, session, reply, desk, item, ending)
+        }
+        (Kind::ReadReply, [session, reply, desk, item, ending]) => {
+            library.read_reply(plan, session, reply, desk, item, ending)
+        }
+        (kind, lent) => panic!("{} is not lent {} slices", kind.name(), lent.len()),
+    }
+}

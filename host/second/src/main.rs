@@ -1,0 +1,97 @@
+//! second run SEED COUNT     random histories, COUNT calls, compared; exit 1 if they differ or an answer was met too seldom
+//! second emit SEED COUNT    COUNT stored cases on standard output (their form: cases.rs)
+//! second replay             makes the stored cases on standard input again
+//!
+//! Built with the feature `archive` the compared library is the proved one, given to the linker; without it there is none.
+
+use std::io::{BufRead, Write};
+use std::process::ExitCode;
+
+use second::cases;
+use second::craft::Size;
+use second::driver::{Driver, Stop, ENOUGH};
+use second::gen::histories;
+use second::library::Second;
+
+#[cfg(feature = "archive")]
+use second::archive::Archive as Other;
+#[cfg(not(feature = "archive"))]
+use second::library::Second as Other;
+
+#[cfg(feature = "archive")]
+const COMPARED: &str = "the second program against the archive of the proved library";
+#[cfg(not(feature = "archive"))]
+const COMPARED: &str =
+    "the second program against ITSELF, its slices laid out otherwise: no archive is linked, so this run counts \
+                        what the generator meets and says nothing of the proved library";
+
+fn main() -> ExitCode {
+    let words: Vec<String> = std::env::args().skip(1).collect();
+    let words: Vec<&str> = words.iter().map(String::as_str).collect();
+    let outcome = match words[..] {
+        ["run", seed, count] => numbers(seed, count).and_then(|(seed, count)| run(seed, count)),
+        ["emit", seed, count] => numbers(seed, count).and_then(|(seed, count)| emit(seed, count as usize)),
+        ["replay"] => replay(),
+        _ => Err("usage: second run SEED COUNT | second emit SEED COUNT | second replay".into()),
+    };
+    match outcome {
+        Ok(()) => ExitCode::SUCCESS,
+        Err(why) => {
+            eprintln!("second: {why}");
+            ExitCode::FAILURE
+        }
+    }
+}
+
+fn numbers(seed: &str, count: &str) -> Result<(u64, u64), String> {
+    match (seed.parse(), count.parse()) {
+        (Ok(seed), Ok(count)) => Ok((seed, count)),
+        _ => Err("SEED and COUNT are numbers".into()),
+    }
+}
+
+fn run(seed: u64, count: u64) -> Result<(), String> {
+    println!("{COMPARED}\nseed {seed}, {count} calls; how often each answer was met:");
+    let (mut first, mut other) = (Second, Other);
+    let mut driver = Driver::new(&mut first, &mut other, seed, count);
+    let stop = histories(seed, Size::Any, &mut driver);
+    println!("{}", driver.table());
+    if let Stop::Wrong(why) = stop {
+        return Err(why);
+    }
+    let seldom = driver.seldom();
+    if !seldom.is_empty() {
+        return Err(format!("met fewer than {ENOUGH} times: {}", seldom.join(", ")));
+    }
+    println!(
+        "{} calls: every answer and every lent byte equal, each answer of each call met {ENOUGH} times or more",
+        driver.made
+    );
+    Ok(())
+}
+
+fn emit(seed: u64, count: usize) -> Result<(), String> {
+    let mut out = std::io::BufWriter::new(std::io::stdout().lock());
+    let mut failed = None;
+    let stop = cases::emit(seed, count, &mut |line| {
+        if let Err(error) = writeln!(out, "{line}") {
+            failed.get_or_insert(error.to_string());
+        }
+    });
+    out.flush().map_err(|error| error.to_string())?;
+    match (failed, stop) {
+        (Some(why), _) | (None, Stop::Wrong(why)) => Err(why),
+        (None, Stop::Enough) => Ok(()),
+    }
+}
+
+fn replay() -> Result<(), String> {
+    let mut made = 0;
+    for line in std::io::stdin().lock().lines() {
+        let line = line.map_err(|error| error.to_string())?;
+        made += 1;
+        cases::replay(&mut Other, &line).map_err(|why| format!("line {made}: {why}"))?;
+    }
+    println!("{made} stored cases made again, every answer and every lent byte as stored");
+    Ok(())
+}

@@ -15,34 +15,30 @@ pub enum Size {
     Any,
 }
 
-/// An accepted plan.
+/// An accepted plan: each number drawn within what Table 2 leaves it, small ones more often.
 pub fn plan(random: &mut Random, size: Size) -> Plan {
-    loop {
-        let plan = tried(random, size);
-        if plan.accepted().is_ok() {
-            return plan;
-        }
-    }
-}
-
-/// A plan with the numbers N, t, b drawn and Q, m mostly in their ranges.
-fn tried(random: &mut Random, size: Size) -> Plan {
     let greatest = if size == Size::Small { 5 } else { random.pick(&[5, 7, 9, 16]) };
-    let n = random.within(1, greatest);
-    let t = random.pick(&[0, 1, 1, 1, 2, 2, 3, (n - 1) / 2]);
-    let liars = random.pick(&[1, 3]);
-    let b = random.within(0, t.min(liars));
-    let (more, most) = (random.pick(&[0, 1, 8]), random.pick(&[1, 2, 3, 9, 16]));
-    let q = random.within(t + b + 1, t + b + 1 + more);
-    let m = random.within(1, most);
+    let n = if random.chance(25) { greatest } else { random.within(1, greatest) };
     let member = random.pick(&[Member::Repairable, Member::NonRepair]);
-    let clients = random.pick(&[Clients::Crash, Clients::Byzantine]);
+    // N is at least 2t+2b+1 for the one, 3t+3b+1 for the other
+    let times = if member == Member::Repairable { 2 } else { 3 };
+    let t = ((n - 1) / times).min(random.pick(&[0, 1, 1, 1, 2, 3, 7]));
+    let b = t.min((n - 1) / times - t).min(random.pick(&[0, 1, 1, 3]));
+    let (least, most) = (t + b + 1, n - (times - 1) * (t + b));
+    let more = random.pick(&[0, 1, 16]);
+    let q = random.within(least, most.min(least + more));
+    let most = if member == Member::Repairable { q - t } else { q + b };
+    let few = random.pick(&[1, 2, 3, 16]);
+    let m = random.within(1, most.min(few));
     let f = match size {
         Size::Small => random.within(1, 4),
         Size::Any => random.pick(&[1, 2, 3, 4, 5, 17, 33, 60, 64, 100, 257, 1024]),
     };
+    let clients = random.pick(&[Clients::Crash, Clients::Byzantine]);
     let w = random.pick(&[1, 1, 2, 2, 3, 5, 300, 65_535]);
-    Plan { n, t, b, q, m, f, member, clients, w }
+    let plan = Plan { n, t, b, q, m, f, member, clients, w };
+    assert_eq!(plan.accepted(), Ok(()), "{plan:?}");
+    plan
 }
 
 /// A logical time: small ones meet often, the last ones spend the clock.

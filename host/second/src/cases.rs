@@ -1,67 +1,90 @@
-//! Stored cases: one call a line, for a program that replays them. The line is
+//! Stored cases, for a program that makes them again (crates/replay). A call is one line of its `stdin`, the outcome one line of its `stdout`:
 //!
 //! ```text
-//! KIND PLAN NUMBER LENT... = ANSWER AFTER...
+//! CALL NUMBER PLAN A B C D E
+//! ANSWER A B C D E
 //! ```
 //!
-//! KIND is the name of the call; PLAN its plan slice; NUMBER the node or ask number in 16 hex digits, zero where the call takes none;
-//! LENT the lent slices in the order of the call (fresh_book: book; node: request, book, reply; open_write, open_read: session; owed:
-//! session, desk, request; write_reply, read_reply: session, reply, desk, item, ending). After "=": ANSWER the number, decimal; AFTER, for
-//! each slice in the same order, its bytes after the call, or a dot where they are as lent. Bytes are lower-case hex, an empty slice is
-//! a minus. Every line stands by itself; plans are small (N to 5, F to 4 but in changed plans), and calls that lend a slice of more than
-//! 2,048 bytes are left out.
+//! CALL is 01 fresh_book, 02 node, 03 open_write, 04 open_read, 05 owed, 06 write_reply, 07 read_reply; NUMBER the node or ask
+//! number in 8 bytes, zero where the call takes none; PLAN its plan slice; A to E the lent slices in the order of the call (book; request, book, reply;
+//! session; session, desk, request; session, reply, desk, item, ending). ANSWER is the number, decimal; after it each slice as it is after
+//! the call, or a dot where it is as lent. Bytes are lower-case hex, a minus where there are none; a call that is lent fewer than five
+//! slices has a minus, and after the call a dot, for each of the others. Every line stands by itself.
 
 use crate::craft::Size;
 use crate::driver::{apart, hex, Maker, Outcome, Stop};
 use crate::gen::histories;
 use crate::library::{Call, Kind, Library, Second};
 
-/// The longest slice of a stored case.
-const LONGEST: usize = 2048;
+/// The slices of a line.
+const SLICES: usize = 5;
+/// The most bytes lent in a stored case. The first of each answer of each call may be long, and has a plan with t above 0; the others are
+/// short, so that the files stay small. Where half of the calls looked at had no such case, any will do that is not long.
+const LONG: usize = 1400;
+const SHORT: usize = 450;
+/// The calls looked at.
+const TRIED: usize = 200_000;
 
-/// Collects lines, of each answer of each call about as many, so that rare answers are not crowded out.
-struct Emitter<'a> {
-    count: usize,
-    lines: usize,
-    share: usize,
-    met: [[usize; 106]; Kind::ALL.len()],
-    out: &'a mut dyn FnMut(&str),
+/// The cases of one answer of one call.
+#[derive(Clone, Default)]
+struct Stored {
+    cases: usize,
+    plan: Vec<u8>,
 }
 
-impl Maker for Emitter<'_> {
+/// Picks cases, of each answer of each call about as many, so that rare answers are not crowded out; of each history few.
+struct Picker<'a> {
+    count: usize,
+    tried: usize,
+    stored: Vec<Vec<Stored>>,
+    out: &'a mut dyn FnMut(&Call, &Outcome),
+}
+
+impl Maker for Picker<'_> {
     fn make(&mut self, call: Call) -> Result<Outcome, Stop> {
-        let outcome = apart(&mut Second, &call);
-        let met = &mut self.met[call.kind as usize][outcome.number as usize];
-        if *met < self.share && call.lent.iter().all(|slice| slice.len() <= LONGEST) {
-            *met += 1;
-            self.lines += 1;
-            (self.out)(&line(&call, &outcome));
-        }
-        if self.lines == self.count {
+        if self.tried == TRIED {
             return Err(Stop::Enough);
+        }
+        self.tried += 1;
+        let outcome = apart(&mut Second, &call);
+        let stored = &mut self.stored[call.kind as usize][outcome.number as usize];
+        let lent: usize = call.lent.iter().map(Vec::len).sum();
+        let faults = call.plan.get(1).is_some_and(|t| *t > 0);
+        let good = match stored.cases {
+            _ if self.tried > TRIED / 2 => lent <= LONG,
+            0 => lent <= LONG && faults,
+            _ => lent <= SHORT,
+        };
+        if stored.cases < self.count && good && stored.plan != call.plan {
+            stored.cases += 1;
+            stored.plan = call.plan.clone();
+            (self.out)(&call, &outcome);
         }
         Ok(outcome)
     }
 }
 
-/// Hands `count` lines to `out`.
-pub fn emit(seed: u64, count: usize, out: &mut dyn FnMut(&str)) -> Stop {
-    let classes: usize = Kind::ALL.iter().map(|kind| kind.answers().len()).sum();
-    let share = count.div_ceil(classes);
-    if count == 0 {
-        return Stop::Enough;
-    }
-    histories(seed, Size::Small, &mut Emitter { count, lines: 0, share, met: [[0; 106]; Kind::ALL.len()], out })
+/// Hands out up to `count` cases of each answer of each call.
+pub fn pick(seed: u64, count: usize, out: &mut dyn FnMut(&Call, &Outcome)) -> Stop {
+    let stored = vec![vec![Stored::default(); 106]; Kind::ALL.len()];
+    histories(seed, Size::Small, &mut Picker { count, tried: 0, stored, out })
 }
 
-pub fn line(call: &Call, outcome: &Outcome) -> String {
-    let mut text = format!("{} {} {:016x}", call.kind.name(), field(&call.plan), call.number);
-    for slice in &call.lent {
-        text += &format!(" {}", field(slice));
+/// The line of a call.
+pub fn asked(call: &Call) -> String {
+    let mut text = format!("{:02x} {:016x} {}", call.kind as u8 + 1, call.number, field(&call.plan));
+    for i in 0..SLICES {
+        text += &format!(" {}", call.lent.get(i).map_or("-".into(), |slice| field(slice)));
     }
-    text += &format!(" = {}", outcome.number);
-    for (before, after) in call.lent.iter().zip(&outcome.lent) {
-        text += &if before == after { " .".into() } else { format!(" {}", field(after)) };
+    text
+}
+
+/// The line of its outcome.
+pub fn answered(call: &Call, outcome: &Outcome) -> String {
+    let mut text = outcome.number.to_string();
+    for i in 0..SLICES {
+        let after = outcome.lent.get(i).filter(|after| **after != call.lent[i]);
+        text += &format!(" {}", after.map_or(".".into(), |after| field(after)));
     }
     text
 }
@@ -74,23 +97,15 @@ fn field(bytes: &[u8]) -> String {
     }
 }
 
-/// The call and the outcome that a line tells; none where it is not of the form.
-pub fn parse(text: &str) -> Option<(Call, Outcome)> {
-    let (call, outcome) = text.split_once(" = ")?;
-    let mut fields = call.split(' ');
-    let name = fields.next()?;
-    let kind = Kind::ALL.into_iter().find(|kind| kind.name() == name)?;
-    let plan = bytes(fields.next()?)?;
-    let number = u64::from_str_radix(fields.next()?, 16).ok()?;
-    let lent = fields.map(bytes).collect::<Option<Vec<_>>>()?;
-    let mut fields = outcome.split(' ');
-    let answer = fields.next()?.parse().ok()?;
-    let after = fields
-        .zip(&lent)
-        .map(|(field, before)| if field == "." { Some(before.clone()) } else { bytes(field) })
-        .collect::<Option<Vec<_>>>()?;
-    let shaped = lent.len() == kind.slices().len() && after.len() == lent.len();
-    shaped.then_some((Call { kind, plan, number, lent }, Outcome { number: answer, lent: after }))
+/// The call that a line tells; none where it is not of the form.
+pub fn parse(text: &str) -> Option<Call> {
+    let fields = text.split(' ').map(bytes).collect::<Option<Vec<_>>>()?;
+    let [kind, number, plan, lent @ ..] = &fields[..] else { return None };
+    let kind = Kind::ALL.into_iter().find(|known| kind[..] == [*known as u8 + 1])?;
+    let number = u64::from_be_bytes(number.as_slice().try_into().ok()?);
+    let (lent, rest) = lent.split_at_checked(kind.slices().len())?;
+    let shaped = lent.len() + rest.len() == SLICES && rest.iter().all(Vec::is_empty);
+    shaped.then(|| Call { kind, plan: plan.clone(), number, lent: lent.to_vec() })
 }
 
 fn bytes(field: &str) -> Option<Vec<u8>> {
@@ -102,12 +117,9 @@ fn bytes(field: &str) -> Option<Vec<u8>> {
     (digits.len() % 2 == 0).then(|| digits.chunks_exact(2).map(|two| two[0] << 4 | two[1]).collect())
 }
 
-/// Makes the call of a line again; the error says what differs.
-pub fn replay(library: &mut dyn Library, text: &str) -> Result<(), String> {
-    let (call, expected) = parse(text).ok_or("not a stored case")?;
-    let met = apart(library, &call);
-    if met == expected {
-        return Ok(());
-    }
-    Err(format!("{}: stored {}, met {}", call.kind.name(), line(&call, &expected), line(&call, &met)))
+/// Makes the call of a line, and gives the line of its outcome; none where the line is no call.
+pub fn replay(library: &mut dyn Library, text: &str) -> Option<String> {
+    let call = parse(text)?;
+    let outcome = apart(library, &call);
+    Some(answered(&call, &outcome))
 }

@@ -1,17 +1,18 @@
-//! second run SEED COUNT     random histories, COUNT calls, compared; exit 1 if they differ or an answer was met too seldom
-//! second emit SEED COUNT    COUNT stored cases on standard output (their form: cases.rs)
-//! second replay             makes the stored cases on standard input again
+//! second run SEED COUNT            random histories, COUNT calls, compared; exit 1 if they differ or an answer was met too seldom
+//! second emit SEED COUNT stdin     stored calls on standard output, up to COUNT of each answer of each call (their form: cases.rs)
+//! second emit SEED COUNT stdout    the outcomes of the same calls, by the second program
+//! second replay                    makes the stored calls on standard input again, and writes their outcomes
 //!
 //! Built with the feature `archive` the compared library is the proved one, given to the linker; without it there is none.
 
 use std::io::{BufRead, Write};
 use std::process::ExitCode;
 
-use second::cases;
+use second::cases::{self, answered, asked};
 use second::craft::Size;
-use second::driver::{Driver, Stop, ENOUGH};
+use second::driver::{Driver, Outcome, Stop, ENOUGH};
 use second::gen::histories;
-use second::library::Second;
+use second::library::{Call, Second};
 
 #[cfg(feature = "archive")]
 use second::archive::Archive as Other;
@@ -30,9 +31,12 @@ fn main() -> ExitCode {
     let words: Vec<&str> = words.iter().map(String::as_str).collect();
     let outcome = match words[..] {
         ["run", seed, count] => numbers(seed, count).and_then(|(seed, count)| run(seed, count)),
-        ["emit", seed, count] => numbers(seed, count).and_then(|(seed, count)| emit(seed, count as usize)),
+        ["emit", seed, count, "stdin"] => {
+            numbers(seed, count).and_then(|(seed, count)| emit(seed, count, |call, _| asked(call)))
+        }
+        ["emit", seed, count, "stdout"] => numbers(seed, count).and_then(|(seed, count)| emit(seed, count, answered)),
         ["replay"] => replay(),
-        _ => Err("usage: second run SEED COUNT | second emit SEED COUNT | second replay".into()),
+        _ => Err("usage: second run SEED COUNT | second emit SEED COUNT stdin|stdout | second replay".into()),
     };
     match outcome {
         Ok(()) => ExitCode::SUCCESS,
@@ -70,28 +74,20 @@ fn run(seed: u64, count: u64) -> Result<(), String> {
     Ok(())
 }
 
-fn emit(seed: u64, count: usize) -> Result<(), String> {
-    let mut out = std::io::BufWriter::new(std::io::stdout().lock());
-    let mut failed = None;
-    let stop = cases::emit(seed, count, &mut |line| {
-        if let Err(error) = writeln!(out, "{line}") {
-            failed.get_or_insert(error.to_string());
-        }
-    });
-    out.flush().map_err(|error| error.to_string())?;
-    match (failed, stop) {
-        (Some(why), _) | (None, Stop::Wrong(why)) => Err(why),
-        (None, Stop::Enough) => Ok(()),
+fn emit(seed: u64, count: u64, line: fn(&Call, &Outcome) -> String) -> Result<(), String> {
+    let mut lines = String::new();
+    match cases::pick(seed, count as usize, &mut |call, outcome| lines += &(line(call, outcome) + "\n")) {
+        Stop::Wrong(why) => Err(why),
+        Stop::Enough => std::io::stdout().write_all(lines.as_bytes()).map_err(|error| error.to_string()),
     }
 }
 
 fn replay() -> Result<(), String> {
-    let mut made = 0;
-    for line in std::io::stdin().lock().lines() {
+    let mut out = std::io::BufWriter::new(std::io::stdout().lock());
+    for (i, line) in std::io::stdin().lock().lines().enumerate() {
         let line = line.map_err(|error| error.to_string())?;
-        made += 1;
-        cases::replay(&mut Other, &line).map_err(|why| format!("line {made}: {why}"))?;
+        let outcome = cases::replay(&mut Other, &line).ok_or(format!("line {} is no stored call", i + 1))?;
+        writeln!(out, "{outcome}").map_err(|error| error.to_string())?;
     }
-    println!("{made} stored cases made again, every answer and every lent byte as stored");
-    Ok(())
+    out.flush().map_err(|error| error.to_string())
 }

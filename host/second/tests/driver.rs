@@ -4,7 +4,7 @@ use second::cases;
 use second::craft::Size;
 use second::driver::{Driver, Stop};
 use second::gen::histories;
-use second::library::{Library, Second};
+use second::library::{Kind, Library, Second};
 
 /// The answer and one slice after a call of this name, made wrong.
 type Fault = fn(&str, u32, &mut [u8]) -> u32;
@@ -100,15 +100,21 @@ fn a_wrong_library_is_caught() {
 
 #[test]
 fn stored_cases_come_back() {
-    let mut lines = Vec::new();
-    assert_eq!(cases::emit(9, 1500, &mut |line| lines.push(line.to_string())), Stop::Enough);
-    assert_eq!(lines.len(), 1500);
-    for line in &lines {
-        let (call, outcome) = cases::parse(line).expect("a stored case");
-        assert_eq!(cases::line(&call, &outcome), *line);
-        assert_eq!(cases::replay(&mut Second, line), Ok(()));
+    let (mut lines, mut met) = (Vec::new(), std::collections::BTreeSet::new());
+    let stop = cases::pick(9, 3, &mut |call, outcome| {
+        met.insert((call.kind as usize, outcome.number));
+        lines.push((cases::asked(call), cases::answered(call, outcome)));
+    });
+    assert_eq!(stop, Stop::Enough);
+    let all: usize = Kind::ALL.iter().map(|kind| kind.answers().len()).sum();
+    assert_eq!(met.len(), all, "a stored case of every answer of every call");
+    for (asked, answered) in &lines {
+        let call = cases::parse(asked).expect("a stored case");
+        assert_eq!(cases::asked(&call), *asked);
+        assert_eq!(cases::replay(&mut Second, asked), Some(answered.clone()));
     }
-    let mut changed = lines[0].clone();
-    changed.push('0');
-    assert!(cases::replay(&mut Second, &changed).is_err());
+    let asked = &lines[0].0;
+    for changed in [format!("{asked}0"), format!("{asked} -"), format!("0{asked}"), format!("08{}", &asked[2..])] {
+        assert_eq!(cases::replay(&mut Second, &changed), None);
+    }
 }

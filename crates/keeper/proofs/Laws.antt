@@ -30,7 +30,7 @@ use Rattle.frame.proofs.Built.{length-frame}
 use Rattle.book.specs.Book.{nodeOf, recordsOf}
 use Rattle.node.specs.declared.Answer.{Answer}
 use Rattle.node.specs.declared.Answer.the-variants.{Refused, Replied}
-use Rattle.node.specs.Node.{NodeCall, Said, said, refused, replied, Outcome, outcome, Reply, replyTo, replies, bookAfter, answered, served, nodeLadder}
+use Rattle.node.specs.Node.{NodeCall, Said, said, refused, replied, Outcome, outcome, Reply, replyTo, sends, bookAfter, answered, served, nodeLadder}
 use Rattle.io.specs.Counts.{Counts}
 use Rattle.io.proofs.Counting.{counts}
 use Rattle.keeper.specs.declared.step.Next.{Next}
@@ -44,7 +44,7 @@ module _ (p : Plan) (f b y : List ℕ) where
       subst P (sym (rungs.first-read (nodeLadder p f b y) (λ (k : ℕ). outcome (refused k) b y) (answered p f b y)))
       (go (first (nodeLadder p f b y) rungs.refused rungs.passes) refl)
     where
-      go : (v : rungs.Verdict) → first (nodeLadder p f b y) rungs.refused rungs.passes ≡ v → P (rungs.read v (λ (k : ℕ). outcome (refused k) b y) (answered p f b y))
+      go : (v : rungs.Came) → first (nodeLadder p f b y) rungs.refused rungs.passes ≡ v → P (rungs.read v (λ (k : ℕ). outcome (refused k) b y) (answered p f b y))
       go (rungs.refused k) e = r k
       go rungs.passes e = a (rungs.passes-is (nodeLadder p f b y) e)
 
@@ -56,8 +56,8 @@ unfolding over
 over-long new old = let e = length-append new (drop (length new) old) in omega (arith, e)
 
 -- the reply r, written over y
-reply-fits : (f : List ℕ) (r : Reply) (b y b₂ y₂ : List ℕ) (k : ℕ) → outcome (replied k) b₂ y₂ ≡ replies f r b y → k ≤ length y₂
-unfolding replies
+reply-fits : (f : List ℕ) (r : Reply) (b y b₂ y₂ : List ℕ) (k : ℕ) → outcome (replied k) b₂ y₂ ≡ sends f r b y → k ≤ length y₂
+unfolding sends
 reply-fits f r b y b₂ y₂ k h =
     let s : replied k ≡ replied (15 + length (r .body)) = ap (λ (o : Outcome). o .answer) h in
     let e : k ≡ 15 + length (r .body) = cc in
@@ -66,12 +66,12 @@ reply-fits f r b y b₂ y₂ k h =
     let l : length new ≡ 15 + length (r .body) = length-frame (r .kind) (frameNode f) (askOf f) (r .body) in
     subst (λ (z : List ℕ). k ≤ length z) (sym t) (omega (arith, over-long new y, l, e))
 
-reply-is : (f : List ℕ) (r : Reply) (b y b₂ y₂ : List ℕ) (k : ℕ) → outcome (refused k) b₂ y₂ ≡ replies f r b y → ⊥
-unfolding replies
+reply-is : (f : List ℕ) (r : Reply) (b y b₂ y₂ : List ℕ) (k : ℕ) → outcome (refused k) b₂ y₂ ≡ sends f r b y → ⊥
+unfolding sends
 reply-is f r b y b₂ y₂ k h = no-reply (15 + length (r .body)) k (sym (ap (λ (o : Outcome). o .answer) h))
 
-reply-book : (f : List ℕ) (r : Reply) (s : Said) (b y b₂ y₂ : List ℕ) → outcome s b₂ y₂ ≡ replies f r b y → b₂ ≡ b
-unfolding replies
+reply-book : (f : List ℕ) (r : Reply) (s : Said) (b y b₂ y₂ : List ℕ) → outcome s b₂ y₂ ≡ sends f r b y → b₂ ≡ b
+unfolding sends
 reply-book f r s b y b₂ y₂ h = ap (λ (o : Outcome). o .book) h
 
 fits : (p : Plan) (f b y : List ℕ) (k : ℕ) (b₂ y₂ : List ℕ) → NodeCall p f b y (Replied k) b₂ y₂ → k ≤ length y₂
@@ -132,8 +132,8 @@ pub refuses : (p : Plan) (f b y : List ℕ) (r : Refusal) (b₂ y₂ : List ℕ)
 refuses p f b y r b₂ y₂ c =
     record { call = c; changed = sym (ap not (is-alike b₂ b (refused-stays p f b y r b₂ y₂ c))); fits = omega arith }
 
-pub sends : (p : Plan) (f b y : List ℕ) (k : ℕ) (b₂ y₂ : List ℕ) → NodeCall p f b y (Replied k) b₂ y₂ → true ≡ alike b₂ b → Stepped p f b y (next.Send k) b₂ y₂
-sends p f b y k b₂ y₂ c e = record { call = c; changed = ap not e; fits = fits p f b y k b₂ y₂ c }
+pub sent-out : (p : Plan) (f b y : List ℕ) (k : ℕ) (b₂ y₂ : List ℕ) → NodeCall p f b y (Replied k) b₂ y₂ → true ≡ alike b₂ b → Stepped p f b y (next.Send k) b₂ y₂
+sent-out p f b y k b₂ y₂ c e = record { call = c; changed = ap not e; fits = fits p f b y k b₂ y₂ c }
 
 pub stores-it : (p : Plan) (f b y : List ℕ) (k : ℕ) (b₂ y₂ : List ℕ) → NodeCall p f b y (Replied k) b₂ y₂ → false ≡ alike b₂ b → Stepped p f b y (next.Store k) b₂ y₂
 stores-it p f b y k b₂ y₂ c e = record { call = c; changed = ap not e; fits = fits p f b y k b₂ y₂ c }
@@ -143,7 +143,7 @@ pub refuses-as : (p : Plan) (f b y : List ℕ) (a : Answer) (r : Refusal) (b₂ 
 refuses-as p f b y a r b₂ y₂ e c = refuses p f b y r b₂ y₂ (subst (λ (x : Answer). NodeCall p f b y x b₂ y₂) e c)
 
 pub sends-as : (p : Plan) (f b y : List ℕ) (a : Answer) (k : ℕ) (b₂ y₂ : List ℕ) → a ≡ Replied k → NodeCall p f b y a b₂ y₂ → true ≡ alike b₂ b → Stepped p f b y (next.Send k) b₂ y₂
-sends-as p f b y a k b₂ y₂ e c = sends p f b y k b₂ y₂ (subst (λ (x : Answer). NodeCall p f b y x b₂ y₂) e c)
+sends-as p f b y a k b₂ y₂ e c = sent-out p f b y k b₂ y₂ (subst (λ (x : Answer). NodeCall p f b y x b₂ y₂) e c)
 
 pub stores-as : (p : Plan) (f b y : List ℕ) (a : Answer) (k : ℕ) (b₂ y₂ : List ℕ) → a ≡ Replied k → NodeCall p f b y a b₂ y₂ → false ≡ alike b₂ b → Stepped p f b y (next.Store k) b₂ y₂
 stores-as p f b y a k b₂ y₂ e c = stores-it p f b y k b₂ y₂ (subst (λ (x : Answer). NodeCall p f b y x b₂ y₂) e c)

@@ -1,0 +1,420 @@
+// Stored calls of the host interface, made again. Standard input has one call a line, standard output gets one line for it, and is held to
+// the file `stdout`. Both files are made by the second, independent program (host/second, `emit`), never by this one:
+//
+//     CALL NUMBER PLAN A B C D E     in: which call, its node or ask number in 8 bytes, its plan slice, its other slices in their order
+//     ANSWER A B C D E               out: the number answered, and each slice after the call, or a dot where it is as lent
+//
+// CALL is 01 fresh_book, 02 node, 03 open_write, 04 open_read, 05 owed, 06 write_reply, 07 read_reply. Bytes are in hexadecimal, a minus
+// where there are none; a call that is lent fewer than five slices has a minus for each of the others.
+use libc::STDIN_FILENO;
+use libc::STDOUT_FILENO;
+use pasis::client;
+use pasis::store;
+ghost use Prim.Native.Nat.{_*_, _≤_, _<_};
+ghost use mathlib.Core.Path.{_≡_};
+ghost use lib.ListN.{length};
+ghost use Rattle.io.specs.Counts.{Counts};
+
+// Room for all of standard input. The ensures gives only the length, which lending the array as a slice needs.
+fn room() -> [u8; 262144]
+    ensures { λ r. ⌜ 262144 ≡ length r ⌝ }
+{
+    [0u8; 262144]
+}
+
+// ---- reading
+
+// The value of a hexadecimal digit; 16 for any other byte.
+fn digit(c: u8) -> u8 {
+    if c >= b'0' && c <= b'9' {
+        return c - b'0';
+    }
+    if c >= b'a' && c <= b'f' {
+        return c - b'a' + 10;
+    }
+    16
+}
+
+// Puts digit number k of a field into its byte, and gives the number of the next. A byte that is no digit, or has no room, is passed over.
+fn take_digit(out: &mut [u8], k: usize, c: u8) -> usize
+    requires { ⌜ k ≤ 2 * length (now out) ⌝ }
+    ensures { λ r. ⌜ r ≤ 2 * length (now (out .entry)) ⌝ }
+{
+    let d = digit(c);
+    let at = k / 2;
+    if d > 15 {
+        return k;
+    }
+    if at >= out.len() {
+        return k;
+    }
+    out[at] = out[at] % 16 * 16 + d;
+    k + 1
+}
+
+// How many bytes a field has, and where the next field starts.
+struct Part {
+    n: usize,
+    next: usize,
+}
+
+// The field that starts at `at`, up to a space, a line's end or the end of the text, as bytes at the start of out.
+fn field(text: &[u8], at: usize, out: &mut [u8]) -> Part
+    ensures { λ r. ⌜ Counts (r .n) (now (out .exit)) ⌝ }
+{
+    let mut i = at;
+    let mut k = 0;
+    while i < text.len() {
+        let c = text[i];
+        i += 1;
+        if c <= b' ' {
+            return Part { n: k / 2, next: i };
+        }
+        k = take_digit(out, k, c);
+    }
+    Part { n: k / 2, next: i }
+}
+
+// ---- writing
+
+fn hex(x: u8) {
+    io::print_hex(STDOUT_FILENO, x as u64, 2);
+}
+
+fn write_hex(s: &[u8]) {
+    let mut i = 0;
+    while i < s.len() {
+        hex(s[i]);
+        i += 1;
+    }
+}
+
+// Whether two slices have the same bytes.
+fn alike(a: &[u8], b: &[u8]) -> bool {
+    let n = a.len();
+    if b.len() != n {
+        return false;
+    }
+    octets::same(a, 0, b, 0, n)
+}
+
+// A slice after the call, or a dot where it is as the field at `at` lent it; and where the next field starts.
+fn tell(text: &[u8], at: usize, after: &[u8], old: &mut [u8]) -> usize {
+    let f = field(text, at, old);
+    let n = f.n;
+    io::write_all(STDOUT_FILENO, b" ");
+    if alike(after, &old[..n]) {
+        io::write_all(STDOUT_FILENO, b".");
+    } else {
+        write_hex(after);
+    }
+    f.next
+}
+
+// ---- a call
+
+// Makes the call of this number on its slices.
+fn make(
+    call: u8,
+    plan: &[u8],
+    number: u64,
+    a: &mut [u8],
+    b: &mut [u8],
+    c: &mut [u8],
+    d: &mut [u8],
+    e: &mut [u8],
+) -> u32 {
+    match call {
+        1 => store::pasis_fresh_book(plan, number, a),
+        2 => store::pasis_node(plan, a, b, c),
+        3 => client::pasis_open_write(plan, number, a),
+        4 => client::pasis_open_read(plan, number, a),
+        5 => client::pasis_owed(plan, a, number, b, c),
+        6 => client::pasis_write_reply(plan, a, b, c, d, e),
+        7 => client::pasis_read_reply(plan, a, b, c, d, e),
+        _ => 0,
+    }
+}
+
+// The line of a call that was made: its answer, and the five slices after it. Gives the start of the next line.
+fn told(
+    answer: u32,
+    text: &[u8],
+    at: usize,
+    a: &[u8],
+    b: &[u8],
+    c: &[u8],
+    d: &[u8],
+    e: &[u8],
+    old: &mut [u8],
+) -> usize {
+    io::print_decimal(STDOUT_FILENO, answer as u64);
+    let to_b = tell(text, at, a, old);
+    let to_c = tell(text, to_b, b, old);
+    let to_d = tell(text, to_c, c, old);
+    let to_e = tell(text, to_d, d, old);
+    let end = tell(text, to_e, e, old);
+    io::write_all(STDOUT_FILENO, b"\n");
+    end
+}
+
+// Makes the call, and writes its line.
+fn made(
+    text: &[u8],
+    start: usize,
+    call: u8,
+    plan: &[u8],
+    number: u64,
+    a: &mut [u8],
+    b: &mut [u8],
+    c: &mut [u8],
+    d: &mut [u8],
+    e: &mut [u8],
+    old: &mut [u8],
+) -> usize {
+    let answer = make(call, plan, number, a, b, c, d, e);
+    told(answer, text, start, a, b, c, d, e, old)
+}
+
+// Each of the next five reads one slice of the call, the field at `at`, and lends it to the rest; `start` is the field of the first.
+fn lend_e(
+    text: &[u8],
+    at: usize,
+    start: usize,
+    call: u8,
+    plan: &[u8],
+    number: u64,
+    a: &mut [u8],
+    b: &mut [u8],
+    c: &mut [u8],
+    d: &mut [u8],
+    e: &mut [u8],
+    old: &mut [u8],
+) -> usize {
+    let f = field(text, at, e);
+    let n = f.n;
+    made(
+        text,
+        start,
+        call,
+        plan,
+        number,
+        a,
+        b,
+        c,
+        d,
+        &mut e[..n],
+        old,
+    )
+}
+
+fn lend_d(
+    text: &[u8],
+    at: usize,
+    start: usize,
+    call: u8,
+    plan: &[u8],
+    number: u64,
+    a: &mut [u8],
+    b: &mut [u8],
+    c: &mut [u8],
+    d: &mut [u8],
+    e: &mut [u8],
+    old: &mut [u8],
+) -> usize {
+    let f = field(text, at, d);
+    let n = f.n;
+    lend_e(
+        text,
+        f.next,
+        start,
+        call,
+        plan,
+        number,
+        a,
+        b,
+        c,
+        &mut d[..n],
+        e,
+        old,
+    )
+}
+
+fn lend_c(
+    text: &[u8],
+    at: usize,
+    start: usize,
+    call: u8,
+    plan: &[u8],
+    number: u64,
+    a: &mut [u8],
+    b: &mut [u8],
+    c: &mut [u8],
+    d: &mut [u8],
+    e: &mut [u8],
+    old: &mut [u8],
+) -> usize {
+    let f = field(text, at, c);
+    let n = f.n;
+    lend_d(
+        text,
+        f.next,
+        start,
+        call,
+        plan,
+        number,
+        a,
+        b,
+        &mut c[..n],
+        d,
+        e,
+        old,
+    )
+}
+
+fn lend_b(
+    text: &[u8],
+    at: usize,
+    start: usize,
+    call: u8,
+    plan: &[u8],
+    number: u64,
+    a: &mut [u8],
+    b: &mut [u8],
+    c: &mut [u8],
+    d: &mut [u8],
+    e: &mut [u8],
+    old: &mut [u8],
+) -> usize {
+    let f = field(text, at, b);
+    let n = f.n;
+    lend_c(
+        text,
+        f.next,
+        start,
+        call,
+        plan,
+        number,
+        a,
+        &mut b[..n],
+        c,
+        d,
+        e,
+        old,
+    )
+}
+
+fn lend_a(
+    text: &[u8],
+    at: usize,
+    start: usize,
+    call: u8,
+    plan: &[u8],
+    number: u64,
+    a: &mut [u8],
+    b: &mut [u8],
+    c: &mut [u8],
+    d: &mut [u8],
+    e: &mut [u8],
+    old: &mut [u8],
+) -> usize {
+    let f = field(text, at, a);
+    let n = f.n;
+    lend_b(
+        text,
+        f.next,
+        start,
+        call,
+        plan,
+        number,
+        &mut a[..n],
+        b,
+        c,
+        d,
+        e,
+        old,
+    )
+}
+
+// The call on the line that starts at `at`, and the start of the next line.
+fn line(
+    text: &[u8],
+    at: usize,
+    plan: &mut [u8],
+    a: &mut [u8],
+    b: &mut [u8],
+    c: &mut [u8],
+    d: &mut [u8],
+    e: &mut [u8],
+    old: &mut [u8],
+) -> usize {
+    let mut call = [0u8; 1];
+    let mut number = [0u8; 8];
+    let first = field(text, at, &mut call);
+    let second = field(text, first.next, &mut number);
+    let third = field(text, second.next, plan);
+    let start = third.next;
+    let n = third.n;
+    lend_a(
+        text,
+        start,
+        start,
+        call[0],
+        &plan[..n],
+        octets::get(&number, 0, 8),
+        a,
+        b,
+        c,
+        d,
+        e,
+        old,
+    )
+}
+
+// The place to go on at: past `at` in any case, so that the program ends.
+fn later(at: usize, next: usize, end: usize) -> usize
+    requires { ⌜ at < end ⌝ }
+    ensures { λ r. ⌜ at < r ⌝ }
+{
+    if next > at { next } else { at + 1 }
+}
+
+// Every line of the text.
+fn lines(
+    text: &[u8],
+    plan: &mut [u8],
+    a: &mut [u8],
+    b: &mut [u8],
+    c: &mut [u8],
+    d: &mut [u8],
+    e: &mut [u8],
+    old: &mut [u8],
+) {
+    let mut at = 0;
+    while at < text.len() {
+        let next = line(text, at, plan, a, b, c, d, e, old);
+        at = later(at, next, text.len());
+    }
+}
+
+fn main() {
+    let mut text = room();
+    let mut plan = io::buffer();
+    let mut a = io::buffer();
+    let mut b = io::buffer();
+    let mut c = io::buffer();
+    let mut d = io::buffer();
+    let mut e = io::buffer();
+    let mut old = io::buffer();
+    let n = io::read_full(STDIN_FILENO, &mut text);
+    lines(
+        &text[..n],
+        &mut plan,
+        &mut a,
+        &mut b,
+        &mut c,
+        &mut d,
+        &mut e,
+        &mut old,
+    );
+}

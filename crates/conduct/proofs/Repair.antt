@@ -1,4 +1,4 @@
--- The fill for repair. The issue's words: "after the fill for repair every slot k holds the set's timestamp and cross checksum and fragment
+-- The fill for repair. "After the fill for repair every slot k holds the set's timestamp and cross checksum and fragment
 -- k of the polynomial through the m lowest, from the desk as it was".
 --   through-there through-one   for each byte position there is a polynomial through the m lowest, and only one
 --   repaired-record    slot k is the head of the lead's slot and fragment k regenerated from the m lowest, all from the desk as it was

@@ -9,6 +9,7 @@
 --   goodFrame          all of these, for a party
 --   goodRequest        at a node: and it is for this node
 --   goodReply          at a client: and its node number is below N
+--   answersTo          its ask number and its kind are the ones that a client awaits
 --   cutAt              where the frame that starts at a place of a run of bytes ends
 -- Assumes nothing.
 use Prim.Native.Nat.{ℕ, _+_, _-_}
@@ -86,6 +87,10 @@ goodRequest p node f = goodFrame Node p f and eqb (frameNode f) node
 
 unfoldable pub goodReply : Plan → List ℕ → Bool
 goodReply p f = goodFrame Client p f and ltb (frameNode f) (p .n)
+
+-- refusal 10, of any reply
+abbrev pub answersTo : List ℕ → ℕ → ℕ → Bool
+answersTo f ask kind = eqb (askOf f) ask and eqb (kindOf f) kind
 
 -- ---- cutting, apart from checking
 -- no frame where fewer than 4 bytes remain, or a length is below 11 or larger than the rest

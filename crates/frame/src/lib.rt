@@ -9,7 +9,7 @@ ghost use lib.ListN.{length};
 ghost use Rattle.octets.specs.Bytes.{part, over, be};
 ghost use Rattle.terms.specs.Terms.{planOk};
 ghost use Rattle.terms.specs.Stamp.{stampNumber};
-ghost use Rattle.frame.specs.Frame.{kindOf, frameNode, askOf, headOf, frame, shaped, bodyFits, forParty, goodFrame, goodRequest, goodReply, cutAt};
+ghost use Rattle.frame.specs.Frame.{kindOf, frameNode, askOf, headOf, frame, shaped, bodyFits, forParty, goodFrame, goodRequest, goodReply, answersTo, cutAt};
 use terms::Ask;
 use terms::Plan;
 use terms::Time;
@@ -162,6 +162,18 @@ pub fn reply_ok(p: Plan, f: &[u8]) -> bool
     node_of(f) < n
 }
 
+// Refusal 10 of any reply: whether a frame has the ask number and the kind that a client awaits.
+pub fn answers(f: &[u8], ask: Ask, kind: u64) -> bool
+    requires { ⌜ 15 ≤ length (now f) ⌝ }
+    ensures { λ r. ⌜ r ≡ answersTo (now (f .entry)) (ask .0) kind ⌝ }
+{
+    let a = ask_of(f);
+    if a.0 != ask.0 {
+        return false;
+    }
+    kind_of(f) == kind
+}
+
 // The head of a frame whose body has n bytes.
 pub fn head(y: &mut [u8], kind: u64, node: u64, ask: Ask, n: usize)
     requires { ⌜ 15 + n ≤ length (now y) ⌝ }
@@ -207,4 +219,20 @@ pub fn with_stamp(y: &mut [u8], kind: u64, node: u64, ask: Ask, t: Timestamp)
 {
     head(y, kind, node, ask, 40);
     terms::put_stamp(y, 15, t);
+}
+
+// A request for the latest record.
+pub fn latest(y: &mut [u8], node: u64, ask: Ask)
+    requires { ⌜ 15 ≤ length (now y) ⌝ }
+    ensures { λ _. ⌜ now (y .exit) ≡ over (frame 5 node (ask .0) []) (now (y .entry)) ⌝ }
+{
+    bare(y, 5, node, ask);
+}
+
+// A request for the record before a timestamp.
+pub fn previous(y: &mut [u8], node: u64, ask: Ask, t: Timestamp)
+    requires { ⌜ 55 ≤ length (now y) ⌝ }
+    ensures { λ _. ⌜ now (y .exit) ≡ over (frame 6 node (ask .0) (be 40 (stampNumber t))) (now (y .entry)) ⌝ }
+{
+    with_stamp(y, 6, node, ask, t);
 }

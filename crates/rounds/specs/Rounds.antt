@@ -1,6 +1,6 @@
 -- What a read round decides. Document 01, "The client", reading: at N-t accepted replies the candidate is the greatest timestamp; its set
 -- is the replies with this timestamp and the same cross checksum as the lowest-numbered of them.
---   heardCount           how many nodes are heard
+--   heardAt heardCount   whether a node is heard, and how many are
 --   slotStamp d r i      the timestamp in slot i, as a number
 --   leadOf ms d r n      the candidate among the first n nodes: the first triple, or the lowest-numbered node that bears the greatest
 --   setOf                the candidate's set, rising
@@ -12,7 +12,7 @@ use Prim.Native.Nat.{ℕ, zero, suc, _+_, _*_, _<_}
 use mathlib.Core.Bool.{Bool, true, false, cond}
 use mathlib.Core.List.{List, [], _∷_, _++_}
 use lib.ListN.{length, getD, set, take, drop, replicate}
-use lib.Dec.{ltb}
+use lib.Dec.{ltb, eqb}
 use Rattle.octets.specs.Bytes.{part, num, alike}
 use Rattle.terms.specs.Terms.{decided}
 use Rattle.terms.specs.Stamp.{stampAt, zeroStamp, stampNumber}
@@ -49,6 +49,9 @@ unheards = replicate 16 unheard
 
 abbrev pub markOf : List Mark → ℕ → Heard
 markOf ms i = getD ms i unheard .is
+
+abbrev pub heardAt : List Mark → ℕ → Bool
+heardAt ms i = eqb (bitOf (markOf ms i)) 1
 
 -- ---- the candidate
 unfoldable pub slotStamp : List ℕ → ℕ → ℕ → ℕ

@@ -7,7 +7,7 @@ ghost use mathlib.Core.Path.{_≡_};
 ghost use Prim.Native.Nat.{ℕ, _+_, _*_, _≤_, _<_};
 ghost use lib.ListN.{length};
 ghost use Rattle.octets.specs.Bytes.{part, num};
-ghost use Rattle.rounds.specs.Rounds.{bitOf, heardCount, aheadOf, stepOf, leadOf, leadIn, joinsOf, setOf, addOf, listed, told, closeOf, isUnheard, isNotFirst, restUnheard, noneFirst, underOf, slotFits, slotsFit};
+ghost use Rattle.rounds.specs.Rounds.{bitOf, heardAt, heardCount, aheadOf, stepOf, leadOf, leadIn, joinsOf, setOf, addOf, listed, told, closeOf, isUnheard, isNotFirst, restUnheard, noneFirst, underOf, slotFits, slotsFit};
 
 // A node's mark. Later requests add to it.
 pub enum Heard {
@@ -58,6 +58,16 @@ pub fn bit(h: Heard) -> u64
         Heard::First => 1,
         Heard::Record => 1,
     }
+}
+
+// Whether node i is heard.
+pub fn has_heard(marks: [Mark; 16], i: usize) -> bool
+    requires { ⌜ i < 16 ⌝ }
+    ensures { λ r. ⌜ r ≡ heardAt marks i ⌝ }
+{
+    let m = marks[i];
+    let h = m.is;
+    bit(h) == 1
 }
 
 // How many of the marks are heard.

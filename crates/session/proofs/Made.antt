@@ -10,7 +10,7 @@ use lib.Dec.{leb, ltb, eqb}
 use lib.ListN.{getD, set, drop, replicate}
 use lib.Seq.{drop-set-lt}
 use Rattle.terms.specs.Ladder.{all, _and_, _or_}
-use Rattle.terms.specs.Terms.{planOk, recordLength}
+use Rattle.terms.specs.Terms.{planOk, recordLength, openingOk}
 use Rattle.terms.specs.declared.Plan.{Plan}
 use Rattle.terms.specs.declared.Timestamp.{Timestamp}
 use Rattle.terms.proofs.Facts.{facts}
@@ -22,7 +22,7 @@ use Rattle.rounds.specs.declared.Mark.{Mark}
 use Rattle.rounds.specs.Rounds.{heardCount, unheard, unheards, every, isUnheard, isNotFirst, restUnheard, noneFirst, slotFits, slotsFit}
 use Rattle.session.specs.declared.Session.{Session}
 use Rattle.session.specs.Session.{isRead, isStoring, isEnded, readRound, replies, endedOf, storingOf}
-use Rattle.session.specs.Ranges.{openingOk, boundOk, standingRules, openRules, inRange}
+use Rattle.session.specs.Ranges.{boundOk, standingRules, openRules, inRange}
 use Rattle.session.proofs.Rules.{holds, last}
 
 -- ---- the rules of refusal 9 as plain facts

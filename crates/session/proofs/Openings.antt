@@ -7,7 +7,7 @@ use mathlib.Core.List.{List}
 use native.Mathlib.Omega.{arith}
 use borrow.Author.Tests.{le-leb, not-false}
 use Rattle.terms.specs.Ladder.{first, all, _and_, _or_}
-use Rattle.terms.specs.Terms.{planOk, recordLength, refusalNumber}
+use Rattle.terms.specs.Terms.{planOk, recordLength, refusalNumber, openingOk}
 use Rattle.terms.specs.declared.Ask.{Ask}
 use Rattle.terms.specs.declared.Plan.{Plan}
 use Rattle.terms.specs.declared.Refusal.{Refusal}
@@ -21,7 +21,7 @@ use Rattle.session.specs.declared.opening.Opening.the-variants.{Refused,
 use Rattle.session.specs.declared.opening.Opened.{Opened}
 use Rattle.rounds.specs.Rounds.{unheards, noneFirst}
 use Rattle.session.specs.Session.{isRead}
-use Rattle.session.specs.Ranges.{openingOk, standingRules, inRange}
+use Rattle.session.specs.Ranges.{standingRules, inRange}
 use Rattle.session.specs.Opening.{openingLadder, freshOf, openingNumber, opens, Opens, noSession, openWith, OpenCall}
 use Rattle.session.proofs.Checks.{first-map, none-applies, goes-on, stops, refusal-low}
 use Rattle.session.proofs.Made.{rest-unheards, none-unheards, few-unheards, slots-unheards, open-in-range}

@@ -1,11 +1,11 @@
 -- How code goes down a list of rules, and what is known when all hold. Assumes nothing.
-use mathlib.Core.Path.{_≡_, refl, sym, ap, _∙_}
+use mathlib.Core.Path.{_≡_, refl, sym, ap, ap₂, _∙_}
 use mathlib.Core.Bool.{Bool, true, false, cond, not}
 use mathlib.Core.List.{List, [], _∷_}
 use Prim.Native.Nat.{ℕ, _-_, _*_, _≤_}
 use native.Mathlib.Nat.{le-trans, mul-le-mul-right, mul-le-mul-left}
 use native.Mathlib.Omega.{arith}
-use borrow.Author.Tests.{leb-true, eqb-true, eq-eqb, ne-eqb}
+use borrow.Author.Tests.{leb-true, eqb-true}
 use lib.ListN.{length}
 use lib.Dec.{leb, eqb}
 use Rattle.terms.specs.Ladder.{all, _and_, _or_}
@@ -15,7 +15,7 @@ use Rattle.terms.specs.Stamp.{stamp, stampNumber, stampAt}
 use Rattle.terms.proofs.Stamps.{stamp-at-number}
 use Rattle.terms.proofs.Rungs.{both}
 use Rattle.octets.specs.Bytes.{part, num}
-use Rattle.frame.specs.Frame.{kindOf, askOf, bodyOf}
+use Rattle.frame.specs.Frame.{kindOf, askOf, bodyOf, answersTo}
 use Rattle.frame.proofs.Frames.{ReplyIs, length-4}
 use Rattle.rounds.specs.Rounds.{restUnheard}
 use Rattle.session.specs.declared.Session.{Session}
@@ -92,35 +92,29 @@ unfolding part
 body-stamp f = refl
 
 -- ---- what a round awaits, tested one after the other
-module _ (s : Session) (f : List ℕ) (ask now : ℕ) (a : ask ≡ askOf f) (b : now ≡ askNow s) where
-  pub other-ask : (ask ≡ now → ⊥) → false ≡ awaited s f
-  other-ask n = unfold awaited in rw (ne-eqb (askOf f) (askNow s) (λ e. n (a ∙ e ∙ sym b)))
+module _ (s : Session) (f : List ℕ) (ask kind : ℕ) (a : ask ≡ askNow s) (k : kind ≡ kindAwaited s) (z : Bool) (w : z ≡ answersTo f ask kind) where
+  answered : z ≡ answersTo f (askNow s) (kindAwaited s)
+  answered = w ∙ ap₂ (answersTo f) a k
 
-  module _ (same : ask ≡ now) (kind want : ℕ) (k : kind ≡ kindOf f) (w : want ≡ kindAwaited s) where
-    asks : eqb (askOf f) (askNow s) ≡ true
-    asks = eq-eqb (askOf f) (askNow s) (sym a ∙ same ∙ b)
+  pub not-answered : z ≡ false → false ≡ awaited s f
+  not-answered n = unfold awaited in rw (← answered, n)
 
-    pub other-kind : (kind ≡ want → ⊥) → false ≡ awaited s f
-    other-kind n = unfold awaited in rw (asks, ne-eqb (kindOf f) (kindAwaited s) (λ e. n (k ∙ e ∙ sym w)))
+  module _ (y : z ≡ true) (x : Bool) (g : x ≡ isStoring (s .stage)) where
+    pub no-stamp : x ≡ false → true ≡ awaited s f
+    no-stamp e = unfold awaited in rw (← answered, y, ← g, e)
 
-    module _ (like : kind ≡ want) (x : Bool) (g : x ≡ isStoring (s .stage)) where
-      kinds : eqb (kindOf f) (kindAwaited s) ≡ true
-      kinds = eq-eqb (kindOf f) (kindAwaited s) (sym k ∙ like ∙ w)
+    -- a write reply bears a timestamp, which is compared
+    pub stamp-there : x ≡ true → (kindOf f ≡ 4 → 55 ≤ length f) → 55 ≤ length f
+    stamp-there e h =
+        let q : kindAwaited s ≡ 4 = unfold kindAwaited in rw (← g, e) in
+        let b = both (eqb (askOf f) (askNow s)) (eqb (kindOf f) (kindAwaited s)) (sym answered ∙ y) in
+        h (eqb-true (kindOf f) (kindAwaited s) (b .1) ∙ q)
 
-      pub no-stamp : x ≡ false → true ≡ awaited s f
-      no-stamp e = unfold awaited in rw (asks, kinds, ← g, e)
-
-      -- a write reply bears a timestamp, which is compared
-      pub stamp-there : x ≡ true → (kindOf f ≡ 4 → 55 ≤ length f) → 55 ≤ length f
-      stamp-there e h =
-          let q : kindAwaited s ≡ 4 = unfold kindAwaited in rw (← g, e) in
-          h (sym k ∙ like ∙ w ∙ q)
-
-      pub stamp-told : x ≡ true → (t : Timestamp) (y : Bool) → t ≡ stampAt f 15 → 55 ≤ length f → y ≡ eqb (stampNumber t) (stampNumber (s .stamp)) → y ≡ awaited s f
-      unfolding awaited
-      stamp-told e t y p l q =
-          let n : stampNumber t ≡ stamp (bodyOf f) = ap stampNumber p ∙ stamp-at-number f 15 l ∙ body-stamp f in
-          q ∙ rw (asks, kinds, ← g, e, n)
+    pub stamp-told : x ≡ true → (t : Timestamp) (o : Bool) → t ≡ stampAt f 15 → 55 ≤ length f → o ≡ eqb (stampNumber t) (stampNumber (s .stamp)) → o ≡ awaited s f
+    unfolding awaited
+    stamp-told e t o p l q =
+        let n : stampNumber t ≡ stamp (bodyOf f) = ap stampNumber p ∙ stamp-at-number f 15 l ∙ body-stamp f in
+        q ∙ rw (← answered, y, ← g, e, n)
 
 -- ---- lengths
 pub record Lengths (p : Plan) (desk item : ℕ) : Type 0 where

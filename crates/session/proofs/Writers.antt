@@ -21,7 +21,7 @@ use Rattle.terms.proofs.Rungs.{both}
 use Rattle.fragments.specs.Fragments.{fragment, encoded, from, Sources}
 use Rattle.fragments.proofs.Laws.{fragment-is, length-regenerated, length-from, getD-from, run-fits}
 use Rattle.fragments.proofs.Theorems.{encoded-at}
-use Rattle.frame.specs.Frame.{kindOf, askOf, frameNode, bodyOf, goodReply}
+use Rattle.frame.specs.Frame.{kindOf, askOf, frameNode, bodyOf, goodReply, answersTo}
 use Rattle.frame.proofs.Frames.{ReplyIs, reply-is, length-2}
 use Rattle.record.specs.Record.{hashesOk}
 use Rattle.record.specs.Desk.{slotOf, fragmentIn, crossMade, deskOf, stampMade}
@@ -173,10 +173,10 @@ taking p s f d item e =
 pub time-there : (p : Plan) (s : Session) (f d : List ℕ) (item : ℕ) → Taking p s f d item → isStoring (s .stage) ≡ false → length f ≡ 23
 unfolding awaited kindAwaited
 time-there p s f d item q g =
-    let a = both (eqb (askOf f) (askNow s)) _ (q .awaits) in
-    let b = both (eqb (kindOf f) (kindAwaited s)) _ (a .1) in
+    let a = both (answersTo f (askNow s) (kindAwaited s)) _ (q .awaits) in
+    let b = both (eqb (askOf f) (askNow s)) (eqb (kindOf f) (kindAwaited s)) (a .0) in
     let k : kindAwaited s ≡ 2 = rw (g, q .writes) in
-    length-2 (q .reply .frame-is) (eqb-true (kindOf f) (kindAwaited s) (b .0) ∙ k)
+    length-2 (q .reply .frame-is) (eqb-true (kindOf f) (kindAwaited s) (b .1) ∙ k)
 
 -- ---- the outcome
 module _ (p : Plan) (s : Session) (f d i : List ℕ) where

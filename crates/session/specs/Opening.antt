@@ -11,7 +11,7 @@ use mathlib.Core.Path.{_≡_}
 use mathlib.Core.Bool.{not}
 use mathlib.Core.List.{List, [], _∷_}
 use Rattle.terms.specs.Ladder.{Rung, on, first}
-use Rattle.terms.specs.Terms.{planOk, refusalNumber}
+use Rattle.terms.specs.Terms.{planOk, openingOk, refusalNumber}
 use Rattle.terms.specs.Stamp.{zeroStamp}
 use Rattle.terms.specs.declared.Ask.{Ask}
 use Rattle.terms.specs.declared.Plan.{Plan}
@@ -24,7 +24,6 @@ use Rattle.session.specs.declared.Stage.the-variants.{Asking}
 use Rattle.session.specs.declared.opening.Opening.{Opening}
 use Rattle.session.specs.declared.opening.Opening.the-variants.{Refused, Accepted}
 use Rattle.session.specs.declared.opening.Opened.{Opened}
-use Rattle.session.specs.Ranges.{openingOk}
 
 abbrev pub openingLadder : Plan → ℕ → List Rung
 openingLadder p a = on 1 (not (planOk p)) ∷ on 13 (not (openingOk p a)) ∷ []

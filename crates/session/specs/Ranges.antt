@@ -1,27 +1,22 @@
 -- Refusal 9: session out of its ranges, or of the other operation. Document 01, "Refusal numbers", in its order; the rules that an ended
 -- session meets too stand apart.
---   openingOk          the opening ask number leaves room for W more: 13 at opening
 --   boundOk            a bound exactly when round is above 1, time 1 or more
 --   standingRules      round, bound, opening ask, marks from N on: for every session
 --   openRules          timestamp, first triple marks, heard count, slots: for an open session
 --   inRange            all of them
 -- Assumes nothing.
-use Prim.Native.Nat.{ℕ, _-_}
+use Prim.Native.Nat.{ℕ}
 use mathlib.Core.Bool.{Bool, not}
 use mathlib.Core.List.{List, [], _∷_}
 use lib.Dec.{ltb, leb, eqb}
 use Rattle.terms.specs.Ladder.{all, _and_, _or_}
-use Rattle.terms.specs.Terms.{recordLength}
+use Rattle.terms.specs.Terms.{recordLength, openingOk}
 use Rattle.terms.specs.declared.Plan.{Plan}
 use Rattle.rounds.specs.declared.Bound.{Bound}
 use Rattle.rounds.specs.declared.Bound.the-variants.{Free, Under}
 use Rattle.rounds.specs.Rounds.{heardCount, restUnheard, noneFirst, slotsFit}
 use Rattle.session.specs.declared.Session.{Session}
 use Rattle.session.specs.Session.{isRead, isStoring, isEnded, readRound, replies}
-
--- opening ask number plus W at most 2^64-1
-abbrev pub openingOk : Plan → ℕ → Bool
-openingOk p a = leb a (18446744073709551615 - p .w)
 
 abbrev pub boundOk : Bound → ℕ → Bool
 boundOk Free round = leb round 1

@@ -16,9 +16,9 @@ use Rattle.terms.specs.Ladder.{Rung, on, _and_, _or_}
 use Rattle.terms.specs.Terms.{planOk, recordLength, refusalNumber}
 use Rattle.terms.specs.Stamp.{stamp, stampNumber}
 use Rattle.terms.specs.declared.Plan.{Plan}
-use Rattle.frame.specs.Frame.{kindOf, frameNode, askOf, bodyOf, goodReply}
+use Rattle.frame.specs.Frame.{kindOf, frameNode, bodyOf, goodReply, answersTo}
 use Rattle.record.specs.Record.{hashesOk, timeZero}
-use Rattle.rounds.specs.Rounds.{bitOf, markOf, underOf}
+use Rattle.rounds.specs.Rounds.{heardAt, underOf}
 use Rattle.session.specs.declared.Session.{Session}
 use Rattle.session.specs.declared.Check.{Check}
 use Rattle.session.specs.declared.Check.the-variants.{Passed, Failed}
@@ -35,11 +35,10 @@ sameOperation Read o = isRead o
 sameOperation Write o = not (isRead o)
 
 unfoldable pub awaited : Session → List ℕ → Bool
-awaited s f =
-    eqb (askOf f) (askNow s) and (eqb (kindOf f) (kindAwaited s) and (not (isStoring (s .stage)) or eqb (stamp (bodyOf f)) (stampNumber (s .stamp))))
+awaited s f = answersTo f (askNow s) (kindAwaited s) and (not (isStoring (s .stage)) or eqb (stamp (bodyOf f)) (stampNumber (s .stamp)))
 
 unfoldable pub isHeard : Session → ℕ → Bool
-isHeard s i = eqb (bitOf (markOf (s .marks) i)) 1
+isHeard s i = heardAt (s .marks) i
 
 abbrev pub replyLadder : Operation → Plan → Session → List ℕ → List ℕ → ℕ → List Rung
 replyLadder op p s f d item =

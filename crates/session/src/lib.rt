@@ -24,7 +24,7 @@ ghost use Rattle.terms.specs.Ladder.{first, _or_};
 ghost use Rattle.frame.specs.Frame.{kindOf};
 ghost use Rattle.rounds.specs.Rounds.{noneFirst, slotsFit};
 ghost use Rattle.session.specs.Session.{isRead, isAsking, isStoring, isEnded, readRound, replies, askNow, kindAwaited, markedOf, endedOf, nextOf, storingOf};
-ghost use Rattle.session.specs.Ranges.{openingOk, boundOk, standingRules, openRules, inRange};
+ghost use Rattle.session.specs.Ranges.{boundOk, standingRules, openRules, inRange};
 ghost use Rattle.session.specs.Reply.{lengthsOk, sameOperation, awaited, isHeard, replyLadder, checkNumber};
 
 pub enum Operation {
@@ -270,7 +270,7 @@ impl Session {
             return false;
         }
         let a = self.opening;
-        a.0 <= 18446744073709551615 - p.w
+        terms::opening_ok(p, a)
     }
 
     // "A timestamp being written of time 1 or more."
@@ -379,12 +379,8 @@ impl Session {
             × (kindOf (now frame) ≡ 4 → 55 ≤ length (now frame)) ⌝ }
         ensures { λ r. ⌜ r ≡ awaited self (now (frame .entry)) ⌝ }
     {
-        let a = frame::ask_of(frame);
-        let b = self.asked();
-        if a.0 != b.0 {
-            return false;
-        }
-        if frame::kind_of(frame) != self.kind_awaited() {
+        let a = self.asked();
+        if !frame::answers(frame, a, self.kind_awaited()) {
             return false;
         }
         let s = self.stage;
@@ -401,9 +397,8 @@ impl Session {
         requires { ⌜ i < 16 ⌝ }
         ensures { λ r. ⌜ r ≡ isHeard self i ⌝ }
     {
-        let m = self.marks[i];
-        let h = m.is;
-        rounds::bit(h) == 1
+        let marks = self.marks;
+        rounds::has_heard(marks, i)
     }
 
     // What a reply to a client is refused for: 1, 2, 9, 14, 4, 10, 11, in this order.

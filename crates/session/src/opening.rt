@@ -56,7 +56,7 @@ impl Session {
                 answer: Opening::Refused(Refusal::OutsidePlan),
             };
         }
-        if opening.0 > 18446744073709551615 - p.w {
+        if !terms::opening_ok(p, opening) {
             return Opened {
                 session: none,
                 answer: Opening::Refused(Refusal::AskTooHigh),

@@ -44,11 +44,11 @@ fn read_request(b: Bound, node: u64, ask: Ask, request: &mut [u8]) -> usize
 {
     match b {
         Bound::Free => {
-            frame::bare(request, 5, node, ask);
+            frame::latest(request, node, ask);
             15
         }
         Bound::Under(u) => {
-            frame::with_stamp(request, 6, node, ask, u);
+            frame::previous(request, node, ask, u);
             55
         }
     }

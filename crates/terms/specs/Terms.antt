@@ -1,6 +1,7 @@
 -- The plan, its two thresholds and what they decide. Document 01, "The plan", "Reading", "Refusal numbers"; the report's Table 2.
 --   columnOf tableOk planOk   the rules of a plan: the column of its member, and the ranges
 --   recordLength              R
+--   openingOk                 the opening ask number leaves room for W more: 13 at opening
 --   complete incomplete       the two thresholds of a plan
 --   classOf                   the class of a candidate set of a size, by two thresholds
 --   unsure verdictOf decided  what a read decides by: the class and the member
@@ -37,6 +38,10 @@ planOk p =
 -- R
 unfoldable pub recordLength : Plan → ℕ
 recordLength p = 40 + 32 * p .n + p .f
+
+-- opening ask number plus W at most 2^64-1
+abbrev pub openingOk : Plan → ℕ → Bool
+openingOk p a = leb a (18446744073709551615 - p .w)
 
 -- COMPLETE = Q+b and INCOMPLETE = Q-t
 abbrev pub complete : Plan → ℕ

@@ -1,6 +1,5 @@
 use mathlib.Core.Path.{sym, ap, _∙_}
 use mathlib.Core.Bool.{not}
-use borrow.Author.Tests.{le-leb, lt-leb}
 use Rattle.terms.proofs.Rungs as rungs
 use Rattle.session.specs.declared.Session.{Session}
 use Rattle.session.specs.Opening.{opens, openWith}
@@ -20,17 +19,17 @@ returns c =
     let fresh = c .before .before .fresh in
     rungs.stop 1 _ _ _ (ap not (sym (c .before .plan-ok .ensures)) ∙ c .if1 .taken) (ap (λ (s : Session). opens 1 s) (fresh .ensures))
 
-sub-if2 : tie.Need-sub-if2
-sub-if2 c = search needs
+opening-ok-requires : tie.Need-opening-ok-requires
+opening-ok-requires c κs = search needs
 
 returns-2 : tie.Need-returns-2
 unfolding openWith
 returns-2 c =
-    let if1 = c .before .before .before .if1 in
-    let plan-ok = c .before .before .before .before .plan-ok in
-    let fresh = c .before .before .before .before .before .fresh in
+    let if1 = c .before .before .if1 in
+    let plan-ok = c .before .before .before .plan-ok in
+    let fresh = c .before .before .before .before .fresh in
     rungs.go-on 1 _ _ _ (ap not (sym (plan-ok .ensures)) ∙ if1 .left)
-    (rungs.stop 13 _ _ _ (ap not (lt-leb _ _ (c .if2 .taken))) (ap (λ (s : Session). opens 13 s) (fresh .ensures)))
+    (rungs.stop 13 _ _ _ (ap not (sym (c .before .opening-ok .ensures)) ∙ c .if2 .taken) (ap (λ (s : Session). opens 13 s) (fresh .ensures)))
 
 fresh-requires-2 : tie.Need-fresh-requires-2
 fresh-requires-2 c κs = search needs
@@ -38,13 +37,13 @@ fresh-requires-2 c κs = search needs
 returns-3 : tie.Need-returns-3
 unfolding openWith
 returns-3 c =
-    let if1 = c .before .before .before .before .if1 in
-    let plan-ok = c .before .before .before .before .before .plan-ok in
+    let if1 = c .before .before .before .if1 in
+    let plan-ok = c .before .before .before .before .plan-ok in
     rungs.go-on 1 _ _ _ (ap not (sym (plan-ok .ensures)) ∙ if1 .left)
-    (rungs.go-on 13 _ _ _ (ap not (le-leb _ _ (c .before .if2 .left)))
+    (rungs.go-on 13 _ _ _ (ap not (sym (c .before .before .opening-ok .ensures)) ∙ c .before .if2 .left)
     (rungs.passed _ _ (ap (λ (s : Session). opens 0 s) (c .fresh2 .ensures))))
 
 pub begin-spec : {M : Type 1} → statement M
 begin-spec =
     tie.close
-    (tie.spec fresh-requires plan-ok-requires returns sub-if2 returns-2 fresh-requires-2 returns-3)
+    (tie.spec fresh-requires plan-ok-requires returns opening-ok-requires returns-2 fresh-requires-2 returns-3)

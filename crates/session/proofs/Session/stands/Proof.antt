@@ -37,12 +37,25 @@ returns-5 : tie.Need-returns-5
 unfolding standingRules
 returns-5 c = rules.holds _ (le-leb _ _ (c .before .before .before .before .before .before .before .before .before .if1 .left)) (rules.holds _ (le-leb _ _ (c .before .before .before .before .before .before .before .if2 .left)) (rules.holds _ (sym (c .before .before .before .before .before .before .counts .ensures) ∙ not-false (c .before .before .before .before .before .before .counts .result) (c .before .before .before .before .before .if3 .left)) (rules.holds _ (sym (c .before .before .before .before .bound-ok .ensures) ∙ not-false (c .before .before .before .before .bound-ok .result) (c .before .before .before .if4 .left)) (rules.fails _ (sym (c .before .rest-unheard .ensures) ∙ not-true (c .before .rest-unheard .result) (c .if5 .taken))))))
 
-sub-result : tie.Need-sub-result
-sub-result c = search needs
+opening-ok-requires : tie.Need-opening-ok-requires
+opening-ok-requires c κs = search needs
 
 returns-6 : tie.Need-returns-6
 unfolding standingRules
-returns-6 c = rules.holds _ (le-leb _ _ (c .before .before .before .before .before .before .before .before .before .before .before .before .if1 .left)) (rules.holds _ (le-leb _ _ (c .before .before .before .before .before .before .before .before .before .before .if2 .left)) (rules.holds _ (sym (c .before .before .before .before .before .before .before .before .before .counts .ensures) ∙ not-false (c .before .before .before .before .before .before .before .before .before .counts .result) (c .before .before .before .before .before .before .before .before .if3 .left)) (rules.holds _ (sym (c .before .before .before .before .before .before .before .bound-ok .ensures) ∙ not-false (c .before .before .before .before .before .before .before .bound-ok .result) (c .before .before .before .before .before .before .if4 .left)) (rules.holds _ (sym (c .before .before .before .before .rest-unheard .ensures) ∙ not-false (c .before .before .before .before .rest-unheard .result) (c .before .before .before .if5 .left)) (rules.last refl)))))
+returns-6 c =
+    let if1 = c .before .before .before .before .before .before .before .before .before .before .before .if1 in
+    let if2 = c .before .before .before .before .before .before .before .before .before .if2 in
+    let counts = c .before .before .before .before .before .before .before .before .counts in
+    let if3 = c .before .before .before .before .before .before .before .if3 in
+    let bound-ok = c .before .before .before .before .before .before .bound-ok in
+    let if4 = c .before .before .before .before .before .if4 in
+    let rest = c .before .before .before .rest-unheard in
+    let if5 = c .before .before .if5 in
+    rules.holds _ (le-leb _ _ (if1 .left))
+    (rules.holds _ (le-leb _ _ (if2 .left))
+    (rules.holds _ (sym (counts .ensures) ∙ not-false (counts .result) (if3 .left))
+    (rules.holds _ (sym (bound-ok .ensures) ∙ not-false (bound-ok .result) (if4 .left))
+    (rules.holds _ (sym (rest .ensures) ∙ not-false (rest .result) (if5 .left)) (rules.last (c .opening-ok .ensures))))))
 
 pub stands-spec : {M : Type 1} → statement M
 stands-spec =
@@ -56,5 +69,5 @@ stands-spec =
     returns-4
     rest-unheard-requires
     returns-5
-    sub-result
+    opening-ok-requires
     returns-6)

@@ -24,14 +24,14 @@ use Rattle.session.specs.declared.Stage.the-variants.{Asking, Storing, Ended}
 use Rattle.session.specs.declared.Operation.the-variants.{Read}
 use Rattle.session.specs.declared.opening.Opened.{Opened}
 use Rattle.session.specs.declared.opening.Opening.the-variants.{Accepted}
-use Rattle.session.specs.Session.{isAsking, isStoring, isEnded, replies, markedOf, endedOf, Said, refused, stillOpen, saidOf}
+use Rattle.session.specs.Session.{isAsking, isStoring, isEnded, replies, markedOf, endedOf, Said, refused, stillOpen, saidOf, isRefused}
 use Rattle.session.specs.Opening.{OpenCall}
 use Rattle.session.specs.Reply.{isHeard}
 use Rattle.session.specs.Reader.{Outcome, outcome, readReply}
 use Rattle.session.proofs.Openings.{accepted-session}
 use Rattle.session.proofs.ReadKept.{asking as is-asking}
 use Rattle.conduct.specs.Endings.{readLadder, heardAs, after}
-use Rattle.conduct.specs.Turns.{Turn, Turns, isRefused, closedRounds, Reports, lastSaid}
+use Rattle.conduct.specs.Turns.{Turn, Turns, closedRounds, Reports, lastSaid}
 use Rattle.conduct.proofs.Ladders as ladders
 use Rattle.conduct.proofs.Reading as reading
 use Rattle.session.proofs.Closings as shapes

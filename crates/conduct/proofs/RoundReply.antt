@@ -18,13 +18,12 @@ use Rattle.rounds.specs.Rounds.{heardCount, underOf}
 use Rattle.session.specs.declared.Session.{Session}
 use Rattle.session.specs.declared.Stage.{Stage}
 use Rattle.session.specs.declared.Stage.the-variants.{Asking, Storing, Ended}
-use Rattle.session.specs.Session.{isRead, isAsking, isStoring, isEnded, readRound, replies, refused}
+use Rattle.session.specs.Session.{isRead, isAsking, isStoring, isEnded, readRound, replies, refused, isRefused}
 use Rattle.session.specs.Ranges.{inRange}
 use Rattle.session.specs.Reply.{lengthsOk, awaited, isHeard, bears, recordLadder}
 use Rattle.session.specs.Reader.{Outcome, outcome, closed, settled, accepted, readReply}
 use Rattle.session.proofs.Made.{StandingIs, OpenIs, in-range-facts, open-in-range}
 use Rattle.conduct.specs.Endings.{readLadder, after, deskAfter}
-use Rattle.conduct.specs.Turns.{isRefused}
 use Rattle.conduct.specs.Round.{Acceptable}
 use Rattle.conduct.proofs.Ladders as ladders
 use Rattle.session.proofs.Closings as shapes

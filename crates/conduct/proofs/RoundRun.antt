@@ -14,12 +14,11 @@ use Rattle.frame.specs.Frame.{frameNode}
 use Rattle.frame.proofs.Frames.{reply-is}
 use Rattle.rounds.specs.Rounds.{heardCount}
 use Rattle.session.specs.declared.Session.{Session}
-use Rattle.session.specs.Session.{readRound, replies, Said, stillOpen}
+use Rattle.session.specs.Session.{readRound, replies, Said, stillOpen, isRefused}
 use Rattle.session.specs.Reply.{isHeard}
 use Rattle.session.proofs.Rules.{lengths-are}
 use Rattle.session.specs.Reader.{Outcome, acted, closed, settled, readReply}
 use Rattle.conduct.specs.Endings.{heardAs, after, deskAfter}
-use Rattle.conduct.specs.Turns.{isRefused}
 use Rattle.conduct.specs.Round.{opened, ending, answers, openUntil, Accepted, Each, OneANode, allMarked, allSlotted}
 use Rattle.conduct.proofs.RoundSwaps.{Reordered, length-kept, each-kept, one-kept}
 use Rattle.conduct.proofs.RoundOrder.{same-marks, same-slots}

@@ -21,10 +21,10 @@ use Rattle.terms.specs.declared.Plan.{Plan}
 use Rattle.frame.specs.Frame.{frameNode}
 use Rattle.rounds.specs.Rounds.{unheards}
 use Rattle.session.specs.declared.Session.{Session}
-use Rattle.session.specs.Session.{readRound, Said, stillOpen, saidOf}
+use Rattle.session.specs.Session.{readRound, Said, stillOpen, saidOf, isRefused}
 use Rattle.session.specs.Reader.{Outcome, outcome, readReply}
 use Rattle.conduct.specs.Endings.{after, deskAfter}
-use Rattle.conduct.specs.Turns.{Turn, isRefused}
+use Rattle.conduct.specs.Turns.{Turn}
 
 -- ---- the calls, each on the session, the desk and the item that the last one handed back
 abbrev pub opened : Session → List ℕ → List ℕ → Outcome

@@ -3,11 +3,11 @@
 --   Turn Turns         a reply with what the call was lent and left; each on the session and desk that the one before it left
 --   counts             the reply was accepted in a read round
 --   closedRounds       a read round closes at its N-t-th accepted reply; k were accepted in the round that is open
---   reported           the rounds that an answer reports
+--   Reports            an answer reports this number of rounds, where it reports one
 -- Assumes nothing.
 use Prim.{Unit}
 use Prim.Native.Nat.{ℕ, _+_}
-use mathlib.Core.Bool.{Bool, true, false, cond, not}
+use mathlib.Core.Bool.{Bool, cond, not}
 use mathlib.Core.List.{List, [], _∷_}
 use mathlib.Core.Path.{_≡_}
 use lib.Dec.{leb}
@@ -15,7 +15,7 @@ use Rattle.terms.specs.Ladder.{_and_}
 use Rattle.terms.specs.declared.Plan.{Plan}
 use Rattle.session.specs.declared.Session.{Session}
 use Rattle.session.specs.declared.Took.{Took}
-use Rattle.session.specs.Session.{isAsking, replies, Said, refused, stillOpen, done, neverWritten, aborted, roundsSpent, clockSpent, saidOf}
+use Rattle.session.specs.Session.{isAsking, replies, Said, refused, stillOpen, done, neverWritten, aborted, roundsSpent, clockSpent, saidOf, isRefused}
 use Rattle.session.specs.Reader.{ReadReplyCall}
 
 pub record Turn : Type 0 where
@@ -29,15 +29,6 @@ abbrev pub Turns : Plan → Session → List ℕ → List Turn → Type 0
 Turns p s d [] = Unit {0}
 Turns p s d (t ∷ ts) =
     ReadReplyCall p s (t .reply) d (t .item) (t .took) (t .deskLeft) (t .itemLeft) × Turns p (t .took .session) (t .deskLeft) ts
-
-abbrev pub isRefused : Said → Bool
-isRefused (refused k) = true
-isRefused stillOpen = false
-isRefused (done stamp n) = false
-isRefused (neverWritten n) = false
-isRefused (aborted n) = false
-isRefused (roundsSpent n) = false
-isRefused clockSpent = false
 
 abbrev pub counts : Session → Turn → Bool
 counts s t = isAsking (s .stage) and not (isRefused (saidOf (t .took .answer)))

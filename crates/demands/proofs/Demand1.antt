@@ -7,7 +7,7 @@
 --   node-ends fresh-ends opening-ends owed-ends write-ends read-ends
 use Prim.Native.Nat.{ℕ}
 use mathlib.Core.Path.{_≡_, refl, sym, ap, _∙_, subst}
-use mathlib.Core.Bool.{true, false}
+use mathlib.Core.Bool.{false}
 use mathlib.Core.List.{List, []}
 use lib.Dec.{ltb}
 use lib.ListN.{length}
@@ -31,15 +31,14 @@ use Rattle.session.specs.declared.Took.{Took}
 use Rattle.session.specs.declared.opening.Opened.{Opened}
 use Rattle.session.specs.declared.owed.Owed.{Owed}
 use Rattle.session.specs.Session as session
-use Rattle.session.specs.Session.{isStoring, markedOf, saidOf}
+use Rattle.session.specs.Session.{isStoring, markedOf, saidOf, isRefused}
 use Rattle.session.specs.Opening.{OpenCall, Opens, opens, openingLadder, openingNumber, openWith, freshOf, noSession}
 use Rattle.session.specs.Owed as owed
 use Rattle.session.specs.Owed.{OwedCall, Dues, dues, dueOf, owedTo, owedLadder, requestOf}
-use Rattle.session.specs.Reader.{ReadReplyCall, Outcome, outcome, readReply, accepted, stored}
-use Rattle.session.specs.Writer.{WriteReplyCall, Leaves, leaves, writeReply, acceptedWrite, writeTurn, timeTurn, timeEnd}
+use Rattle.session.specs.Reader.{ReadReplyCall, Outcome, outcome, accepted, stored}
+use Rattle.session.specs.Writer.{WriteReplyCall, Leaves, leaves, acceptedWrite}
 use Rattle.session.proofs.Closings.{pick}
 use Rattle.conduct.specs.Endings.{readLadder, writeLadder, after, deskAfter}
-use Rattle.conduct.specs.Turns.{isRefused}
 use Rattle.conduct.proofs.Ladders as ladders
 use Rattle.conduct.proofs.Reading as reading
 use Rattle.conduct.proofs.Writing as writing
@@ -120,7 +119,7 @@ write-ends p s f d i t d₂ c =
 
 -- ---- a reply to a reader: order 1, 2, 9, 14, 4, 10, 11, 5, 6, 12; open, or one of a read's endings (read-open, read-done, never-written,
 -- is-aborted and rounds-spent of conduct), and no refusal
-accepted-taken : (p : Plan) (s : Session) (f d i : List ℕ) → isRefused (accepted p s f d i .said) ≡ false
+pub accepted-taken : (p : Plan) (s : Session) (f d i : List ℕ) → isRefused (accepted p s f d i .said) ≡ false
 unfolding accepted stored
 accepted-taken p s f d i =
     pick Taken (isStoring (s .stage)) (pick Taken (ltb (heardCount (markedOf s (frameNode f) Record .marks)) (session.replies p)) refl refl)

@@ -1,7 +1,7 @@
 -- DEMAND 2. "Node, writer and reader act as the report lays down, with SHA-256 of FIPS 180-4 and the field of FIPS 197. An encoded block
 -- comes back from any m of its N fragments. Each refusal is given exactly when document 01 says."
 --   plan-as-the-report plan-by-the-report    accepted exactly by the ranges and Table 2
---   node-as-the-report     the replies, and the set of versions after them, are Figure 1's
+--   node-as-the-report node-over-time    the replies, and the set of versions after them, are Figure 1's
 --   write-as-the-report    a whole write, from its opening, is Figure 2's WRITE
 --   read-as-the-report     a whole read, from its opening, is Figure 3's READ, cut at W
 --   comes-back             an encoded block comes back from any m of its N fragments
@@ -22,18 +22,22 @@ use Rattle.terms.specs.declared.Ask.{Ask}
 use Rattle.terms.specs.declared.Plan.{Plan}
 use Rattle.frame.specs.Frame.{kindOf, frameNode, askOf, bodyOf, frame}
 use Rattle.node.specs.declared.Answer.the-variants.{Replied}
+use Rattle.node.specs.declared.Made.the-variants.{Fresh}
 use Rattle.node.specs.Node.{NodeCall}
+use Rattle.node.specs.Fresh.{FreshCall}
 use Rattle.session.specs.declared.opening.Opened.{Opened}
 use Rattle.session.specs.declared.opening.Opening.the-variants.{Accepted}
 use Rattle.session.specs.declared.Operation.the-variants.{Write, Read}
 use Rattle.session.specs.Opening.{OpenCall}
+use Rattle.conduct.specs.History.{Call, History, lastBook}
 use Rattle.conduct.specs.Turns.{Turn}
-use Rattle.report.specs.Figure1.{RECEIVE-TIME-REQUEST, RECEIVE-READ-LATEST, RECEIVE-READ-PREVIOUS}
+use Rattle.report.specs.Triple.{Same}
+use Rattle.report.specs.Figure1.{INITIALIZE, RECEIVE-TIME-REQUEST, RECEIVE-READ-LATEST, RECEIVE-READ-PREVIOUS}
 use Rattle.report.specs.Ours.{history, timeIn}
-use Rattle.report.specs.Run.{Reads, AllApart, closedOver, EachTells}
+use Rattle.report.specs.Run.{OfPlan, received, Reads, AllApart, AllClose, closedOver, EachTells}
 use Rattle.report.specs.WriteRun.{Writes, untimed, EachWrites}
 use Rattle.report.proofs.Plans.{Ranges, Table2-of, accepted-is, accepted-back}
-use Rattle.report.proofs.Node.{Sends, Executes, time-acts, latest-acts, previous-acts, write-acts}
+use Rattle.report.proofs.Node.{Sends, Executes, time-acts, latest-acts, previous-acts, write-acts, fresh-run}
 use Rattle.report.proofs.Run.{opened-read}
 use Rattle.report.proofs.Write.{opened-write}
 
@@ -61,6 +65,11 @@ node-as-the-report p f b y of ob n b₂ y₂ c =
       write = write-acts p f b y ob of n b₂ y₂ c;
     }
 
+-- Over any calls, from a fresh book on: the versions that a book holds are those that Figure 1 holds from INITIALIZE on.
+pub node-over-time : (p : Plan) (node : ℕ) (b b₂ : List ℕ) (cs : List Call) → FreshCall p node b Fresh b₂ → History b₂ cs → OfPlan p cs
+    → Same (history p (lastBook b₂ cs)) (received p node INITIALIZE cs)
+node-over-time = fresh-run
+
 -- Over any replies from an accepted opening on: the write round sends what Figure 2's WRITE sends for the times heard and the item, and
 -- "done" bears its timestamp.
 pub write-as-the-report : (p : Plan) (a : Ask) (r : Opened) (d : List ℕ) (cs : List Turn) → OpenCall Write p a r → r .answer ≡ Accepted
@@ -68,11 +77,12 @@ pub write-as-the-report : (p : Plan) (a : Ask) (r : Opened) (d : List ℕ) (cs :
 write-as-the-report = opened-write
 
 -- Over any replies from an accepted opening on: each answer is what Figure 3's READ says of the response sets of the rounds closed so far,
--- where no two cross checksums of one response set share a hash.
+-- each of which is one that DO_READ gathered for the command that READ was to send, of N-t responses; where no two cross checksums of one
+-- response set share a hash.
 pub read-as-the-report : (p : Plan) (a : Ask) (r : Opened) (d : List ℕ) (cs : List Turn) → OpenCall Read p a r → r .answer ≡ Accepted
     → length d ≡ p .n * recordLength p → Octets d → Reads p (r .session) d cs → AllApart (closedOver p (r .session) d [] cs)
-    → EachTells p (r .session) d [] cs
-read-as-the-report p a r d cs call e l o h k = opened-read p a r d cs call e l o h k .0
+    → EachTells p (r .session) d [] cs × AllClose p (closedOver p (r .session) d [] cs)
+read-as-the-report = opened-read
 
 -- An item of m·F bytes, encoded into n fragments of F bytes wherever in a buffer, comes back from any m of them.
 pub comes-back : (m F : ℕ) (item : List ℕ) → m ≤ 256 → Octets item → length item ≡ m * F → (n : ℕ) (desk : List ℕ) (first stride : ℕ) → F ≤ stride

@@ -7,18 +7,20 @@ use lib.ListN.{length}
 use Rattle.terms.specs.declared.Plan.{Plan}
 use Rattle.session.specs.declared.Session.{Session}
 use Rattle.session.specs.Session.{replies}
-use Rattle.conduct.specs.Deliver.{Delivery, delivered}
+use Rattle.conduct.specs.Deliver.{Delivery, delivered, finalBook, Contents}
 use Rattle.conduct.specs.Turns.{Turn, Turns}
 use Rattle.conduct.specs.Round.{opened, RoundOpens, Accepted, SameReplies, Lent, repliesOf, answersOf, leftBy}
-use Rattle.conduct.proofs.Books.{Setting, any-order}
+use Rattle.conduct.proofs.Books.{Setting, every-book, what-is-left, any-order}
 use Rattle.conduct.proofs.RoundCalls.{any-order-calls}
 
 -- "Take good books and a set of write requests. Each book and reply buffer has room, and at one node no two requests that pass the checks,
 -- and no such request and held record, share a timestamp but not the record (Setting). Then delivering all of them, in any order and with
--- repeats, leaves the same bytes in all N books: the old records and the accepted ones, each once, by timestamp" (what-is-left of conduct).
+-- repeats, leaves the same bytes in all N books: the old records and the accepted ones, each once, by timestamp" (finalBook, Contents).
 pub books-in-any-order : (p : Plan) (books : ℕ → List ℕ) (requests : List (List ℕ)) (one other : List Delivery)
-    → Setting p books requests one → Setting p books requests other → (i : ℕ) → i < p .n → delivered p one books i ≡ delivered p other books i
-books-in-any-order = any-order
+    → Setting p books requests one → Setting p books requests other → (i : ℕ) → i < p .n
+    → (delivered p one books i ≡ delivered p other books i) × (delivered p one books i ≡ finalBook p (books i) requests) × Contents p (books i) requests
+books-in-any-order p books requests one other g h i l =
+    (any-order p books requests one other g h i l, every-book p books requests one g i l, what-is-left p books requests one g i l)
 
 -- "From one session, desk and sheet buffer, a read round that opens there and hears the same N - t acceptable replies, one a node, ends alike
 -- in whichever order they come": the same answers in turn, and at the end the same session, desk and item. Acceptability is asked of one

@@ -16,7 +16,11 @@ use Rattle.terms.specs.declared.Class.the-variants.{Unclassifiable}
 use Rattle.terms.proofs.Facts.{none-unclassifiable}
 use Rattle.node.specs.Node.{served}
 use Rattle.node.specs.Fresh.{freshened}
-use Rattle.demands.specs.Edges.{Sheet, sheet, planOf, Every, RefusedOne, Hold, firstPlan, secondPlan, table}
+use Rattle.session.specs.Opening.{openWith}
+use Rattle.session.specs.Owed.{owedTo}
+use Rattle.session.specs.Writer.{writeReply}
+use Rattle.session.specs.Reader.{readReply}
+use Rattle.demands.specs.Edges.{Sheet, sheet, planWith, Every, RefusedOne, Hold, firstPlan, secondPlan, table}
 
 -- the rules of a plan that F and W have no part in
 sheetOk : Sheet → Bool
@@ -32,11 +36,20 @@ accepts : (s : Sheet) → sheetOk s ≡ true → Every s (λ (p : Plan). planOk 
 accepts s e F W c f₁ f₂ w₁ w₂ = in-range s F W c f₁ f₂ w₁ w₂ ∙ e
 
 refused-one : (p : Plan) → planOk p ≡ false → RefusedOne p
-unfolding served freshened first
-refused-one p e = record { outside = e; node = λ f b y. rw e; fresh = λ node b. rw e }
+unfolding served freshened openWith owedTo writeReply readReply first
+refused-one p e =
+    record {
+      outside = e;
+      node = λ f b y. rw e;
+      fresh = λ node b. rw e;
+      opening = λ op b a. rw e;
+      owed = λ s node d q. rw e;
+      write = λ s f d i. rw e;
+      read = λ s f d i. rw e;
+    }
 
 refuses : (s : Sheet) → sheetOk s ≡ false → Every s RefusedOne
-refuses s e F W c f₁ f₂ w₁ w₂ = refused-one (planOf s F W c) (in-range s F W c f₁ f₂ w₁ w₂ ∙ e)
+refuses s e F W c f₁ f₂ w₁ w₂ = refused-one (planWith s F W c) (in-range s F W c f₁ f₂ w₁ w₂ ∙ e)
 
 -- b above t, whatever the rest is
 too-many : (a d : Bool) (rest : List Bool) → all (a ∷ d ∷ false ∷ rest) ≡ false
@@ -47,11 +60,11 @@ too-many true true rest = refl
 
 exclude-all : (k : Member) (n t b q m : ℕ) → leb b t ≡ false → Every (sheet k n t b q m) RefusedOne
 unfolding planOk
-exclude-all k n t b q m e F W c f₁ f₂ w₁ w₂ = refused-one (planOf (sheet k n t b q m) F W c) (rw e (too-many (leb 1 n) (leb n 16) _))
+exclude-all k n t b q m e F W c f₁ f₂ w₁ w₂ = refused-one (planWith (sheet k n t b q m) F W c) (rw e (too-many (leb 1 n) (leb n 16) _))
 
 certain-all : (s : Sheet) → sheetOk s ≡ true → s .t ≡ 0
     → Every s (λ (p : Plan). (size : ℕ) → classOf (complete p) (incomplete p) size ≡ Unclassifiable → ⊥)
-certain-all s e z F W c f₁ f₂ w₁ w₂ = none-unclassifiable (planOf s F W c) (accepts s e F W c f₁ f₂ w₁ w₂) z
+certain-all s e z F W c f₁ f₂ w₁ w₂ = none-unclassifiable (planWith s F W c) (accepts s e F W c f₁ f₂ w₁ w₂) z
 
 -- EVERY STARRED CASE OF DOCUMENT 01'S TABLE HOLDS
 pub edges : Hold table

@@ -1,40 +1,188 @@
--- Two outcomes that one contract of the interface allows are equal: the number answered and every byte of every lent slice, session bytes
--- too, at every input. fresh-unique node-unique open-unique owed-unique write-unique read-unique. Assumes nothing.
-use Prim.Native.Nat.{ℕ}
-use mathlib.Core.Path.{_≡_, sym, ap, _∙_}
+-- The calls for a host, on numbers and bytes. Assumes nothing.
+-- Two outcomes that one contract allows are equal: the number answered and every byte of every lent slice, session bytes too, at every
+-- input: host-fresh-unique host-node-unique host-open-unique host-owed-unique host-write-unique host-read-unique.
+-- DEMAND 1 of them: a refused call changes no byte: host-fresh-stays host-node-stays host-open-stays host-owed-stays host-write-stays
+-- host-read-stays. Refused is a number that is neither 0 nor, of a reply, 101 or more.
+use Prim.Native.Nat.{ℕ, _≤_, _<_}
+use mathlib.Core.Path.{_≡_, refl, sym, ap, _∙_, subst}
+use mathlib.Core.Bool.{Bool, false, cond}
 use mathlib.Core.List.{List}
+use native.Mathlib.Omega.{arith}
+use borrow.Author.Tests.{ne-eqb}
+use lib.Dec.{ltb, eqb}
+use lib.ListN.{length}
+use Rattle.terms.specs.Ladder.{first}
+use Rattle.terms.specs.declared.Plan.{Plan}
+use Rattle.terms.proofs.Rungs.{clash}
+use Rattle.rounds.specs.declared.Bound.the-variants.{Free}
+use Rattle.rounds.specs.declared.Heard.the-variants.{Record}
+use Rattle.rounds.specs.Rounds.{heardCount}
+use Rattle.frame.specs.Frame.{frameNode, bodyOf}
+use Rattle.terms.specs.Stamp.{time}
+use Rattle.node.specs.Fresh.{FreshOutcome, freshLadder, freshened}
+use Rattle.node.specs.Node as node
+use Rattle.node.specs.Node.{nodeLadder, served, answered, sends}
 use Rattle.session.specs.declared.Operation.{Operation}
+use Rattle.session.specs.declared.Operation.the-variants.{Write}
+use Rattle.session.specs.declared.Session.{Session}
+use Rattle.session.specs.Session.{Said, refused, stillOpen, done, neverWritten, aborted, roundsSpent, clockSpent, isStoring, replies, markedOf, isRefused}
+use Rattle.session.specs.Opening.{openWith}
+use Rattle.session.specs.Owed.{Dues, owedLadder, owedTo}
+use Rattle.session.specs.Reply.{replyLadder}
+use Rattle.session.specs.Writer.{Leaves, leaves, timedOf, writeTurn, timeTurn, timeEnd, acceptedWrite, writeReply}
+use Rattle.session.specs.Reader.{Outcome, outcome, readReply}
+use Rattle.session.proofs.Checks.{outcome-all}
+use Rattle.conduct.specs.Endings.{readLadder}
+use Rattle.conduct.proofs.Reading as reading
+use Rattle.packing.specs.PlanBytes.{planOf}
+use Rattle.packing.specs.SessionBytes.{sessionBytes, sessionOf}
+use Rattle.answers.specs.Answers.{lentLadder, bothFit, madeNumber, servedNumber, dueNumber, answerNumber, endingAfter}
 use Rattle.pasis.specs.Store.{FreshBook, NodeServes}
-use Rattle.pasis.specs.Client.{Opened, OpenServes, Asked, OwedServes, Took, WriteServes, ReadServes}
+use Rattle.pasis.specs.Client.{sessionFits, sessionAfter, Opened, opened, openBytes, OpenServes, Asked, asked, owedBytes, OwedServes, Took, took, withItem, tookAs, writeBytes, readBytes, WriteServes, ReadServes}
+use Rattle.pasis.proofs.Carried.{either}
+use Rattle.demands.proofs.Demand1.{accepted-taken}
 
-pub fresh-unique : (x : List ℕ) (n : ℕ) (b : List ℕ) (r r′ : ℕ) (b₂ b₂′ : List ℕ) → FreshBook x n b r b₂ → FreshBook x n b r′ b₂′
+pub host-fresh-unique : (x : List ℕ) (n : ℕ) (b : List ℕ) (r r′ : ℕ) (b₂ b₂′ : List ℕ) → FreshBook x n b r b₂ → FreshBook x n b r′ b₂′
     → (r ≡ r′) × (b₂ ≡ b₂′)
-fresh-unique x n b r r′ b₂ b₂′ c c′ = (c .number ∙ sym (c′ .number), c .book ∙ sym (c′ .book))
+host-fresh-unique x n b r r′ b₂ b₂′ c c′ = (c .number ∙ sym (c′ .number), c .book ∙ sym (c′ .book))
 
-pub node-unique : (x f b y : List ℕ) (r r′ : ℕ) (b₂ b₂′ y₂ y₂′ : List ℕ) → NodeServes x f b y r b₂ y₂ → NodeServes x f b y r′ b₂′ y₂′
+pub host-node-unique : (x f b y : List ℕ) (r r′ : ℕ) (b₂ b₂′ y₂ y₂′ : List ℕ) → NodeServes x f b y r b₂ y₂ → NodeServes x f b y r′ b₂′ y₂′
     → (r ≡ r′) × (b₂ ≡ b₂′) × (y₂ ≡ y₂′)
-node-unique x f b y r r′ b₂ b₂′ y₂ y₂′ c c′ = (c .number ∙ sym (c′ .number), c .book ∙ sym (c′ .book), c .reply ∙ sym (c′ .reply))
+host-node-unique x f b y r r′ b₂ b₂′ y₂ y₂′ c c′ = (c .number ∙ sym (c′ .number), c .book ∙ sym (c′ .book), c .reply ∙ sym (c′ .reply))
 
-pub open-unique : (op : Operation) (x : List ℕ) (a : ℕ) (s : List ℕ) (r r′ : ℕ) (s₂ s₂′ : List ℕ) → OpenServes op x a s r s₂ → OpenServes op x a s r′ s₂′
+pub host-open-unique : (op : Operation) (x : List ℕ) (a : ℕ) (s : List ℕ) (r r′ : ℕ) (s₂ s₂′ : List ℕ) → OpenServes op x a s r s₂ → OpenServes op x a s r′ s₂′
     → (r ≡ r′) × (s₂ ≡ s₂′)
-open-unique op x a s r r′ s₂ s₂′ c c′ =
+host-open-unique op x a s r r′ s₂ s₂′ c c′ =
     let e = c .is ∙ sym (c′ .is) in
     (ap (λ (o : Opened). o .number) e, ap (λ (o : Opened). o .session) e)
 
-pub owed-unique : (x s : List ℕ) (n : ℕ) (d q : List ℕ) (r r′ : ℕ) (q₂ q₂′ : List ℕ) → OwedServes x s n d q r q₂ → OwedServes x s n d q r′ q₂′
+pub host-owed-unique : (x s : List ℕ) (n : ℕ) (d q : List ℕ) (r r′ : ℕ) (q₂ q₂′ : List ℕ) → OwedServes x s n d q r q₂ → OwedServes x s n d q r′ q₂′
     → (r ≡ r′) × (q₂ ≡ q₂′)
-owed-unique x s n d q r r′ q₂ q₂′ c c′ =
+host-owed-unique x s n d q r r′ q₂ q₂′ c c′ =
     let e = c .is ∙ sym (c′ .is) in
     (ap (λ (o : Asked). o .number) e, ap (λ (o : Asked). o .request) e)
 
-pub write-unique : (x s f d i e : List ℕ) (r r′ : ℕ) (s₂ s₂′ d₂ d₂′ e₂ e₂′ : List ℕ) → WriteServes x s f d i e r s₂ d₂ e₂
+pub host-write-unique : (x s f d i e : List ℕ) (r r′ : ℕ) (s₂ s₂′ d₂ d₂′ e₂ e₂′ : List ℕ) → WriteServes x s f d i e r s₂ d₂ e₂
     → WriteServes x s f d i e r′ s₂′ d₂′ e₂′ → (r ≡ r′) × (s₂ ≡ s₂′) × (d₂ ≡ d₂′) × (e₂ ≡ e₂′)
-write-unique x s f d i e r r′ s₂ s₂′ d₂ d₂′ e₂ e₂′ c c′ =
+host-write-unique x s f d i e r r′ s₂ s₂′ d₂ d₂′ e₂ e₂′ c c′ =
     let q = c .is ∙ sym (c′ .is) in
     (ap (λ (o : Took). o .number) q, ap (λ (o : Took). o .session) q, ap (λ (o : Took). o .desk) q, ap (λ (o : Took). o .ending) q)
 
-pub read-unique : (x s f d i e : List ℕ) (r r′ : ℕ) (s₂ s₂′ d₂ d₂′ i₂ i₂′ e₂ e₂′ : List ℕ) → ReadServes x s f d i e r s₂ d₂ i₂ e₂
+pub host-read-unique : (x s f d i e : List ℕ) (r r′ : ℕ) (s₂ s₂′ d₂ d₂′ i₂ i₂′ e₂ e₂′ : List ℕ) → ReadServes x s f d i e r s₂ d₂ i₂ e₂
     → ReadServes x s f d i e r′ s₂′ d₂′ i₂′ e₂′ → (r ≡ r′) × (s₂ ≡ s₂′) × (d₂ ≡ d₂′) × (i₂ ≡ i₂′) × (e₂ ≡ e₂′)
-read-unique x s f d i e r r′ s₂ s₂′ d₂ d₂′ i₂ i₂′ e₂ e₂′ c c′ =
+host-read-unique x s f d i e r r′ s₂ s₂′ d₂ d₂′ i₂ i₂′ e₂ e₂′ c c′ =
     let q = c .is ∙ sym (c′ .is) in
     (ap (λ (o : Took). o .number) q, ap (λ (o : Took). o .session) q, ap (λ (o : Took). o .desk) q, ap (λ (o : Took). o .item) q, ap (λ (o : Took). o .ending) q)
+
+-- ---- refused calls
+pub host-fresh-stays : (x : List ℕ) (n : ℕ) (b : List ℕ) (r : ℕ) (b₂ : List ℕ) → FreshBook x n b r b₂ → (r ≡ 0 → ⊥) → b₂ ≡ b
+unfolding freshened
+host-fresh-stays x n b r b₂ c h =
+    c .book
+    ∙ outcome-all (λ (o : FreshOutcome). (madeNumber (o .answer) ≡ 0 → ⊥) → o .book ≡ b) (freshLadder (planOf x) n b) _ _ (λ k g. refl)
+    (λ e g. absurd (g refl)) (λ e. h (c .number ∙ e))
+
+pub host-node-stays : (x f b y : List ℕ) (r : ℕ) (b₂ y₂ : List ℕ) → NodeServes x f b y r b₂ y₂ → (r ≡ 0 → ⊥) → (b₂ ≡ b) × (y₂ ≡ y)
+unfolding served answered sends
+host-node-stays x f b y r b₂ y₂ c h =
+    let q =
+    outcome-all (λ (o : node.Outcome). (servedNumber (o .answer) ≡ 0 → ⊥) → (o .book ≡ b) × (o .reply ≡ y)) (nodeLadder (planOf x) f b y) _ _
+    (λ k g. (refl, refl)) (λ e g. absurd (g refl)) (λ e. h (c .number ∙ e)) in
+    (c .book ∙ q .0, c .reply ∙ q .1)
+
+pub host-open-stays : (op : Operation) (x : List ℕ) (a : ℕ) (s : List ℕ) (r : ℕ) (s₂ : List ℕ) → OpenServes op x a s r s₂ → (r ≡ 0 → ⊥) → s₂ ≡ s
+unfolding openBytes
+host-open-stays op x a s r s₂ c h =
+    let o = openWith op Free (planOf x) (record { 0 = a }) in
+    ap (λ (z : Opened). z .session) (c .is)
+    ∙ outcome-all (λ (z : Opened). (z .number ≡ 0 → ⊥) → z .session ≡ s) (lentLadder (planOf x) (sessionFits (length s))) (λ (k : ℕ). opened k s) _
+    (λ k g. refl) (λ e g. ap (λ (t : Bool). cond t (sessionBytes (o .session)) s) (ne-eqb (o .number) 0 g))
+    (λ e. h (ap (λ (z : Opened). z .number) (c .is) ∙ e))
+
+pub host-owed-stays : (x s : List ℕ) (n : ℕ) (d q : List ℕ) (r : ℕ) (q₂ : List ℕ) → OwedServes x s n d q r q₂ → (r ≡ 0 → ⊥) → q₂ ≡ q
+unfolding owedBytes owedTo
+host-owed-stays x s n d q r q₂ c h =
+    ap (λ (z : Asked). z .request) (c .is)
+    ∙ outcome-all (λ (z : Asked). (z .number ≡ 0 → ⊥) → z .request ≡ q) (lentLadder (planOf x) (sessionFits (length s))) (λ (k : ℕ). asked k q) _
+    (λ k g. refl)
+    (λ e. outcome-all (λ (z : Dues). (dueNumber (z .due) ≡ 0 → ⊥) → z .request ≡ q) (owedLadder (planOf x) (sessionOf s) n d (length q)) _ _
+    (λ k g. refl) (λ u g. absurd (g refl)))
+    (λ e. h (ap (λ (z : Asked). z .number) (c .is) ∙ e))
+
+-- an answer that is no refusal has no refusal's number
+not-between : (a : Said) → isRefused a ≡ false → 1 ≤ answerNumber a → answerNumber a < 101 → ⊥
+not-between (refused k) e l u = clash e
+not-between stillOpen e l u = omega arith
+not-between (done t n) e l u = omega arith
+not-between (neverWritten n) e l u = omega arith
+not-between (aborted n) e l u = omega arith
+not-between (roundsSpent n) e l u = omega arith
+not-between clockSpent e l u = omega arith
+
+-- all bytes of a reply's call are as they came, where its number is a refusal's
+Stays : (s d i e : List ℕ) → Took → Type 0
+Stays s d i e z = 1 ≤ z .number → z .number < 101 → (z .session ≡ s) × (z .desk ≡ d) × (z .item ≡ i) × (z .ending ≡ e)
+
+module _ (s d i e : List ℕ) where
+  -- of an outcome that a ladder refused, and of one that is no refusal
+  refused-stays : (k : ℕ) (w : Session) → Stays s d i e (tookAs (outcome (refused k) w d i) s e)
+  unfolding Stays sessionAfter endingAfter
+  refused-stays k w l u = (refl, refl, refl, refl)
+
+  taken-stays : (o : Outcome) → isRefused (o .said) ≡ false → Stays s d i e (tookAs o s e)
+  unfolding Stays
+  taken-stays o t l u = absurd (not-between (o .said) t l u)
+
+  -- 1 and 2 of the lengths come before the call
+  lent-stays : (p : Plan) (t : Took) → Stays s d i e t
+      → Stays s d i e (first (lentLadder p (bothFit (length s) (length e))) (λ (k : ℕ). took k s d i e) t)
+  lent-stays p t h =
+      outcome-all (Stays s d i e) (lentLadder p (bothFit (length s) (length e))) (λ (k : ℕ). took k s d i e) t
+      (unfold Stays in λ k l u. (refl, refl, refl, refl)) (λ n. h)
+
+pub host-read-stays : (x s f d i e : List ℕ) (r : ℕ) (s₂ d₂ i₂ e₂ : List ℕ) → ReadServes x s f d i e r s₂ d₂ i₂ e₂ → 1 ≤ r → r < 101
+    → (s₂ ≡ s) × (d₂ ≡ d) × (i₂ ≡ i) × (e₂ ≡ e)
+unfolding readBytes Stays
+host-read-stays x s f d i e r s₂ d₂ i₂ e₂ c = subst (Stays s d i e) (sym (c .is)) (lent-stays s d i e (planOf x) _ called)
+  where
+    p : Plan
+    p = planOf x
+
+    w : Session
+    w = sessionOf s
+
+    called : Stays s d i e (tookAs (readReply p w f d i) s e)
+    called =
+        subst (λ (o : Outcome). Stays s d i e (tookAs o s e)) (sym (reading.one-ladder p w f d i))
+        (outcome-all (λ (o : Outcome). Stays s d i e (tookAs o s e)) (readLadder p w f d (length i)) (λ (k : ℕ). outcome (refused k) w d i) _
+        (λ k. refused-stays s d i e k w) (λ n. taken-stays s d i e _ (accepted-taken p w f d i)))
+
+-- a writer's reply that nothing refuses is not refused
+write-taken : (p : Plan) (s : Session) (f d i : List ℕ) → isRefused (acceptedWrite p s f d i .said) ≡ false
+unfolding acceptedWrite writeTurn timeTurn timeEnd
+write-taken p s f d i =
+    let timed = timedOf s (frameNode f) (time (bodyOf f)) in
+    either Taken (isStoring (s .stage))
+    (either Taken (ltb (heardCount (markedOf s (frameNode f) Record .marks)) (replies p)) refl refl)
+    (either Taken (ltb (heardCount (timed .marks)) (replies p)) refl (either Taken (eqb (timed .greatest .0) 18446744073709551615) refl refl))
+  where
+    Taken : Leaves → Type 0
+    Taken o = isRefused (o .said) ≡ false
+
+pub host-write-stays : (x s f d i e : List ℕ) (r : ℕ) (s₂ d₂ e₂ : List ℕ) → WriteServes x s f d i e r s₂ d₂ e₂ → 1 ≤ r → r < 101
+    → (s₂ ≡ s) × (d₂ ≡ d) × (e₂ ≡ e)
+unfolding writeBytes writeReply Stays
+host-write-stays x s f d i e r s₂ d₂ e₂ c l u =
+    let q = subst (Stays s d i e) (sym (c .is)) (lent-stays s d i e (planOf x) _ called) l u in
+    (q .0, q .1, q .3)
+  where
+    p : Plan
+    p = planOf x
+
+    w : Session
+    w = sessionOf s
+
+    called : Stays s d i e (tookAs (withItem (writeReply p w f d i) i) s e)
+    called =
+        outcome-all (λ (o : Leaves). Stays s d i e (tookAs (withItem o i) s e)) (replyLadder Write p w f d (length i)) (λ (k : ℕ). leaves (refused k) w d) _
+        (λ k. refused-stays s d i e k w) (λ n. taken-stays s d i e _ (write-taken p w f d i))

@@ -1,8 +1,9 @@
 -- Document 01, "Both sides of each edge": the cases marked *, as one table. The one theorem over it is `edges` of proofs/Edges.antt.
---   Sheet, planOf       a plan without F, W and its clients; the plan of a sheet with these three
+--   Sheet, planWith     a plan without F, W and its clients; the plan of a sheet with these three
+--   RefusedOne          refused 1, by every call
 --   Every               a sheet's plans for every F and W in their ranges, and both client models
 --   Case, table         the document's cases and what it says of each, in its order
---   Holds               that what is said of a case is so
+--   Holds Hold          that what is said of a case is so, and of each case of a list
 -- Assumes nothing.
 use Prim.{Unit}
 use Prim.Native.Nat.{ℕ, _≤_}
@@ -22,6 +23,17 @@ use Rattle.terms.specs.declared.Verdict.the-variants.{Complete, Repair, Aborted
 use Rattle.node.specs.Node.{served, outcome, refused}
 use Rattle.node.specs.Fresh.{freshened, freshOutcome}
 use Rattle.node.specs.Fresh as fresh
+use Rattle.terms.specs.declared.Ask.{Ask}
+use Rattle.rounds.specs.declared.Bound.{Bound}
+use Rattle.session.specs.declared.Operation.{Operation}
+use Rattle.session.specs.declared.Session.{Session}
+use Rattle.session.specs.Session as session
+use Rattle.session.specs.Opening.{opens, noSession, openWith}
+use Rattle.session.specs.Owed as owed
+use Rattle.session.specs.Owed.{dues, owedTo}
+use Rattle.session.specs.Writer.{leaves, writeReply}
+use Rattle.session.specs.Reader as reader
+use Rattle.session.specs.Reader.{readReply}
 
 pub record Sheet : Type 0 where
   pub member : Member
@@ -34,17 +46,21 @@ pub record Sheet : Type 0 where
 abbrev pub sheet : Member → (n t b q m : ℕ) → Sheet
 sheet k n t b q m = record { member = k; n = n; t = t; b = b; q = q; m = m }
 
-abbrev pub planOf : Sheet → (F W : ℕ) → Clients → Plan
-planOf s F W c = record { n = s .n; t = s .t; b = s .b; q = s .q; m = s .m; f = F; member = s .member; clients = c; w = W }
+abbrev pub planWith : Sheet → (F W : ℕ) → Clients → Plan
+planWith s F W c = record { n = s .n; t = s .t; b = s .b; q = s .q; m = s .m; f = F; member = s .member; clients = c; w = W }
 
 abbrev pub Every : Sheet → (Plan → Type 0) → Type 0
-Every s P = (F W : ℕ) (c : Clients) → 1 ≤ F → F ≤ 1024 → 1 ≤ W → W ≤ 65535 → P (planOf s F W c)
+Every s P = (F W : ℕ) (c : Clients) → 1 ≤ F → F ≤ 1024 → 1 ≤ W → W ≤ 65535 → P (planWith s F W c)
 
--- refused 1: outside the plan's rules, and both calls of a node answer 1 whatever they are lent, and leave it
+-- refused 1: outside the plan's rules, and every call answers 1 whatever it is lent, and leaves it
 pub record RefusedOne (p : Plan) : Type 0 where
   pub outside : planOk p ≡ false
   pub node : (f b y : List ℕ) → served p f b y ≡ outcome (refused 1) b y
   pub fresh : (node : ℕ) (b : List ℕ) → freshened p node b ≡ freshOutcome (fresh.refused 1) b
+  pub opening : (op : Operation) (b : Bound) (a : Ask) → openWith op b p a ≡ opens 1 (noSession op)
+  pub owed : (s : Session) (node : ℕ) (d q : List ℕ) → owedTo p s node d q ≡ dues (owed.refused 1) q
+  pub write : (s : Session) (f d i : List ℕ) → writeReply p s f d i ≡ leaves (session.refused 1) s d
+  pub read : (s : Session) (f d i : List ℕ) → readReply p s f d i ≡ reader.outcome (session.refused 1) s d i
 
 -- ---- the table
 pub data Case : Type 0 where

@@ -25,6 +25,10 @@ module _ (fits : Bool) (new before : List ℕ) where
   pub refused : fits ≡ false → Told fits new 2 before before
   refused e = rw e (record { number = refl; bytes = refl })
 
+  -- two outcomes that the contract allows are equal
+  pub told-unique : (r r′ : ℕ) (after after′ : List ℕ) → Told fits new r before after → Told fits new r′ before after′ → (r ≡ r′) × (after ≡ after′)
+  told-unique r r′ after after′ t t′ = (t .number ∙ sym (t′ .number), t .bytes ∙ sym (t′ .bytes))
+
 -- what is put over the whole of a list
 pub put-all : (l s : List ℕ) → length s ≡ length l → put l 0 s ≡ s
 unfolding put

@@ -14,10 +14,10 @@ use Rattle.octets.specs.Bytes.{put, be, over}
 use Rattle.octets.proofs.Laws.{length-be, put-snoc, put-nil, put-then}
 use Rattle.octets.proofs.Meaning.{over-start, over-more}
 use Rattle.terms.specs.Ladder.{all}
-use Rattle.terms.specs.Stamp.{stampNumber, stampAt, zeroStamp, then}
+use Rattle.terms.specs.Stamp.{stampNumber, stampAt, zeroStamp}
 use Rattle.terms.specs.declared.Timestamp.{Timestamp}
 use Rattle.terms.proofs.Rungs.{both}
-use Rattle.terms.proofs.Stamps.{stamp-at-number}
+use Rattle.terms.proofs.Stamps.{stamp-at-number, zero-number}
 use Rattle.rounds.specs.declared.Mark.{Mark}
 use Rattle.rounds.specs.declared.Bound.{Bound}
 use Rattle.rounds.specs.declared.Bound.the-variants.{Free, Under}
@@ -64,10 +64,6 @@ module _ (k u : ℕ) where
   pub bound-zero : k ≡ 0 → {z : Bool} → z ≡ eqb u 0 → z ≡ boundShaped k u
   unfolding boundShaped
   bound-zero e f = or-last (ne-eqb k 1 (λ g. omega arith)) (and-last (eq-eqb k 0 e) f)
-
-pub zero-number : stampNumber zeroStamp ≡ 0
-unfolding stampNumber then
-zero-number = refl
 
 -- forty zeros, tested as a timestamp
 pub zeros-tested : (x : List ℕ) (t z : Timestamp) {r : Bool} → 45 ≤ length x → t ≡ stampAt x 5 → z ≡ zeroStamp → r ≡ eqb (stampNumber t) (stampNumber z)

@@ -29,7 +29,7 @@ use Rattle.session.specs.Writer.{Leaves, leaves, timedOf, timeEnd, timeTurn, wr
 use Rattle.session.proofs.Checks.{outcome-all}
 
 -- one of two that both meet a condition
-either : {A : Type 0} (P : A → Type 0) (t : Bool) {a b : A} → P a → P b → P (cond t a b)
+pub either : {A : Type 0} (P : A → Type 0) (t : Bool) {a b : A} → P a → P b → P (cond t a b)
 either P true p q = p
 either P false p q = q
 

@@ -5,17 +5,12 @@ use mathlib.Core.Bool.{Bool, true, cond}
 use mathlib.Core.List.{List}
 use native.Mathlib.Omega.{arith}
 use borrow.Author.Tests.{eqb-true, ne-eqb, not-false}
-use lib.ListN.{length, length-append}
+use lib.ListN.{length}
 use lib.Dec.{eqb}
-use Rattle.octets.specs.Bytes.{put, be}
-use Rattle.octets.proofs.Laws.{length-be, put-then}
-use Rattle.octets.proofs.Meaning.{put-whole}
 use Rattle.terms.specs.Ladder.{first}
 use Rattle.terms.specs.Terms.{refusalNumber}
-use Rattle.terms.specs.Stamp.{stampNumber, zeroStamp}
 use Rattle.terms.specs.declared.Plan.{Plan}
 use Rattle.terms.specs.declared.Refusal.{Refusal}
-use Rattle.terms.specs.declared.Timestamp.{Timestamp}
 use Rattle.terms.proofs.Rungs.{both}
 use Rattle.rounds.specs.declared.Bound.the-variants.{Free}
 use Rattle.node.specs.declared.Answer as nodes
@@ -25,7 +20,6 @@ use Rattle.node.specs.Node as node
 use Rattle.node.specs.Node.{served, NodeCall}
 use Rattle.session.specs.declared.Operation.{Operation}
 use Rattle.session.specs.declared.Session.{Session}
-use Rattle.session.specs.declared.Answer.{Answer}
 use Rattle.session.specs.declared.Took.{Took}
 use Rattle.session.specs.declared.opening.Opened.{Opened}
 use Rattle.session.specs.declared.opening.Opening.the-variants.{Refused, Accepted}
@@ -38,9 +32,9 @@ use Rattle.session.specs.Reader.{Outcome, readReply, ReadReplyCall}
 use Rattle.session.proofs.Checks.{none-applies, goes-on, stops, refusal-low}
 use Rattle.packing.specs.PlanBytes.{planOf}
 use Rattle.packing.specs.SessionBytes.{sessionBytes, sessionOf}
-use Rattle.packing.proofs.Laws.{zero-number}
-use Rattle.pasis.specs.Store.{madeNumber, servedNumber, FreshBook, NodeServes}
-use Rattle.pasis.specs.Client.{sessionFits, bothFit, lentLadder, dueNumber, answerNumber, sessionAfter, endingBytes, endingAfter, opened, openedAs, openBytes, OpenServes, asked, askedAs, owedBytes, OwedServes, took, tookAs, withItem, readBytes, writeBytes, WriteServes, ReadServes}
+use Rattle.answers.specs.Answers.{answerNumber, bothFit, dueNumber, endingAfter, lentLadder, madeNumber, servedNumber}
+use Rattle.pasis.specs.Store.{FreshBook, NodeServes}
+use Rattle.pasis.specs.Client.{sessionFits, sessionAfter, opened, openedAs, openBytes, OpenServes, asked, askedAs, owedBytes, OwedServes, took, tookAs, withItem, readBytes, writeBytes, WriteServes, ReadServes}
 
 -- ---- the storage-node
 pub fresh-book : (x : List ℕ) (n : ℕ) (b : List ℕ) (p : Plan) (m : Made) (r : ℕ) (b₂ : List ℕ) → p ≡ planOf x → FreshCall p n b m b₂
@@ -133,19 +127,6 @@ module _ (x s : List ℕ) (n : ℕ) (d q : List ℕ) (k : ℕ) (l : Lent x (sess
       record { is = ap (λ (j : ℕ). asked j q₂) h ∙ ap askedAs z ∙ lent-passes x _ k l (λ (j : ℕ). asked j q) _ e }
 
 -- ---- a reply
-pub ending-put : (e e₁ e₂ : List ℕ) (t n : ℕ) → length e ≡ 42 → e₁ ≡ put e 0 (be 40 t) → e₂ ≡ put e₁ 40 (be 2 n) → e₂ ≡ endingBytes t n
-unfolding endingBytes
-ending-put e e₁ e₂ t n l f g =
-    g ∙ ap (λ (w : List ℕ). put w 40 (be 2 n)) f ∙ put-then e 0 40 (be 40 t) (be 2 n) (simp length-be) (omega arith)
-    ∙ put-whole e _ (l ∙ sym (simp (length-append, length-be)))
-
--- an answer that a match told
-pub ending-told : (a b : Answer) (e e₂ : List ℕ) → a ≡ b → e₂ ≡ endingAfter (saidOf b) e → e₂ ≡ endingAfter (saidOf a) e
-ending-told a b e e₂ f g = g ∙ ap (λ (w : Answer). endingAfter (saidOf w) e) (sym f)
-
-pub no-stamp : (t : Timestamp) (n : ℕ) (e : List ℕ) → t ≡ zeroStamp → e ≡ endingBytes (stampNumber t) n → e ≡ endingBytes 0 n
-no-stamp t n e f g = g ∙ ap (λ (k : ℕ). endingBytes k n) (ap stampNumber f ∙ zero-number)
-
 -- what a call writes after the answer and the session that it took
 pub record Handed (t : Took) (s e : List ℕ) (r : ℕ) (s₂ e₂ : List ℕ) : Type 0 where
   pub number : r ≡ answerNumber (saidOf (t .answer))

@@ -20,7 +20,8 @@ use Rattle.session.specs.Reader.{Outcome, outcome, readReply}
 use Rattle.packing.specs.PlanBytes.{planOf}
 use Rattle.packing.specs.SessionBytes.{sessionShaped, sessionOf}
 use Rattle.packing.proofs.Inverse.{no-session}
-use Rattle.pasis.specs.Client.{sessionFits, bothFit, lentLadder, sessionAfter, endingAfter, asked, askedAs, owedBytes, took, tookAs, withItem, writeBytes, readBytes}
+use Rattle.answers.specs.Answers.{bothFit, endingAfter, lentLadder}
+use Rattle.pasis.specs.Client.{sessionFits, sessionAfter, asked, askedAs, owedBytes, took, tookAs, withItem, writeBytes, readBytes}
 
 -- 1 and 2 of the lengths of session and ending do not apply
 lent-none : {A : Type 0} (p : Plan) (fits : Bool) (refuse : ℕ → A) (pass : A) {z : A} → planOk p ≡ true → fits ≡ true → z ≡ pass

@@ -1,89 +1,43 @@
 -- The client's five calls for a host, on numbers and bytes: opening a write or a read, the request owed to a node, a reply to a writer or a
 -- reader. The session is 117 bytes that the host holds, the ending 42 bytes: timestamp 40, rounds 2. Each call answers a number: 0 where it
--- was opened, written, or accepted and the operation is open; 1 to 31 the refusals of document 01, "Refusal numbers"; 101 done, 102 never
+-- was opened, written, or accepted and the operation is open; 1 to 14 the refusals of document 01, "Refusal numbers" (15 to 31 are kept free); 101 done, 102 never
 -- written, 103 aborted, 104 rounds spent, 105 clock spent. "All leave every buffer and the session as they came."
 -- A session or an ending of a wrong length is 2 in 2's place. Bytes that code no session are one in no range (packing), which the call
 -- refuses 9 in 9's place. The calls are those of document 01 on a plan and a session: nothing is said twice.
---   lentLadder             1 and 2 of the lengths, before the call's own order
---   openedNumber dueNumber answerNumber   an answer as a number
 --   sessionAfter           the session bytes after an answer: as they came at a refusal
---   endingAfter            the ending bytes after an answer: written at an ending only
 --   openBytes owedBytes writeBytes readBytes   the calls
 --   OpenServes OwedServes WriteServes ReadServes   their contracts
 -- Assumes nothing.
 use Prim.Native.Nat.{ℕ}
 use mathlib.Core.Path.{_≡_}
-use mathlib.Core.Bool.{Bool, true, false, cond, not}
+use mathlib.Core.Bool.{Bool, cond}
 use mathlib.Core.List.{List, [], _∷_, _++_}
 use lib.ListN.{length}
 use lib.Dec.{eqb}
-use Rattle.octets.specs.Bytes.{be}
-use Rattle.terms.specs.Ladder.{Rung, on, first, _and_}
-use Rattle.terms.specs.Terms.{planOk}
-use Rattle.terms.specs.declared.Plan.{Plan}
+use Rattle.terms.specs.Ladder.{first, _and_}
 use Rattle.rounds.specs.declared.Bound.the-variants.{Free}
 use Rattle.session.specs.declared.Operation.{Operation}
 use Rattle.session.specs.declared.Session.{Session}
-use Rattle.session.specs.Session.{Said, refused, stillOpen, done, neverWritten, aborted, roundsSpent, clockSpent}
+use Rattle.session.specs.Session.{Said, isRefused}
 use Rattle.session.specs.Opening.{Opens, openWith}
 use Rattle.session.specs.Owed as owed
-use Rattle.session.specs.Owed.{Due, Dues, owedTo}
+use Rattle.session.specs.Owed.{Dues, owedTo}
 use Rattle.session.specs.Writer.{Leaves, writeReply}
 use Rattle.session.specs.Reader.{Outcome, outcome, readReply}
 use Rattle.packing.specs.PlanBytes.{planOf}
 use Rattle.packing.specs.SessionBytes.{sessionBytes, sessionOf}
+use Rattle.answers.specs.Answers.{bothFit, lentLadder, dueNumber, answerNumber, endingAfter}
 
 -- ---- lengths
--- "a session or result slice of a wrong length is 2"
+-- a session or an ending of a wrong length is 2
 abbrev pub sessionFits : ℕ → Bool
 sessionFits s = eqb s 117
 
-unfoldable pub bothFit : ℕ → ℕ → Bool
-bothFit s e = eqb s 117 and eqb e 42
-
-abbrev pub lentLadder : Plan → Bool → List Rung
-lentLadder p fits = on 1 (not (planOk p)) ∷ on 2 (not fits) ∷ []
-
--- ---- answers
-abbrev pub dueNumber : Due → ℕ
-dueNumber (owed.refused k) = k
-dueNumber (owed.written n) = 0
-
-abbrev pub answerNumber : Said → ℕ
-answerNumber (refused k) = k
-answerNumber stillOpen = 0
-answerNumber (done t n) = 101
-answerNumber (neverWritten n) = 102
-answerNumber (aborted n) = 103
-answerNumber (roundsSpent n) = 104
-answerNumber clockSpent = 105
-
-abbrev pub isRefused : Said → Bool
-isRefused (refused k) = true
-isRefused stillOpen = false
-isRefused (done t n) = false
-isRefused (neverWritten n) = false
-isRefused (aborted n) = false
-isRefused (roundsSpent n) = false
-isRefused clockSpent = false
-
+-- ---- the session bytes after an answer
 unfoldable pub sessionAfter : Said → Session → List ℕ → List ℕ
 sessionAfter a s old = cond (isRefused a) old (sessionBytes s)
 
--- timestamp and rounds: zero where an ending has none
-unfoldable pub endingBytes : ℕ → ℕ → List ℕ
-endingBytes t n = be 40 t ++ be 2 n
-
-unfoldable pub endingAfter : Said → List ℕ → List ℕ
-endingAfter (refused k) old = old
-endingAfter stillOpen old = old
-endingAfter (done t n) old = endingBytes t n
-endingAfter (neverWritten n) old = endingBytes 0 n
-endingAfter (aborted n) old = endingBytes 0 n
-endingAfter (roundsSpent n) old = endingBytes 0 n
-endingAfter clockSpent old = endingBytes 0 0
-
--- ---- opening: 1, 2, 13. "a refused opening leaves the session bytes as they came"
+-- ---- opening: 1, 2, 13. a refused opening leaves the session bytes as they came
 pub record Opened : Type 0 where
   pub number : ℕ
   pub session : List ℕ

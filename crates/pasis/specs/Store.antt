@@ -1,26 +1,16 @@
 -- The storage-node's two calls for a host, on numbers and bytes: a fresh book, and one request against one book. Each call answers a
 -- number: 0 where it was made or served, else the refusal's of document 01, "Refusal numbers". The plan comes as bytes; what codes no plan
 -- is one outside its rules, so that the call itself refuses it 1. The calls are those of document 01 on a plan: nothing is said twice.
---   madeNumber servedNumber   an answer as a number
 --   FreshBook                 the contract of pasis_fresh_book
 --   NodeServes                the contract of pasis_node; the length of the reply frame stands in its first 4 bytes
 -- Assumes nothing.
 use Prim.Native.Nat.{ℕ}
 use mathlib.Core.Path.{_≡_}
 use mathlib.Core.List.{List}
-use Rattle.node.specs.Fresh as fresh
-use Rattle.node.specs.Fresh.{SaidMade, freshened}
-use Rattle.node.specs.Node as node
-use Rattle.node.specs.Node.{Said, served}
+use Rattle.node.specs.Fresh.{freshened}
+use Rattle.node.specs.Node.{served}
 use Rattle.packing.specs.PlanBytes.{planOf}
-
-abbrev pub madeNumber : SaidMade → ℕ
-madeNumber (fresh.refused k) = k
-madeNumber fresh.made = 0
-
-abbrev pub servedNumber : Said → ℕ
-servedNumber (node.refused k) = k
-servedNumber (node.replied n) = 0
+use Rattle.answers.specs.Answers.{madeNumber, servedNumber}
 
 -- plan bytes x, node number, book b; then the number answered and the book as the call leaves it
 pub record FreshBook (x : List ℕ) (n : ℕ) (b : List ℕ) (r : ℕ) (b₂ : List ℕ) : Type 0 where

@@ -1,12 +1,10 @@
 // The host interface: each public call on numbers and byte slices only, with no `requires`. A slice is a pointer and its length. Each call
-// answers 0 where it was served, opened, or accepted and the operation is open; 1 to 31 where it is refused, and then changes nothing; 101 to
+// answers 0 where it was served, opened, or accepted and the operation is open; 1 to 14 where it is refused, and then changes nothing; 101 to
 // 105 at an ending. store.rt has the calls of a storage-node, client.rt those of a client. host/pasis.h is the manual.
 pub mod client;
 pub mod store;
 
-use terms::Refusal;
 ghost use mathlib.Core.Path.{_≡_};
-ghost use Rattle.terms.specs.Terms.{refusalNumber};
 
 // The number of this interface: what its plan and session bytes are. Document 02's requests will extend them.
 #[no_mangle]
@@ -36,26 +34,4 @@ pub extern "C" fn pasis_ending_size() -> usize
     ensures { λ r. ⌜ r ≡ 42 ⌝ }
 {
     42
-}
-
-// Document 01's number of a refusal.
-fn refusal_number(r: Refusal) -> u32
-    ensures { λ n. ⌜ n ≡ refusalNumber r ⌝ }
-{
-    match r {
-        Refusal::OutsidePlan => 1,
-        Refusal::WrongLength => 2,
-        Refusal::WrongBook => 3,
-        Refusal::WrongFrame => 4,
-        Refusal::TimeZero => 5,
-        Refusal::HashFails => 6,
-        Refusal::OtherBytes => 7,
-        Refusal::NoRoom => 8,
-        Refusal::OutOfRange => 9,
-        Refusal::NotAwaited => 10,
-        Refusal::AlreadyHeard => 11,
-        Refusal::NotBelow => 12,
-        Refusal::AskTooHigh => 13,
-        Refusal::HasEnded => 14,
-    }
 }

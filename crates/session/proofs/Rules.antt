@@ -2,7 +2,7 @@
 use mathlib.Core.Path.{_≡_, refl, sym, ap, ap₂, _∙_}
 use mathlib.Core.Bool.{Bool, true, false, cond, not}
 use mathlib.Core.List.{List, [], _∷_}
-use Prim.Native.Nat.{ℕ, _-_, _*_, _≤_}
+use Prim.Native.Nat.{ℕ, _+_, _*_, _≤_}
 use native.Mathlib.Nat.{le-trans, mul-le-mul-right, mul-le-mul-left}
 use native.Mathlib.Omega.{arith}
 use borrow.Author.Tests.{leb-true, eqb-true}
@@ -21,7 +21,7 @@ use Rattle.rounds.specs.Rounds.{restUnheard}
 use Rattle.session.specs.declared.Session.{Session}
 use Rattle.session.specs.Session.{isRead, isStoring, askNow, kindAwaited}
 use Rattle.session.specs.Reply.{awaited, lengthsOk}
-use Rattle.terms.specs.Terms.{recordLength}
+use Rattle.terms.specs.Terms.{recordLength, openingOk}
 use Rattle.session.specs.Ranges.{boundOk, standingRules, inRange}
 
 -- a rule that fails; one that holds; the last
@@ -65,7 +65,7 @@ product-low a b x y h k = le-trans (mul-le-mul-right b h) (mul-le-mul-left x k)
 pub record Standing (p : Plan) (s : Session) : Type 0 where
   pub round-low : 1 ≤ s .round
   pub round-high : s .round ≤ p .w
-  pub ask-high : s .opening .0 ≤ 18446744073709551615 - p .w
+  pub ask-high : s .opening .0 + p .w ≤ 18446744073709551615
 
 pub standing-is : (p : Plan) (s : Session) → standingRules p s ≡ true → Standing p s
 unfolding standingRules all
@@ -75,7 +75,7 @@ standing-is p s e =
     let e3 = both (isRead (s .operation) or eqb (s .round) 1) _ (e2 .1) in
     let e4 = both (boundOk (s .bound) (s .round)) _ (e3 .1) in
     let e5 = both (restUnheard (s .marks) (p .n)) _ (e4 .1) in
-    let e6 = both (leb (s .opening .0) (18446744073709551615 - p .w)) _ (e5 .1) in
+    let e6 = both (openingOk p (s .opening .0)) _ (e5 .1) in
     record { round-low = leb-true _ _ (e1 .0); round-high = leb-true _ _ (e2 .0); ask-high = leb-true _ _ (e6 .0) }
 
 pub in-range-is : (p : Plan) (s : Session) (d : List ℕ) (x : Bool) → x ≡ inRange p s d → x ≡ true → Standing p s

@@ -1,5 +1,5 @@
--- The slots of a read round. Document 01, "Refusal numbers": "in a read round each slot marked record must hold a time of 1 or more and a
--- timestamp below the bound".
+-- The slots of a read round. Document 01, "Refusal numbers": "in a read round each slot marked 'record' must hold a time of 1 or more and a
+-- timestamp below the bound, if there is one".
 --   slots-each slots-all   they fit exactly where each fits
 --   lead-time              the time of a node marked record is 1 or more
 --   long-body long-after   the body of a reply that bears a record is a record; the desk with it in its slot is as long

@@ -1,7 +1,7 @@
 -- Opening a write and a read. Document 01, "Refusal numbers": at opening, which lends no buffer, 1, 13. "The client": every round opens
 -- with all marks unheard.
 --   openingLadder      the order
---   freshOf            a session that asks, with all marks unheard, and zero in the fields not in use
+--   freshOf noSession  a session that asks, with all marks unheard, and zero in the fields not in use; the one that no call takes
 --   Opens opens        the answer and the session as an opening leaves them
 --   openWith           the call, below a bound: the first that applies refuses, and the session is one of round 0, which is in no range
 --   OpenCall           the contract of both calls

@@ -7,7 +7,7 @@
 --   requestOf          the request of the round that is open
 --   Due dueOf          an answer in the document's terms: a refusal's number, or the length of the frame that was written
 --   Dues dues          the answer and the request buffer as the call leaves them
---   owedTo             the call
+--   owedTo OwedCall    the call and its contract
 -- Assumes nothing.
 use Prim.Native.Nat.{ℕ, _+_, _*_}
 use mathlib.Core.Path.{_≡_}

@@ -34,7 +34,7 @@ standingRules p s =
     openingOk p (s .opening .0) ∷ [])
 
 -- "a timestamp being written of time 1 or more"; "no first triple mark in a time or write round"; "fewer than N-t heard while open";
--- "in a read round each slot marked record must hold a time of 1 or more and a timestamp below the bound, if there is one"
+-- "in a read round each slot marked 'record' must hold a time of 1 or more and a timestamp below the bound, if there is one"
 unfoldable pub openRules : Plan → Session → List ℕ → Bool
 openRules p s d =
     all (

@@ -1,14 +1,15 @@
 -- The reader. Document 01, "The client", reading, and Figure 3 of the report: an accepted reply is a mark, and a record in its slot; at
 -- N-t replies the round closes, and the reader acts on the close.
 --   Outcome outcome    the answer, the session, the desk and the item as a call leaves them
---   lowest             the m lowest-numbered of a set
+--   headLength lowest  the length of timestamp and cross checksum; the m lowest-numbered of a set
 --   sound              validation
+--   decoded collected repaired   the item from the set, and from the desk's first m slots; the desk with all N records of the set
 --   heard              the session and the desk after an accepted reply of a read round
 --   failing            incomplete, or validation failed
 --   acted              what a closed round comes to
 --   settled            still open, or closed and acted on
 --   stored             an accepted reply of a repair round
---   readReply          the call
+--   readReply ReadReplyCall   the call and its contract
 -- Assumes nothing.
 use Prim.Native.Nat.{ℕ, _+_, _*_, _≤_, _<_}
 use mathlib.Core.Path.{_≡_}
@@ -101,13 +102,13 @@ closed p s d = closeOf (s .marks) d (p .n) (headLength p) (recordLength p) (p .m
 unfoldable pub settled : Plan → Session → List ℕ → List ℕ → Outcome
 settled p s d i = cond (ltb (heardCount (s .marks)) (replies p)) (outcome stillOpen s d i) (acted p s (closed p s d) d i)
 
--- "it holds one mark for each node: unheard, first triple, or record"; "A first triple leaves its slot"
+-- "it holds one mark for each of 16 nodes: unheard, first triple, or record"; "A first triple leaves its slot"
 unfoldable pub heard : Plan → Session → List ℕ → List ℕ → List ℕ → Outcome
 heard p s f d i =
     cond (bears p f) (settled p (markedOf s (frameNode f) Record) (put d (frameNode f * recordLength p) (bodyOf f)) i)
     (settled p (markedOf s (frameNode f) First) d i)
 
--- "In a time or write round a heard node is marked record"; "after a repair round the item is read from the desk's first m slots"
+-- "In a time or write round a heard node is marked 'record'"; "after a repair round the item is read from the desk's first m slots"
 unfoldable pub stored : Plan → Session → List ℕ → List ℕ → List ℕ → Outcome
 stored p s f d i =
     cond (ltb (heardCount (markedOf s (frameNode f) Record .marks)) (replies p)) (outcome stillOpen (markedOf s (frameNode f) Record) d i)

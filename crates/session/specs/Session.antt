@@ -1,11 +1,11 @@
 -- The session. Document 01, "The client": a value handed in and handed back. Operation and stage together name the round: a write that
 -- asks is in its time round, one that stores in its write round; a read that asks is in a read round, one that stores in a repair round.
---   isRead isAsking isStoring isEnded   the operation and the stage
+--   isRead isAsking isStoring isEnded readRound   the operation and the stage
 --   replies            N-t, the replies that close a round
 --   askNow             the ask number of the round that is open
 --   kindAwaited        the kind of the reply that the round awaits
 --   markedOf endedOf nextOf storingOf   the session after a node was heard, ended, in the next read round, in a write or repair round
---   saidOf             an answer in the document's terms
+--   Said saidOf isRefused   an answer in the document's terms, and whether it is a refusal
 -- Assumes nothing.
 use Prim.Native.Nat.{ℕ, _+_, _-_}
 use mathlib.Core.Bool.{Bool, true, false, cond}
@@ -131,3 +131,12 @@ saidOf (NeverWritten n) = neverWritten n
 saidOf (Aborted n) = aborted n
 saidOf (RoundsSpent n) = roundsSpent n
 saidOf ClockSpent = clockSpent
+
+abbrev pub isRefused : Said → Bool
+isRefused (refused k) = true
+isRefused stillOpen = false
+isRefused (done stamp n) = false
+isRefused (neverWritten n) = false
+isRefused (aborted n) = false
+isRefused (roundsSpent n) = false
+isRefused clockSpent = false

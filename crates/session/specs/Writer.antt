@@ -5,10 +5,10 @@
 --   newTime            the time of the write, from the greatest time
 --   crossFor stampFor recordsFor   the cross checksum, the timestamp and the N records of an item
 --   Leaves leaves      the answer, the session and the desk as a call leaves them
---   timeTurn           the time round after a reply: open, clock spent, or the write round opens
+--   timeTurn timeEnd   the time round after a reply: open, clock spent, or the write round opens
 --   writeTurn          the write round after a reply: open, or done
 --   acceptedWrite      a reply that nothing refuses
---   writeReply         the call
+--   writeReply WriteReplyCall   the call and its contract
 -- Assumes nothing.
 use Prim.Native.Nat.{ℕ, _+_}
 use mathlib.Core.Path.{_≡_}
@@ -35,7 +35,7 @@ use Rattle.session.specs.Reply.{replyLadder}
 abbrev pub laterOf : ℕ → ℕ → ℕ
 laterOf a b = cond (ltb a b) b a
 
--- "In a time or write round a heard node is marked record"
+-- "In a time or write round a heard node is marked 'record'"
 abbrev pub timedOf : Session → ℕ → ℕ → Session
 timedOf s i t =
     record {

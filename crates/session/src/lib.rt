@@ -112,7 +112,7 @@ pub fn ended(s: Stage) -> bool
     }
 }
 
-// "Round .. 1 in a write."
+// "round 1 to W, and 1 in a write"
 fn counts(o: Operation, round: u64) -> bool
     ensures { λ r. ⌜ r ≡ (isRead o or eqb round 1) ⌝ }
 {
@@ -297,7 +297,7 @@ impl Session {
         rounds::none_first(marks)
     }
 
-    // "In a read round each slot marked record must hold a time of 1 or more and a timestamp below the bound."
+    // "in a read round each slot marked 'record' must hold a time of 1 or more and a timestamp below the bound, if there is one"
     fn slots_ok(self, p: Plan, desk: &[u8]) -> bool
         requires { ⌜ (planOk p ≡ true) × (length (now desk) ≡ p .n * recordLength p) ⌝ }
         ensures { λ r. ⌜ r ≡ (not (readRound self) or slotsFit (self .marks) (now (desk .entry)) (recordLength p) (self .bound) (p .n)) ⌝ }

@@ -4,7 +4,7 @@ use mathlib.Core.Bool.{Bool, true, false, cond}
 use Prim.Native.Nat.{ℕ, _+_, _-_, _*_, _≤_, _<_}
 use native.Mathlib.Omega.{arith}
 use lib.Dec.{leb}
-use borrow.Author.Tests.{le-leb, lt-leb, leb-true}
+use borrow.Author.Tests.{le-leb, lt-leb, leb-true, leb-false}
 use Rattle.terms.specs.Ladder.{all}
 use Rattle.terms.specs.Terms.{planOk, tableOk, columnOf}
 use Rattle.terms.specs.declared.Plan.{Plan}
@@ -150,3 +150,11 @@ module _ (p : Plan) (low : p .t + p .b + 1 ≤ p .q) (one : 1 ≤ p .m) where
 
 pub plan-no : (p : Plan) → (PlanIs p → Small p → ⊥) → false ≡ planOk p
 plan-no p h = not-ok _ (λ e. h (plan-is p e) (small p e))
+
+-- a sum held against a number, and what is left of the number
+pub leb-moved : (a w most : ℕ) → w ≤ most → leb a (most - w) ≡ leb (a + w) most
+leb-moved a w most h = go (leb a (most - w)) refl
+  where
+    go : (t : Bool) → leb a (most - w) ≡ t → t ≡ leb (a + w) most
+    go true e = let l = leb-true a (most - w) e in sym (le-leb (a + w) most (omega arith))
+    go false e = let l = leb-false a (most - w) e in sym (lt-leb (a + w) most (omega arith))

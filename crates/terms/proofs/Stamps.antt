@@ -13,11 +13,15 @@ use Rattle.terms.specs.declared.Timestamp.{Timestamp}
 use Rattle.octets.specs.Bytes.{part, put, num, be}
 use Rattle.octets.proofs.Laws.{length-part, length-be, put-then}
 use Rattle.octets.proofs.Meaning.{num-append, part-add, be-append}
-use Rattle.terms.specs.Stamp.{then, hashNumber, stampNumber, stampAt}
+use Rattle.terms.specs.Stamp.{then, hashNumber, stampNumber, stampAt, zeroStamp}
 
 pub then-part : (s : List ℕ) (at n : ℕ) → at + n + 8 ≤ length s → num (part s at (n + 8)) ≡ then (num (part s at n)) (num (part s (at + n) 8))
 unfolding then
 then-part s at n h = rw (part-add s at n 8, num-append (part s at n) (part s (at + n) 8), length-part s (at + n) 8 h)
+
+pub zero-number : stampNumber zeroStamp ≡ 0
+unfolding stampNumber then
+zero-number = refl
 
 -- the number of five words that were read
 pub stamp-at-number : (s : List ℕ) (at : ℕ) → at + 40 ≤ length s → stampNumber (stampAt s at) ≡ num (part s at 40)

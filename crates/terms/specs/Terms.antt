@@ -41,7 +41,7 @@ recordLength p = 40 + 32 * p .n + p .f
 
 -- opening ask number plus W at most 2^64-1
 abbrev pub openingOk : Plan → ℕ → Bool
-openingOk p a = leb a (18446744073709551615 - p .w)
+openingOk p a = leb (a + p .w) 18446744073709551615
 
 -- COMPLETE = Q+b and INCOMPLETE = Q-t
 abbrev pub complete : Plan → ℕ

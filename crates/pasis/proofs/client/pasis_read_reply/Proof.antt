@@ -24,8 +24,8 @@ read-reply-requires c κs = search needs
 keep-session-requires : tie.Need-keep-session-requires
 keep-session-requires c κs = laws.both-are _ _ (laws.lent-fits _ _ _ (laws.lent-both _ _ _ _ _ _ (c .before .before .before .before .before .before .before .before .before .before .before .before .before .plan-of .ensures) (c .before .before .before .before .before .before .before .before .before .before .before .before .both-fit .ensures) (c .before .before .before .before .before .before .before .before .before .before .before .lent .ensures)) (c .before .before .before .before .before .before .before .before .before .before .if1 .left)) .0
 
-keep-ending-requires : tie.Need-keep-ending-requires
-keep-ending-requires c κs = laws.both-are _ _ (laws.lent-fits _ _ _ (laws.lent-both _ _ _ _ _ _ (c .before .before .before .before .before .before .before .before .before .before .before .before .before .before .before .before .before .plan-of .ensures) (c .before .before .before .before .before .before .before .before .before .before .before .before .before .before .before .before .both-fit .ensures) (c .before .before .before .before .before .before .before .before .before .before .before .before .before .before .before .lent .ensures)) (c .before .before .before .before .before .before .before .before .before .before .before .before .before .before .if1 .left)) .1
+put-ending-requires : tie.Need-put-ending-requires
+put-ending-requires c κs = laws.both-are _ _ (laws.lent-fits _ _ _ (laws.lent-both _ _ _ _ _ _ (c .before .before .before .before .before .before .before .before .before .before .before .before .before .before .before .before .before .plan-of .ensures) (c .before .before .before .before .before .before .before .before .before .before .before .before .before .before .before .before .both-fit .ensures) (c .before .before .before .before .before .before .before .before .before .before .before .before .before .before .before .lent .ensures)) (c .before .before .before .before .before .before .before .before .before .before .before .before .before .before .if1 .left)) .1
 
 answer-number-requires : tie.Need-answer-number-requires
 answer-number-requires c κs = search needs
@@ -44,7 +44,7 @@ same-length-4 c = search needs
 
 returns-2 : tie.Need-returns-2
 returns-2 c = laws.read-served _ _ _ _ _ _ _ (laws.lent-both _ _ _ _ _ _ (c .before .before .before .before .before .before .before .before .before .before .before .before .before .before .before .before .before .before .before .before .before .plan-of .ensures) (c .before .before .before .before .before .before .before .before .before .before .before .before .before .before .before .before .before .before .before .before .both-fit .ensures) (c .before .before .before .before .before .before .before .before .before .before .before .before .before .before .before .before .before .before .before .lent .ensures)) _ _ _ _ _ _ _ (c .before .before .before .before .before .before .before .before .before .before .before .before .before .before .before .before .before .before .if1 .left) (c .before .before .before .before .before .before .before .before .before .before .before .before .before .before .before .before .before .before .before .before .before .plan-of .ensures) (c .before .before .before .before .before .before .before .before .before .before .before .before .before .before .before .before .session-of .ensures)
-    (record { number = c .answer-number .ensures; session = c .before .before .before .before .before .before .before .keep-session .ensures; ending = c .before .before .before .keep-ending .ensures }) _ (c .before .before .before .before .before .before .before .before .before .before .before .before .before .read-reply .ensures)
+    (record { number = c .answer-number .ensures; session = c .before .before .before .before .before .before .before .keep-session .ensures; ending = c .before .before .before .put-ending .ensures }) _ (c .before .before .before .before .before .before .before .before .before .before .before .before .before .read-reply .ensures)
 
 pub pasis-read-reply-spec : {M : Type 1} → statement M
 pasis-read-reply-spec =
@@ -57,7 +57,7 @@ pasis-read-reply-spec =
     session-of-requires
     read-reply-requires
     keep-session-requires
-    keep-ending-requires
+    put-ending-requires
     answer-number-requires
     same-length
     same-length-2

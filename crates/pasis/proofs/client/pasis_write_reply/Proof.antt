@@ -24,8 +24,8 @@ write-reply-requires c κs = search needs
 keep-session-requires : tie.Need-keep-session-requires
 keep-session-requires c κs = laws.both-are _ _ (laws.lent-fits _ _ _ (laws.lent-both _ _ _ _ _ _ (c .before .before .before .before .before .before .before .before .before .before .plan-of .ensures) (c .before .before .before .before .before .before .before .before .before .both-fit .ensures) (c .before .before .before .before .before .before .before .before .lent .ensures)) (c .before .before .before .before .before .before .before .if1 .left)) .0
 
-keep-ending-requires : tie.Need-keep-ending-requires
-keep-ending-requires c κs = laws.both-are _ _ (laws.lent-fits _ _ _ (laws.lent-both _ _ _ _ _ _ (c .before .before .before .before .before .before .before .before .before .before .before .before .before .before .plan-of .ensures) (c .before .before .before .before .before .before .before .before .before .before .before .before .before .both-fit .ensures) (c .before .before .before .before .before .before .before .before .before .before .before .before .lent .ensures)) (c .before .before .before .before .before .before .before .before .before .before .before .if1 .left)) .1
+put-ending-requires : tie.Need-put-ending-requires
+put-ending-requires c κs = laws.both-are _ _ (laws.lent-fits _ _ _ (laws.lent-both _ _ _ _ _ _ (c .before .before .before .before .before .before .before .before .before .before .before .before .before .before .plan-of .ensures) (c .before .before .before .before .before .before .before .before .before .before .before .before .before .both-fit .ensures) (c .before .before .before .before .before .before .before .before .before .before .before .before .lent .ensures)) (c .before .before .before .before .before .before .before .before .before .before .before .if1 .left)) .1
 
 answer-number-requires : tie.Need-answer-number-requires
 answer-number-requires c κs = search needs
@@ -41,7 +41,7 @@ same-length-3 c = search needs
 
 returns-2 : tie.Need-returns-2
 returns-2 c = laws.write-served _ _ _ _ _ _ _ (laws.lent-both _ _ _ _ _ _ (c .before .before .before .before .before .before .before .before .before .before .before .before .before .before .before .before .before .before .plan-of .ensures) (c .before .before .before .before .before .before .before .before .before .before .before .before .before .before .before .before .before .both-fit .ensures) (c .before .before .before .before .before .before .before .before .before .before .before .before .before .before .before .before .lent .ensures)) _ _ _ _ _ _ _ (c .before .before .before .before .before .before .before .before .before .before .before .before .before .before .before .if1 .left) (c .before .before .before .before .before .before .before .before .before .before .before .before .before .before .before .before .before .before .plan-of .ensures) (c .before .before .before .before .before .before .before .before .before .before .before .before .before .session-of .ensures)
-    (record { number = c .answer-number .ensures; session = c .before .before .before .before .before .before .before .keep-session .ensures; ending = c .before .before .before .keep-ending .ensures }) (c .before .before .before .before .before .before .before .before .before .before .before .write-reply .ensures)
+    (record { number = c .answer-number .ensures; session = c .before .before .before .before .before .before .before .keep-session .ensures; ending = c .before .before .before .put-ending .ensures }) (c .before .before .before .before .before .before .before .before .before .before .before .write-reply .ensures)
 
 pub pasis-write-reply-spec : {M : Type 1} → statement M
 pasis-write-reply-spec =
@@ -54,7 +54,7 @@ pasis-write-reply-spec =
     session-of-requires
     write-reply-requires
     keep-session-requires
-    keep-ending-requires
+    put-ending-requires
     answer-number-requires
     same-length
     same-length-2

@@ -1,6 +1,6 @@
 use borrow.Author.Needs.{needs}
-use Rattle.pasis.proofs.store.made_number.Statement.{statement}
-use Rattle.pasis.proofs.store.made_number.Tie as tie
+use Rattle.answers.proofs.made_number.Statement.{statement}
+use Rattle.answers.proofs.made_number.Tie as tie
 
 enum-known-m : tie.Need-enum-known-m
 enum-known-m c = search needs

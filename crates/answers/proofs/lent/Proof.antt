@@ -2,8 +2,8 @@ use Rattle.terms.proofs.Rungs as rungs
 use mathlib.Core.Bool.{not}
 use mathlib.Core.Path.{refl, sym, ap, _∙_}
 use borrow.Author.Needs.{needs}
-use Rattle.pasis.proofs.client.lent.Statement.{statement}
-use Rattle.pasis.proofs.client.lent.Tie as tie
+use Rattle.answers.proofs.lent.Statement.{statement}
+use Rattle.answers.proofs.lent.Tie as tie
 
 plan-ok-requires : tie.Need-plan-ok-requires
 plan-ok-requires c κs = search needs

@@ -1,6 +1,6 @@
 use borrow.Author.Needs.{needs}
-use Rattle.pasis.proofs.client.due_number.Statement.{statement}
-use Rattle.pasis.proofs.client.due_number.Tie as tie
+use Rattle.answers.proofs.due_number.Statement.{statement}
+use Rattle.answers.proofs.due_number.Tie as tie
 
 enum-known-o : tie.Need-enum-known-o
 enum-known-o c = search needs

@@ -1,6 +1,6 @@
 use borrow.Author.Needs.{needs}
-use Rattle.pasis.proofs.client.answer_number.Statement.{statement}
-use Rattle.pasis.proofs.client.answer_number.Tie as tie
+use Rattle.answers.proofs.answer_number.Statement.{statement}
+use Rattle.answers.proofs.answer_number.Tie as tie
 
 enum-known-a : tie.Need-enum-known-a
 enum-known-a c = search needs

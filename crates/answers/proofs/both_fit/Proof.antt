@@ -1,9 +1,9 @@
-use Rattle.pasis.specs.Client.{bothFit}
+use Rattle.answers.specs.Answers.{bothFit}
 use Rattle.session.proofs.Rules as rules
 use borrow.Author.Tests.{eq-eqb, ne-eqb}
 use mathlib.Core.Path.{refl}
-use Rattle.pasis.proofs.client.both_fit.Statement.{statement}
-use Rattle.pasis.proofs.client.both_fit.Tie as tie
+use Rattle.answers.proofs.both_fit.Statement.{statement}
+use Rattle.answers.proofs.both_fit.Tie as tie
 
 returns : tie.Need-returns
 unfolding bothFit

@@ -1,0 +1,144 @@
+// What a call answers, as a host is told it: a number for each answer, and the 42 bytes of an ending. 0 is served, opened, or accepted and
+// open; 1 to 14 are document 01's refusals, and 15 to 31 are kept free; 101 to 105 the endings. Before the call come 1 and 2 of what a host lends.
+use node::Made;
+use session::Answer;
+use session::owed::Owed;
+use terms::Plan;
+use terms::Refusal;
+use terms::Timestamp;
+ghost use mathlib.Core.Path.{_≡_};
+ghost use lib.ListN.{length};
+ghost use Rattle.terms.specs.Ladder.{first};
+ghost use Rattle.terms.specs.Terms.{refusalNumber};
+ghost use Rattle.terms.specs.Stamp.{stampNumber};
+ghost use Rattle.node.specs.Node.{said};
+ghost use Rattle.node.specs.Fresh.{saidMade};
+ghost use Rattle.session.specs.Session.{saidOf, isRefused};
+ghost use Rattle.session.specs.Owed.{dueOf};
+ghost use Rattle.answers.specs.Answers.{bothFit, lentLadder, madeNumber, servedNumber, dueNumber, answerNumber, endingBytes, endingAfter};
+
+// Document 01's number of a refusal.
+pub fn refusal_number(r: Refusal) -> u32
+    ensures { λ n. ⌜ n ≡ refusalNumber r ⌝ }
+{
+    match r {
+        Refusal::OutsidePlan => 1,
+        Refusal::WrongLength => 2,
+        Refusal::WrongBook => 3,
+        Refusal::WrongFrame => 4,
+        Refusal::TimeZero => 5,
+        Refusal::HashFails => 6,
+        Refusal::OtherBytes => 7,
+        Refusal::NoRoom => 8,
+        Refusal::OutOfRange => 9,
+        Refusal::NotAwaited => 10,
+        Refusal::AlreadyHeard => 11,
+        Refusal::NotBelow => 12,
+        Refusal::AskTooHigh => 13,
+        Refusal::HasEnded => 14,
+    }
+}
+
+pub fn made_number(m: Made) -> u32
+    ensures { λ r. ⌜ r ≡ madeNumber (saidMade m) ⌝ }
+{
+    match m {
+        Made::Refused(r) => refusal_number(r),
+        Made::Fresh => 0,
+    }
+}
+
+pub fn served_number(a: node::Answer) -> u32
+    ensures { λ r. ⌜ r ≡ servedNumber (said a) ⌝ }
+{
+    match a {
+        node::Answer::Refused(r) => refusal_number(r),
+        node::Answer::Replied(_) => 0,
+    }
+}
+
+pub fn due_number(o: Owed) -> u32
+    ensures { λ r. ⌜ r ≡ dueNumber (dueOf o) ⌝ }
+{
+    match o {
+        Owed::Refused(r) => refusal_number(r),
+        Owed::Request(_) => 0,
+    }
+}
+
+pub fn answer_number(a: Answer) -> u32
+    ensures { λ r. ⌜ r ≡ answerNumber (saidOf a) ⌝ }
+{
+    match a {
+        Answer::Refused(r) => refusal_number(r),
+        Answer::Open => 0,
+        Answer::Done(_, _) => 101,
+        Answer::NeverWritten(_) => 102,
+        Answer::Aborted(_) => 103,
+        Answer::RoundsSpent(_) => 104,
+        Answer::ClockSpent => 105,
+    }
+}
+
+pub fn is_refused(a: Answer) -> bool
+    ensures { λ r. ⌜ r ≡ isRefused (saidOf a) ⌝ }
+{
+    match a {
+        Answer::Refused(_) => true,
+        Answer::Open => false,
+        Answer::Done(_, _) => false,
+        Answer::NeverWritten(_) => false,
+        Answer::Aborted(_) => false,
+        Answer::RoundsSpent(_) => false,
+        Answer::ClockSpent => false,
+    }
+}
+
+// Writes the timestamp and the rounds of an ending.
+fn write_ending(t: Timestamp, rounds: u64, ending: &mut [u8])
+    requires { ⌜ length (now ending) ≡ 42 ⌝ }
+    ensures { λ _. ⌜ now (ending .exit) ≡ endingBytes (stampNumber t) rounds ⌝ }
+{
+    terms::put_stamp(ending, 0, t);
+    octets::put_num(ending, 40, 2, rounds);
+}
+
+// Writes the ending that an answer tells, if it tells one.
+pub fn put_ending(a: Answer, ending: &mut [u8])
+    requires { ⌜ length (now ending) ≡ 42 ⌝ }
+    ensures { λ _. ⌜ now (ending .exit) ≡ endingAfter (saidOf a) (now (ending .entry)) ⌝ }
+{
+    let none = terms::zero_stamp();
+    match a {
+        Answer::Refused(_) => {}
+        Answer::Open => {}
+        Answer::Done(t, n) => write_ending(t, n, ending),
+        Answer::NeverWritten(n) => write_ending(none, n, ending),
+        Answer::Aborted(n) => write_ending(none, n, ending),
+        Answer::RoundsSpent(n) => write_ending(none, n, ending),
+        Answer::ClockSpent => write_ending(none, 0, ending),
+    }
+}
+
+// 1 and 2 of what every client's call is lent: 0 where neither applies.
+pub fn lent(p: Plan, fits: bool) -> u32
+    ensures { λ r. ⌜ r ≡ first (lentLadder p fits) (λ k. k) 0 ⌝ }
+{
+    if !terms::plan_ok(p) {
+        return 1;
+    }
+    if !fits {
+        return 2;
+    }
+    0
+}
+
+// Whether a session and an ending have their lengths.
+pub fn both_fit(session: usize, ending: usize) -> bool
+    ensures { λ r. ⌜ r ≡ bothFit session ending ⌝ }
+{
+    if session != 117 {
+        return false;
+    }
+    ending == 42
+}

@@ -1,4 +1,4 @@
-//! The nodes of one block: their keepers, their books on disk, and the faults done to them, within the plan's limits.
+//! The nodes of one run: their keepers, their books on disk, and the faults done to them, within the plan's limits.
 
 use crate::keeper::{Answer, Keeper};
 use crate::library::{self, frame_kind, fresh_book, records, time_reply, Plan, Session, BOOK_HEAD, FRAME_HEAD};
@@ -22,7 +22,7 @@ pub struct Faults {
 struct Node {
     book: PathBuf,
     keeper: Option<Keeper>,
-    /// Damaged or set back: counted to the end of the run over this block.
+    /// Damaged or set back: counted to the end of the run.
     bad: bool,
     /// Earlier states of the book.
     copies: Vec<Vec<u8>>,

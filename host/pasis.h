@@ -173,6 +173,7 @@ static inline size_t pasis_record_size(const uint8_t plan[PASIS_PLAN_SIZE]) {
 static inline size_t pasis_desk_size(const uint8_t plan[PASIS_PLAN_SIZE]) { return plan[0] * pasis_record_size(plan); }
 static inline size_t pasis_item_size(const uint8_t plan[PASIS_PLAN_SIZE]) { return plan[4] * pasis_fragment_size(plan); }
 static inline size_t pasis_frame_size(const uint8_t plan[PASIS_PLAN_SIZE]) { return pasis_record_size(plan) + 15; }
+static inline size_t pasis_book_size(const uint8_t plan[PASIS_PLAN_SIZE], size_t records) { return 11 + records * pasis_record_size(plan); }
 
 /* ---- Frames -----------------------------------------------------------------------------------------------------------------------
  * 4 byte length of the rest, version 1, kind, node, 8 byte ask number, body. A call that is lent a frame is lent exactly that frame: cut

@@ -37,18 +37,23 @@ static double seconds(void) {
   return (double)now.tv_sec + (double)now.tv_nsec / 1e9;
 }
 
-// Microseconds a call of `work`: as many calls as fill a fifth of a second, after as many as fill a twentieth.
+// Microseconds a call of `work`, after a twentieth of a second of calls: the best of twenty stretches of a hundredth of a second, so that what
+// else the machine does meanwhile counts little.
 static double pace(void (*work)(void)) {
   unsigned long calls = 0;
-  double start = seconds();
+  double start = seconds(), best = 0;
   do {
     work();
     calls++;
   } while (seconds() - start < 0.05);
-  calls *= 4;
-  start = seconds();
-  for (unsigned long i = 0; i < calls; i++) work();
-  return (seconds() - start) / (double)calls * 1e6;
+  calls = calls / 5 + 1;
+  for (int stretch = 0; stretch < 20; stretch++) {
+    start = seconds();
+    for (unsigned long i = 0; i < calls; i++) work();
+    double took = seconds() - start;
+    if (stretch == 0 || took < best) best = took;
+  }
+  return best / (double)calls * 1e6;
 }
 
 // ---- ours

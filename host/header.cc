@@ -59,6 +59,7 @@ int main() {
     pasis_plan_bytes(&p, plan);
     MUST(pasis_record_size(plan) == PASIS_RECORD_SIZE(p.N, p.F) && pasis_desk_size(plan) == PASIS_DESK_SIZE(p.N, p.F));
     MUST(pasis_item_size(plan) == PASIS_ITEM_SIZE(p.m, p.F) && pasis_frame_size(plan) == PASIS_FRAME_SIZE(p.N, p.F));
+    MUST(pasis_book_size(plan, 3) == PASIS_BOOK_SIZE(p.N, p.F, 3) && pasis_fragment_size(plan) == p.F);
     if (sizes(plan)) return 1;
   }
   return words();

@@ -4,8 +4,8 @@
  * it. "The paper" below is document 01; words in quotation marks are its own.
  *
  * The library sends nothing, waits for nothing and keeps nothing: a call reads and writes the memory that it is lent and comes back. It
- * allocates nothing, has no global state, never calls back and always ends. Any number of threads may make calls at once, if none
- * touches memory that another's call may write.
+ * allocates nothing, has no global state, never calls back and always ends. It needs less than 8 KiB of stack (docs/HOSTS.md). Any
+ * number of threads may make calls at once, if none touches memory that another's call may write.
  *
  * A slice is a pointer and the length that follows it. A pointer is never null, also where the length is 0, and no slice that a call may
  * write overlaps another slice of that call. All else may be anything: a call takes any bytes and any lengths, and answers a number.
@@ -173,6 +173,7 @@ static inline size_t pasis_record_size(const uint8_t plan[PASIS_PLAN_SIZE]) {
 static inline size_t pasis_desk_size(const uint8_t plan[PASIS_PLAN_SIZE]) { return plan[0] * pasis_record_size(plan); }
 static inline size_t pasis_item_size(const uint8_t plan[PASIS_PLAN_SIZE]) { return plan[4] * pasis_fragment_size(plan); }
 static inline size_t pasis_frame_size(const uint8_t plan[PASIS_PLAN_SIZE]) { return pasis_record_size(plan) + 15; }
+static inline size_t pasis_book_size(const uint8_t plan[PASIS_PLAN_SIZE], size_t records) { return 11 + records * pasis_record_size(plan); }
 
 /* ---- Frames -----------------------------------------------------------------------------------------------------------------------
  * 4 byte length of the rest, version 1, kind, node, 8 byte ask number, body. A call that is lent a frame is lent exactly that frame: cut

@@ -34,18 +34,23 @@ static double seconds(void) {
   return t.tv_sec + t.tv_nsec / 1e9;
 }
 
-// MB/s of `work`, of which each call serves `bytes` bytes: as many calls as fill a fifth of a second, after as many as fill a twentieth.
+// MB/s of `work`, of which each call serves `bytes` bytes, after a twentieth of a second of calls: the best of twenty stretches of a
+// hundredth of a second, so that what else the machine does meanwhile counts little.
 static double rate(void (*work)(void), size_t bytes) {
   unsigned long calls = 0;
-  double start = seconds();
+  double start = seconds(), best = 0;
   do {
     work();
     calls++;
   } while (seconds() - start < 0.05);
-  calls *= 4;
-  start = seconds();
-  for (unsigned long i = 0; i < calls; i++) work();
-  return calls * (double)bytes / (seconds() - start) / 1e6;
+  calls = calls / 5 + 1;
+  for (int stretch = 0; stretch < 20; stretch++) {
+    start = seconds();
+    for (unsigned long i = 0; i < calls; i++) work();
+    double took = seconds() - start;
+    if (stretch == 0 || took < best) best = took;
+  }
+  return calls * (double)bytes / best / 1e6;
 }
 
 // Bytes that look like any others, the same in each run.

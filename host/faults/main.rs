@@ -17,8 +17,8 @@ use std::process::ExitCode;
 use std::time::Instant;
 use std::{env, fs};
 
-/// The most calls of one block; three more come at its end. A history is small enough for the checker, and 300 calls meet every plan.
-const CALLS: usize = 40;
+/// The most calls of one run; three more come at its end, and the checker takes 128. A book of every plan has room for as many saves.
+const CALLS: usize = 125;
 
 #[rustfmt::skip]
 const PLANS: [Plan; 7] = [
@@ -53,17 +53,19 @@ fn wanted() -> Option<Wanted> {
     (!command.is_empty()).then(|| Wanted { seed, operations, folder: folder.clone(), still, command })
 }
 
-/// All blocks, one after another, each with fresh books, its own plan and its own numbers from the seed.
-fn blocks(wanted: &Wanted, counts: &mut Counts) -> Result<usize, String> {
+/// The operations as runs, one after another, each with fresh books, its own plan and its own numbers from the seed: one run for each plan,
+/// or more where a run would be too long.
+fn runs(wanted: &Wanted, counts: &mut Counts) -> Result<usize, String> {
+    let most = wanted.operations.div_ceil(PLANS.len()).min(CALLS);
     let mut left = wanted.operations;
     let mut done = 0;
     while left > 0 {
-        let folder = Path::new(&wanted.folder).join(format!("block-{done}"));
+        let folder = Path::new(&wanted.folder).join(format!("run-{done}"));
         fs::create_dir(&folder).map_err(|e| format!("{}: {e}", folder.display()))?;
         let mut seeds = Random(wanted.seed ^ (done as u64) << 32);
-        let (random, plan, calls) = (Random(seeds.next()), PLANS[done % PLANS.len()], left.min(CALLS));
+        let (random, plan, calls) = (Random(seeds.next()), PLANS[done % PLANS.len()], left.min(most));
         block::run(plan, &wanted.command, &folder, random, calls, wanted.still, counts)
-            .map_err(|e| format!("block {done}, {plan:?}: {e}"))?;
+            .map_err(|e| format!("run {done}, {plan:?}: {e}"))?;
         let _ = fs::remove_dir_all(&folder);
         left -= calls;
         done += 1;
@@ -86,8 +88,8 @@ fn main() -> ExitCode {
     };
     let begun = Instant::now();
     let mut counts = Counts::default();
-    let told = register::test_of_the_checker().and_then(|tested| Ok((tested, blocks(&wanted, &mut counts)?)));
-    let (tested, blocks) = match told {
+    let told = register::test_of_the_checker().and_then(|tested| Ok((tested, runs(&wanted, &mut counts)?)));
+    let (tested, runs) = match told {
         Ok(numbers) => numbers,
         Err(why) => {
             eprintln!("faults: seed {}: {why}", wanted.seed);
@@ -97,7 +99,7 @@ fn main() -> ExitCode {
     let Counts { saved, given_up, opened, never, aborted, spent, opens_given_up, clock, repaired, stale, .. } = counts;
     let faults = &counts.faults;
     println!(
-        "faults: seed {}, {blocks} blocks: saves {saved} done, {given_up} given up, {clock} clock spent; opens {opened} done ({repaired} repairs begun), {never} never written, {aborted} aborted, {spent} spent, {opens_given_up} given up; {} kills ({} while serving), {} restarts, {} damages, {} set-backs; checker: {tested} histories of its own, {stale} made stale; digest {:016x}; {} s",
+        "faults: seed {}, {runs} runs: saves {saved} done, {given_up} given up, {clock} clock spent; opens {opened} done ({repaired} repairs begun), {never} never written, {aborted} aborted, {spent} spent, {opens_given_up} given up; {} kills ({} while serving), {} restarts, {} damages, {} set-backs; checker: {tested} histories of its own, {stale} made stale; digest {:016x}; {} s",
         wanted.seed, faults.kills, faults.midway, faults.restarts, faults.damages, faults.setbacks, counts.digest, begun.elapsed().as_secs(),
     );
     if enough(&wanted, &counts) {

@@ -1,4 +1,4 @@
-//! The nodes of one block: their keepers, their books on disk, and the faults done to them, within the plan's limits.
+//! The nodes of one run: their keepers, their books on disk, and the faults done to them, within the plan's limits.
 
 use crate::keeper::{Answer, Keeper};
 use crate::library::{self, frame_kind, fresh_book, records, time_reply, Plan, Session, BOOK_HEAD, FRAME_HEAD};
@@ -22,7 +22,7 @@ pub struct Faults {
 struct Node {
     book: PathBuf,
     keeper: Option<Keeper>,
-    /// Damaged or set back: counted to the end of the run over this block.
+    /// Damaged or set back: counted to the end of the run.
     bad: bool,
     /// Earlier states of the book.
     copies: Vec<Vec<u8>>,
@@ -161,12 +161,12 @@ impl Nodes {
     pub fn fault(&mut self, random: &mut Random, faults: &mut Faults) -> io::Result<()> {
         let (i, what) = (random.within(0, self.plan.n - 1), random.within(0, 19));
         match what {
-            0..=9 if self.may_fail(i) => self.kill(i, faults),
-            10..=15 => {
+            0..=8 if self.may_fail(i) => self.kill(i, faults),
+            9..=12 => {
                 let copy = fs::read(&self.nodes[i].book)?;
                 self.nodes[i].copies.push(copy);
             }
-            16 | 17 if self.may_lie(i) => {
+            13..=15 if self.may_lie(i) => {
                 let old = random.within(0, self.nodes[i].copies.len() - 1);
                 let copy = self.nodes[i].copies[old].clone();
                 if copy != fs::read(&self.nodes[i].book)? {
@@ -174,7 +174,7 @@ impl Nodes {
                     faults.setbacks += 1;
                 }
             }
-            18 | 19 if self.may_lie(i) => {
+            16..=19 if self.may_lie(i) => {
                 let damaged = self.damaged(i, random)?;
                 self.replace(i, &damaged, faults)?;
                 faults.damages += 1;

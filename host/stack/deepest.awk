@@ -1,5 +1,5 @@
-# deepest.awk: the deepest stack of each function whose name starts with probe_, as the compiler laid the frames out.
-#   awk -v call=BYTES -v leaf=BYTES -f deepest.awk MODULE.su MODULE.s
+# deepest.awk: the deepest stack of each function whose name starts with PREFIX, as the compiler laid the frames out.
+#   awk -v prefix=PREFIX -v call=BYTES -v leaf=BYTES -f deepest.awk MODULE.su MODULE.s
 # The .su file has a frame's bytes for each function, the .s file says which calls which. A call costs `call` bytes beside the frame,
 # and a function may use `leaf` bytes below its frame. No function here calls itself or calls through a pointer: either ends this with 1,
 # as does a frame whose size is not fixed. What is not in the .su file is the C library's, and counts as nothing.
@@ -39,5 +39,5 @@ $1 == "blr" || $2 ~ /^\*/ && $1 ~ /^call/ { fail(here " calls through a pointer"
 $1 ~ /^(bl|b|callq?|jmpq?)$/ && $2 !~ /^(\.L|\*)/ { calls[here] = calls[here] (calls[here] == "" ? "" : "\t") bare($2) }
 END {
   if (failed) exit 1
-  for (f in frame) if (f ~ /^probe_/) printf "%6d  %s\n", depth(f), path[f]
+  for (f in frame) if (index(f, prefix) == 1) printf "%6d  %s\n", depth(f), path[f]
 }

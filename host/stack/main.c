@@ -1,14 +1,8 @@
-// main LIMIT: each call of the library on a painted stack of its own, and how far down the paint is gone. Prints a line for each call and
-// ends with 1 where one went below LIMIT bytes or did not answer as it should. Counted from the frame of the function that makes the
-// call, so its own few bytes are in each figure: the line "nothing" is a call that does nothing. A part of a frame that is never
-// written leaves its paint, so this is a lower bound; deepest.awk gives the upper one.
-#define _GNU_SOURCE
-#include <pthread.h>
+// main LIMIT: the calls of session and node, each on a painted stack of its own (painted.h). Prints a line for each call and ends with 1
+// where one went below LIMIT bytes or did not answer as it should. The line "nothing" is a call that does nothing.
 #include <stdbool.h>
-#include <stdint.h>
-#include <stdio.h>
-#include <stdlib.h>
-#include <string.h>
+
+#include "painted.h"
 
 uint32_t probe_nothing(void);
 uint32_t probe_open_write(uint64_t opening);
@@ -24,7 +18,6 @@ enum { N = 16, M = 8, F = 1024, RECORD = 40 + 32 * N + F, DESK = N * RECORD, ITE
 enum { OPEN = 0, DONE = 1 };
 // The marks of the sessions: nodes 0 to 11, nodes 3 to 14. One more reply makes N-t.
 enum { FIRST_TWELVE = 0x0fff, THREE_ON = 0x7ff8 };
-enum { STACK = 1 << 20, PAINT = 0xa5 };
 
 static uint8_t item[ITEM], other_item[ITEM], read_item[ITEM], desk[DESK], older[DESK], book[BOOK], request[FRAME], reply[FRAME], answer[FRAME];
 static size_t request_len, reply_len;
@@ -46,37 +39,10 @@ static void fresh(void) { said = probe_fresh(12, book, BOOK); }
 static void serve(void) { said = probe_serve(request, request_len, book, BOOK, answer, FRAME); }
 
 static long limit, deepest;
-static uint8_t *painted;
-static uintptr_t top;
-
-static void fail(const char *what, const char *why) {
-  fprintf(stderr, "stack: %s: %s\n", what, why);
-  exit(1);
-}
-
-static void *make(void *call) {
-  top = (uintptr_t)__builtin_frame_address(0);
-  (*(void (**)(void))call)();
-  return NULL;
-}
-
-// One call on a painted stack: the bytes it used. It must answer `wanted`.
-static long used(const char *what, void (*call)(void), uint32_t wanted) {
-  pthread_attr_t how;
-  pthread_t thread;
-  memset(painted, PAINT, STACK);
-  if (pthread_attr_init(&how) || pthread_attr_setstack(&how, painted, STACK)) fail(what, "no stack of its own");
-  if (pthread_create(&thread, &how, make, &call) || pthread_join(thread, NULL)) fail(what, "no thread");
-  pthread_attr_destroy(&how);
-  if (said != wanted) fail(what, "another answer than expected");
-  const uint8_t *at = painted;
-  while (*at == PAINT) at++;
-  if (at < painted + STACK / 2) fail(what, "the stack was too small to tell");
-  return (long)(top - (uintptr_t)at);
-}
 
 static void measure(const char *what, void (*call)(void), uint32_t wanted) {
-  long bytes = used(what, call, wanted);
+  long bytes = used(what, call);
+  if (said != wanted) fail(what, "another answer than expected");
   printf("%6ld  %s\n", bytes, what);
   if (bytes > deepest) deepest = bytes;
 }
@@ -138,12 +104,11 @@ static void node_calls(void) {
 
 int main(int argc, char **argv) {
   if (argc != 2 || (limit = atol(argv[1])) <= 0) fail("usage", "main LIMIT");
-  if (posix_memalign((void **)&painted, 1 << 16, STACK)) fail("memory", "none");
   for (size_t i = 0; i < ITEM; i++) {
     item[i] = i * 31 + (i >> 8);
     other_item[i] = i * 17 + 5;
   }
-  used("nothing", nothing, OPEN); // the first thread of a process also does what the C library does once
+  used("nothing", nothing); // the first thread of a process also does what the C library does once
   measure("nothing", nothing, OPEN);
   measure("open_write", open_write, OPEN);
   measure("open_read", open_read, OPEN);

@@ -2,6 +2,9 @@
 
 use std::fmt;
 
+/// The bytes of an ending: a timestamp, and the rounds in two.
+pub const ENDING_SIZE: usize = 42;
+
 /// The refusals of document 01, under its numbers.
 #[derive(Clone, Copy, Debug, PartialEq, Eq)]
 pub enum Refusal {
@@ -113,7 +116,7 @@ pub enum Answer {
 }
 
 impl Answer {
-    pub(crate) fn from_number(number: u32, ending: &[u8; 42]) -> Result<Answer, Refusal> {
+    pub(crate) fn from_number(number: u32, ending: &[u8; ENDING_SIZE]) -> Result<Answer, Refusal> {
         let timestamp = Timestamp(*ending.first_chunk().expect("42 bytes"));
         let rounds = u16::from_be_bytes(*ending.last_chunk().expect("42 bytes"));
         Ok(match number {

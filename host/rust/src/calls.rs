@@ -2,8 +2,7 @@
 //! borrows keep any two of them apart. The archive reads and writes inside the slices and keeps no pointer.
 
 use crate::raw;
-use crate::session::SESSION_SIZE;
-use crate::{Answer, Plan, Refusal, Session};
+use crate::{Answer, Plan, Refusal, Session, ENDING_SIZE, SESSION_SIZE};
 
 type Made<T> = Result<T, Refusal>;
 
@@ -75,7 +74,7 @@ pub fn write_reply(
     desk: &mut [u8],
     item: &[u8],
 ) -> (Session, Made<Answer>) {
-    let (plan, mut ending) = (plan.bytes(), [0; 42]);
+    let (plan, mut ending) = (plan.bytes(), [0; ENDING_SIZE]);
     #[rustfmt::skip]
     let number = unsafe {
         raw::pasis_write_reply(
@@ -95,7 +94,7 @@ pub fn read_reply(
     desk: &mut [u8],
     item: &mut [u8],
 ) -> (Session, Made<Answer>) {
-    let (plan, mut ending) = (plan.bytes(), [0; 42]);
+    let (plan, mut ending) = (plan.bytes(), [0; ENDING_SIZE]);
     #[rustfmt::skip]
     let number = unsafe {
         raw::pasis_read_reply(

@@ -30,9 +30,9 @@ mod plan;
 mod raw;
 mod session;
 
-pub use answer::{Answer, Refusal, Timestamp};
+pub use answer::{Answer, Refusal, Timestamp, ENDING_SIZE};
 pub use calls::{fresh_book, node, open_read, open_write, owed, read_reply, write_reply};
-pub use plan::{Clients, Member, Plan, BOOK_LEAST, BOOK_MOST};
+pub use plan::{Clients, Member, Plan, BOOK_LEAST, BOOK_MOST, PLAN_SIZE};
 pub use session::{Mark, Operation, Session, Stage, SESSION_SIZE};
 
 /// The interface that this crate was written for; [`interface`] is the archive's.
@@ -44,10 +44,22 @@ pub fn interface() -> u32 {
     unsafe { raw::pasis_interface() }
 }
 
+/// The archive's own word for [`PLAN_SIZE`].
+pub fn plan_size() -> usize {
+    // SAFETY: it takes nothing and touches nothing.
+    unsafe { raw::pasis_plan_size() }
+}
+
 /// The archive's own word for [`SESSION_SIZE`].
 pub fn session_size() -> usize {
     // SAFETY: it takes nothing and touches nothing.
     unsafe { raw::pasis_session_size() }
+}
+
+/// The archive's own word for [`ENDING_SIZE`].
+pub fn ending_size() -> usize {
+    // SAFETY: it takes nothing and touches nothing.
+    unsafe { raw::pasis_ending_size() }
 }
 
 /// The node that a frame names, to be compared with the node at the channel's other end; `None` if it is too short to name one.

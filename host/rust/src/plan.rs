@@ -2,6 +2,9 @@
 
 use crate::{open_read, Refusal};
 
+/// The bytes of a plan.
+pub const PLAN_SIZE: usize = 11;
+
 /// The least and the greatest length of a lent book.
 pub const BOOK_LEAST: usize = 11;
 pub const BOOK_MOST: usize = 65_536;
@@ -44,7 +47,7 @@ impl Default for Plan {
 
 impl Plan {
     /// As the library takes it: N, t, b, Q, m, F (2), member, clients, W (2).
-    pub fn bytes(&self) -> [u8; 11] {
+    pub fn bytes(&self) -> [u8; PLAN_SIZE] {
         let ([f1, f0], [w1, w0]) = (self.f.to_be_bytes(), self.w.to_be_bytes());
         let (member, clients) = (self.member as u8, self.clients as u8);
         [self.n, self.t, self.b, self.q, self.m, f1, f0, member, clients, w1, w0]

@@ -102,7 +102,9 @@ const ALL: [usize; 5] = [0, 1, 2, 3, 4];
 #[test]
 fn the_archive_is_of_this_interface() {
     assert_eq!(pasis::interface(), pasis::INTERFACE);
+    assert_eq!(pasis::plan_size(), pasis::PLAN_SIZE);
     assert_eq!(pasis::session_size(), pasis::SESSION_SIZE);
+    assert_eq!(pasis::ending_size(), pasis::ENDING_SIZE);
 }
 
 #[test]

@@ -47,6 +47,15 @@ pub fn give(path: &Path, bytes: &[u8]) -> io::Result<()> {
     replace(&path, &new, bytes, OpenOptions::new().create_new(true))
 }
 
+/// Whether a file lies in this folder, or would; a link is followed.
+pub fn lies_in(path: &Path, folder: &Path) -> bool {
+    let path = fs::canonicalize(path).unwrap_or_else(|_| path.to_path_buf());
+    match (fs::canonicalize(folder_of(&path)), fs::canonicalize(folder)) {
+        (Ok(of_file), Ok(folder)) => of_file == folder,
+        _ => false,
+    }
+}
+
 /// All of a file, or of standard input where its name is `-`; of more than `most` bytes the first most+1.
 pub fn read(path: &OsStr, most: usize) -> io::Result<Vec<u8>> {
     let mut bytes = Vec::new();

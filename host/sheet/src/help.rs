@@ -89,7 +89,7 @@ const OPEN: &str = "\
 sheet open FOLDER FILE [--down NODES]
 
 Opens the block into FILE, or to standard output (-), where the rest is then said on standard error. FILE is written when the open is
-done, whole, and not otherwise. Where the rule says repair, the save is stored at the nodes first.
+done, whole, and not otherwise; it may not lie in FOLDER. Where the rule says repair, the save is stored at the nodes first.
 ";
 
 const SHOW: &str = "\

@@ -166,6 +166,9 @@ pub fn open(folder: &Path, file: &OsStr, down: &[usize]) -> Result<Report, Fault
     let folder = Folder::enter(folder)?;
     let plan = &folder.plan;
     known(plan, down)?;
+    if file != "-" && files::lies_in(Path::new(file), &folder.path) {
+        return fault(Code::WrongUse, format!("{}: the sheet's own folder is no place for a block", file.display()));
+    }
     let session = pasis::open_read(plan, folder.take_ask()?).or_else(|refusal| fault(Code::Damaged, refusal))?;
     let mut item = vec![0; plan.item_size()];
     let mut nodes = Nodes::of(&folder, down, true);

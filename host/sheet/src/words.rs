@@ -109,6 +109,9 @@ fn command(verb: &str, form: &Form, words: &[OsString]) -> Result<Command, Fault
     if let Some(word) = given.arguments.get(form.arguments.len()) {
         return wrong(verb, format!("{} is one argument too many", word.display()));
     }
+    if let Some(place) = given.arguments.iter().position(|word| word.is_empty()) {
+        return wrong(verb, format!("the {} has no name", form.arguments[place]));
+    }
     let folder = PathBuf::from(&given.arguments[0]);
     let file = given.arguments.last().cloned().unwrap_or_default();
     let down = down(verb, &given)?;

@@ -215,13 +215,14 @@ fn wrong_use_is_one_line_and_loses_nothing() {
     let before = place.bytes();
     place.put("bad", plan(5, 1, 1, 4, 2, "repairable", 3));
     place.put("worse", "N 5\nt one\n");
+    std::os::unix::fs::symlink("s/book-1", place.file("link")).expect("a link");
     #[rustfmt::skip]
     let wrong = [
         "", "paint s", "save", "save s", "save s one two", "save s nothing", "save s p", "save s one --down 5",
         "save s one --down 1,", "save s one --down", "save s one --down=0 --down=1", "save s one --stop-after 6",
         "save s one --stop-after few", "open s", "open s out --stop-after 1", "show", "show nowhere", "show one", "check s s",
         "check s --json=yes", "new s", "new one", "new q --plan bad", "new q --plan worse", "new q --plan nothing",
-        "new q --room 10", "new q --room 65537", "show s --al",
+        "new q --room 10", "new q --room 65537", "show s --al", "open s s/plan", "open s s/out", "open s link",
     ];
     for words in wrong {
         let (code, out, err) = place.sheet(words);
@@ -230,6 +231,8 @@ fn wrong_use_is_one_line_and_loses_nothing() {
     }
     assert_eq!(place.bytes(), before);
     assert!(!place.file("q").exists());
+    let empty = Command::new(env!("CARGO_BIN_EXE_sheet")).args(["new", ""]).output().expect("it ends");
+    assert_eq!((empty.status.code(), one_line(&String::from_utf8_lossy(&empty.stderr))), (Some(2), true));
     assert!(place.sheet("new q --plan worse").2.contains("worse: line 2: t is a number, at most 255"));
 }
 

@@ -191,6 +191,17 @@ fn answer(p: Plan, path: &[u8], spare: &[u8], request: &[u8]) -> bool {
     answer_held(p, path, spare, fd, request)
 }
 
+// Two ends of the input that are faults: a line, and not to go on.
+fn cut_off() -> bool {
+    say::line(b"the input ends within a frame, which is dropped");
+    false
+}
+
+fn too_long() -> bool {
+    say::line(b"refused 4: a frame longer than any request; the rest of the input is not read");
+    false
+}
+
 // The next request, if there is one, and whether to go on.
 fn turn(p: Plan, path: &[u8], spare: &[u8]) -> bool {
     let mut frame = frame_area();
@@ -200,16 +211,8 @@ fn turn(p: Plan, path: &[u8], spare: &[u8]) -> bool {
     match how {
         How::Whole => answer(p, path, spare, &frame[..n]),
         How::Ended => false,
-        How::CutOff => {
-            say::line(b"the input ends within a frame, which is dropped");
-            false
-        }
-        How::TooLong => {
-            say::line(
-                b"refused 4: a frame longer than any request; the rest of the input is not read",
-            );
-            false
-        }
+        How::CutOff => cut_off(),
+        How::TooLong => too_long(),
     }
 }
 
@@ -340,19 +343,32 @@ fn run_new(p: Plan, path: &[u8], spare: &[u8]) {
     make(p, path, spare, node, bytes);
 }
 
-// The name of value k, as a plan's text has it.
+// The letter that is the name of value k of a plan's text, where its value is a number.
+fn letter(k: usize) -> u8 {
+    match k {
+        0 => b'N',
+        1 => b't',
+        2 => b'b',
+        3 => b'Q',
+        4 => b'm',
+        5 => b'F',
+        _ => b'W',
+    }
+}
+
+fn say_number(k: usize) {
+    let name = [letter(k)];
+    say::text(&name);
+    say::text(b" and a number");
+}
+
+// How value k stands in a plan's text.
 fn say_form(k: usize) {
     match k {
-        0 => say::text(b"N and a number"),
-        1 => say::text(b"t and a number"),
-        2 => say::text(b"b and a number"),
-        3 => say::text(b"Q and a number"),
-        4 => say::text(b"m and a number"),
-        5 => say::text(b"F and a number"),
         6 => say::text(b"member, and repairable or non-repair"),
         7 => say::text(b"clients, and crash or byzantine"),
-        8 => say::text(b"W and a number"),
-        _ => say::text(b"nothing more"),
+        9 => say::text(b"nothing more"),
+        _ => say_number(k),
     }
 }
 
@@ -399,6 +415,17 @@ fn run_beside(plan_path: &[u8], path: &[u8], count: usize) {
     run_plan(plan_path, path, &name[..n], count);
 }
 
+// Argument 2, the name BOOK.
+fn run_book(plan_path: &[u8], count: usize) {
+    let mut path = io::buffer();
+    let n = os::arg(2, &mut path);
+    if os::errno() != 0 {
+        say::failed(b"BOOK");
+        return;
+    }
+    run_beside(plan_path, &path[..n], count);
+}
+
 fn main() {
     let count = os::arg_count();
     if count != 3 && count != 6 {
@@ -411,11 +438,5 @@ fn main() {
         say::failed(b"PLAN");
         return;
     }
-    let mut path = io::buffer();
-    let k = os::arg(2, &mut path);
-    if os::errno() != 0 {
-        say::failed(b"BOOK");
-        return;
-    }
-    run_beside(&plan_path[..n], &path[..k], count);
+    run_book(&plan_path[..n], count);
 }

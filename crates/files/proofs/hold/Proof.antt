@@ -5,10 +5,10 @@ use Rattle.files.proofs.hold.Statement.{statement}
 use Rattle.files.proofs.hold.Tie as tie
 
 abbrev Inv-loop : tie.InvT-loop
-Inv-loop spare last₀ waited₀ left₀ t7 last waited left = waited + left ≤ 18446744073709551615
+Inv-loop spare last₀ waited₀ left₀ last waited left = waited + left ≤ 18446744073709551615
 
 abbrev μ-loop : tie.MeasureT-loop
-μ-loop spare last₀ waited₀ left₀ t7 last waited left = left
+μ-loop spare last₀ waited₀ left₀ last waited left = left
 
 clock-requires : tie.Need-clock-requires Inv-loop μ-loop
 clock-requires c κs = tt

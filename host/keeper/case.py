@@ -1,7 +1,7 @@
 # The stored run of keeper, made from document 01 alone and not by our code: `python3 host/keeper/case.py crates/keeper` writes args, stdin,
 # data/PLAN, data/BOOK and the stdout that a node must write. Nothing runs this; it is here to say where those bytes come from.
 import hashlib, struct, sys, os
-N, F, NODE = 5, 16, 3
+N, F, NODE = 7, 16, 3
 R = 40 + 32 * N + F
 H = lambda b: hashlib.sha256(b).digest()
 def mul(a, b):
@@ -41,11 +41,11 @@ def book(records, size):
     b = struct.pack(">IBBBHH", 7 + len(records) * R, 1, N, NODE, F, len(records)) + b"".join(records)
     return b + bytes(size - len(b))
 item = lambda s: (s * 32)[:32].encode()
-PLAN = b"""# Five nodes, one of them a liar.
-N 5
-t 1
+PLAN = b"""# Seven nodes: two may fail, one of them by lying.
+N 7
+t 2
 b 1
-Q 3
+Q 4
 m 2
 F 16        # bytes of a fragment
 member repairable

@@ -1,6 +1,8 @@
-// Files for the programs: read whole, and changed so that a crash leaves the old or the new one. A book is changed by writing the whole new one to BOOK.new, waiting until it is on the disk, giving it the name BOOK,
-// and waiting until that name is on the disk: at any moment BOOK is the old book or the new one, whole. BOOK.new is made only where no
-// file has that name, so that one keeper at a time has it, and a keeper reads BOOK, changes it and lets BOOK.new go while it has it.
+// Files for the programs: read whole, and changed so that a crash leaves the old or the new one. A book is changed by writing the whole
+// new one to BOOK.new, waiting until it is on the disk, giving it the name BOOK, and waiting until that name is on the disk: at any moment
+// BOOK is the old book or the new one, whole. BOOK.new is made only where no file has that name, so that one keeper at a time has it, and a
+// keeper reads BOOK, changes it and lets BOOK.new go while it has it. One that a crash left stays until an operator removes it
+// (docs/DECISIONS.md, "keeper").
 pub mod say;
 
 ghost use Prim.Native.Nat.{ℕ, _+_, _≤_};
@@ -144,6 +146,14 @@ fn try_hold(spare: &[u8]) -> i32 {
     -1
 }
 
+// What an operator is told of a BOOK.new that is not let go: no keeper can know that its maker is gone.
+fn still_held(spare: &[u8]) {
+    say::about(
+        spare,
+        b"a keeper is writing, or was cut off: if no keeper of this book runs, remove this file",
+    );
+}
+
 // Makes BOOK.new, which no one else then has, and answers a descriptor to write to it. Where another has it this waits, and at last says
 // so and answers -1.
 pub fn hold(spare: &[u8]) -> i32 {
@@ -161,7 +171,7 @@ pub fn hold(spare: &[u8]) -> i32 {
         last = t;
         left -= 1;
     }
-    say::about(spare, b"is there: another is writing, or was cut off");
+    still_held(spare);
     -1
 }
 

@@ -6,23 +6,23 @@
 //
 // The book is read from its file for each request and kept nowhere else, so that several keepers may serve one book: each reads an old
 // or a new book whole, and only the one that has made the file BOOK.new may change it (crate files).
-mod step;
-
 use files::say;
 use libc::STDIN_FILENO;
 use libc::STDOUT_FILENO;
 use node::Answer;
 use node::Made;
+use step::Due;
 use step::Next;
 use terms::Plan;
 use terms::Refusal;
 use text::Numeral;
 use text::Reading;
-ghost use Prim.Native.Nat.{ℕ};
+ghost use Prim.Native.Nat.{ℕ, _≤_};
 ghost use Rattle.io.specs.Counts.{Counts};
 ghost use mathlib.Core.Path.{_≡_};
 ghost use mathlib.Core.Bool.{true, false};
-ghost use Rattle.keeper.specs.Step.{asksToWrite};
+ghost use lib.ListN.{length};
+ghost use Rattle.step.specs.Step.{asksToWrite};
 
 // The longest request of any plan: R+15 at N 16 and F 1,024. A reply is no longer.
 const LONGEST: usize = 1591;
@@ -102,27 +102,11 @@ fn send(reply: &[u8], n: usize) -> bool
 
 // ---- one request
 
-// A request that cannot change a book, and its reply.
-fn answer_from(p: Plan, request: &[u8], book: &mut [u8], reply: &mut [u8]) -> bool
-    requires { ⌜ asksToWrite (now request) ≡ false ⌝ }
+// An area for a request or a reply. The `ensures` gives only the length, which lending it needs.
+fn frame_area() -> [u8; LONGEST]
+    ensures { λ r. ⌜ 1591 ≡ length r ⌝ }
 {
-    let a = step::look(p, request, book, reply);
-    match a {
-        Answer::Refused(r) => refuse(r),
-        Answer::Replied(k) => send(reply, k),
-    }
-}
-
-// A request that cannot change the book: BOOK.new is not asked for, and nothing is written to the disk.
-fn answer_look(p: Plan, path: &[u8], request: &[u8], area: &mut [u8], reply: &mut [u8]) -> bool
-    requires { ⌜ asksToWrite (now request) ≡ false ⌝ }
-{
-    let got = files::load(path, area);
-    if !got.is {
-        return false;
-    }
-    let n = got.length;
-    answer_from(p, request, &mut area[..n], reply)
+    [0u8; LONGEST]
 }
 
 // A refusal: a line, and no frame. A fault of the plan or the book ends the program, one of the request does not.
@@ -131,122 +115,111 @@ fn refuse(r: Refusal) -> bool {
     say::number(r) > 3
 }
 
-// A write request against the book as it is on the disk, while BOOK.new is held. The book that is stored is the one that the node left, and
-// the reply follows it. `before` is as long as any book.
-fn settle(
-    p: Plan,
-    path: &[u8],
-    spare: &[u8],
-    fd: i32,
-    request: &[u8],
-    book: &mut [u8],
-    before: &mut [u8],
-    reply: &mut [u8],
-) -> bool {
-    if before.len() < book.len() {
-        files::let_go(fd, spare);
+// A request that cannot change a book, and its reply.
+fn look_at(p: Plan, request: &[u8], book: &mut [u8]) -> bool
+    requires { ⌜ asksToWrite (now request) ≡ false ⌝ }
+{
+    let mut reply = frame_area();
+    let a = step::look(p, request, book, &mut reply);
+    match a {
+        Answer::Refused(r) => refuse(r),
+        Answer::Replied(k) => send(&reply, k),
+    }
+}
+
+// A request that cannot change the book: BOOK.new is not asked for, and nothing is written to the disk.
+fn answer_look(p: Plan, path: &[u8], request: &[u8]) -> bool
+    requires { ⌜ asksToWrite (now request) ≡ false ⌝ }
+{
+    let mut area = io::large_buffer();
+    let got = files::load(path, &mut area);
+    if !got.is {
         return false;
     }
-    let next = step::step(p, request, book, before, reply);
-    match next {
-        Next::Refused(r) => {
+    let n = got.length;
+    look_at(p, request, &mut area[..n])
+}
+
+// Stores the book that a step left, where it is to be stored, and lets BOOK.new go where not. Whether the book is safe.
+fn keep(x: Next, fd: i32, spare: &[u8], path: &[u8], book: &[u8]) -> bool {
+    match x {
+        Next::Store(_) => files::store(fd, spare, path, book),
+        _ => {
             files::let_go(fd, spare);
-            refuse(r)
-        }
-        Next::Send(k) => {
-            files::let_go(fd, spare);
-            send(reply, k)
-        }
-        Next::Store(k) => {
-            if !files::store(fd, spare, path, book) {
-                return false;
-            }
-            send(reply, k)
+            true
         }
     }
 }
 
+// A write request against the book as it is on the disk, while BOOK.new is held: the book that the node leaves is stored, and then the reply
+// goes out.
+fn settle(p: Plan, path: &[u8], spare: &[u8], fd: i32, request: &[u8], book: &mut [u8]) -> bool
+    requires { ⌜ length (now book) ≤ 65536 ⌝ }
+{
+    let mut reply = frame_area();
+    let next = step::step(p, request, book, &mut reply);
+    let stored = keep(next, fd, spare, path, book);
+    let due = step::due_after(next, stored);
+    match due {
+        Due::Say(r) => refuse(r),
+        Due::Reply(k) => send(&reply, k),
+        Due::Nothing => false,
+    }
+}
+
 // A write request, once BOOK.new is held.
-fn answer_held(
-    p: Plan,
-    path: &[u8],
-    spare: &[u8],
-    fd: i32,
-    request: &[u8],
-    area: &mut [u8],
-    before: &mut [u8],
-    reply: &mut [u8],
-) -> bool {
-    let got = files::load(path, area);
+fn answer_held(p: Plan, path: &[u8], spare: &[u8], fd: i32, request: &[u8]) -> bool {
+    let mut area = io::large_buffer();
+    let got = files::load(path, &mut area);
     if !got.is {
         files::let_go(fd, spare);
         return false;
     }
     let n = got.length;
-    settle(p, path, spare, fd, request, &mut area[..n], before, reply)
+    settle(p, path, spare, fd, request, &mut area[..n])
 }
 
 // A request, and whether to go on.
-fn answer(
-    p: Plan,
-    path: &[u8],
-    spare: &[u8],
-    request: &[u8],
-    area: &mut [u8],
-    before: &mut [u8],
-    reply: &mut [u8],
-) -> bool {
+fn answer(p: Plan, path: &[u8], spare: &[u8], request: &[u8]) -> bool {
     if !step::asks_to_write(request) {
-        return answer_look(p, path, request, area, reply);
+        return answer_look(p, path, request);
     }
     let fd = files::hold(spare);
     if fd < 0 {
         return false;
     }
-    answer_held(p, path, spare, fd, request, area, before, reply)
+    answer_held(p, path, spare, fd, request)
+}
+
+// Two ends of the input that are faults: a line, and not to go on.
+fn cut_off() -> bool {
+    say::line(b"the input ends within a frame, which is dropped");
+    false
+}
+
+fn too_long() -> bool {
+    say::line(b"refused 4: a frame longer than any request; the rest of the input is not read");
+    false
 }
 
 // The next request, if there is one, and whether to go on.
-fn turn(
-    p: Plan,
-    path: &[u8],
-    spare: &[u8],
-    frame: &mut [u8],
-    area: &mut [u8],
-    before: &mut [u8],
-    reply: &mut [u8],
-) -> bool {
-    let c = read_frame(frame);
+fn turn(p: Plan, path: &[u8], spare: &[u8]) -> bool {
+    let mut frame = frame_area();
+    let c = read_frame(&mut frame);
     let n = c.length;
     let how = c.how;
     match how {
-        How::Whole => answer(p, path, spare, &frame[..n], area, before, reply),
+        How::Whole => answer(p, path, spare, &frame[..n]),
         How::Ended => false,
-        How::CutOff => {
-            say::line(b"the input ends within a frame, which is dropped");
-            false
-        }
-        How::TooLong => {
-            say::line(
-                b"refused 4: a frame longer than any request; the rest of the input is not read",
-            );
-            false
-        }
+        How::CutOff => cut_off(),
+        How::TooLong => too_long(),
     }
 }
 
 // A proved loop has to end, and nothing says that an input does: the turns are counted down from a number that no run uses up.
-fn turns(
-    p: Plan,
-    path: &[u8],
-    spare: &[u8],
-    frame: &mut [u8],
-    area: &mut [u8],
-    before: &mut [u8],
-    reply: &mut [u8],
-) {
+fn turns(p: Plan, path: &[u8], spare: &[u8]) {
     let mut left = u64::MAX;
-    while left > 0 && turn(p, path, spare, frame, area, before, reply) {
+    while left > 0 && turn(p, path, spare) {
         left -= 1;
     }
 }
@@ -271,8 +244,9 @@ fn good(p: Plan, book: &[u8]) -> bool {
 }
 
 // Whether the book can be had, and is one; else a line says why.
-fn book_ok(p: Plan, path: &[u8], area: &mut [u8]) -> bool {
-    let got = files::load(path, area);
+fn book_ok(p: Plan, path: &[u8]) -> bool {
+    let mut area = io::large_buffer();
+    let got = files::load(path, &mut area);
     if !got.is {
         return false;
     }
@@ -281,34 +255,10 @@ fn book_ok(p: Plan, path: &[u8], area: &mut [u8]) -> bool {
 }
 
 // The requests of the input, where the book is good.
-fn serve_in(
-    p: Plan,
-    path: &[u8],
-    spare: &[u8],
-    frame: &mut [u8],
-    area: &mut [u8],
-    before: &mut [u8],
-    reply: &mut [u8],
-) {
-    if book_ok(p, path, area) {
-        turns(p, path, spare, frame, area, before, reply);
-    }
-}
-
 fn serve(p: Plan, path: &[u8], spare: &[u8]) {
-    let mut frame = [0u8; LONGEST];
-    let mut area = io::large_buffer();
-    let mut before = io::large_buffer();
-    let mut reply = [0u8; LONGEST];
-    serve_in(
-        p,
-        path,
-        spare,
-        &mut frame,
-        &mut area,
-        &mut before,
-        &mut reply,
-    );
+    if book_ok(p, path) {
+        turns(p, path, spare);
+    }
 }
 
 // A fresh book on the disk, where there is none yet.
@@ -393,19 +343,32 @@ fn run_new(p: Plan, path: &[u8], spare: &[u8]) {
     make(p, path, spare, node, bytes);
 }
 
-// The name of value k, as a plan's text has it.
+// The letter that is the name of value k of a plan's text, where its value is a number.
+fn letter(k: usize) -> u8 {
+    match k {
+        0 => b'N',
+        1 => b't',
+        2 => b'b',
+        3 => b'Q',
+        4 => b'm',
+        5 => b'F',
+        _ => b'W',
+    }
+}
+
+fn say_number(k: usize) {
+    let name = [letter(k)];
+    say::text(&name);
+    say::text(b" and a number");
+}
+
+// How value k stands in a plan's text.
 fn say_form(k: usize) {
     match k {
-        0 => say::text(b"N and a number"),
-        1 => say::text(b"t and a number"),
-        2 => say::text(b"b and a number"),
-        3 => say::text(b"Q and a number"),
-        4 => say::text(b"m and a number"),
-        5 => say::text(b"F and a number"),
         6 => say::text(b"member, and repairable or non-repair"),
         7 => say::text(b"clients, and crash or byzantine"),
-        8 => say::text(b"W and a number"),
-        _ => say::text(b"nothing more"),
+        9 => say::text(b"nothing more"),
+        _ => say_number(k),
     }
 }
 
@@ -418,34 +381,26 @@ fn say_wrong(path: &[u8], line: u64, k: usize) {
     say::text(b"\n");
 }
 
-// The nine values of the file PLAN. Where they cannot be had, a line says why.
-fn read_plan(path: &[u8], values: &mut [u64; 9]) -> bool {
-    let mut area = io::buffer();
-    let got = files::load(path, &mut area);
-    if !got.is {
-        return false;
-    }
-    let n = got.length;
-    let how = text::read_plan(&area[..n], values);
-    match how {
-        Reading::All => true,
-        Reading::Wrong(line, k) => {
-            say_wrong(path, line, k);
-            false
-        }
-    }
-}
-
-fn run(plan_path: &[u8], path: &[u8], spare: &[u8], count: usize) {
-    let mut values = [0u64; 9];
-    if !read_plan(plan_path, &mut values) {
-        return;
-    }
-    let p = text::plan_of(&values);
+fn run(p: Plan, path: &[u8], spare: &[u8], count: usize) {
     if count == 3 {
         serve(p, path, spare);
     } else {
         run_new(p, path, spare);
+    }
+}
+
+// The plan that the file PLAN says. Where it cannot be had, a line says why.
+fn run_plan(plan_path: &[u8], path: &[u8], spare: &[u8], count: usize) {
+    let mut area = io::buffer();
+    let got = files::load(plan_path, &mut area);
+    if !got.is {
+        return;
+    }
+    let n = got.length;
+    let r = text::read_plan(&area[..n]);
+    match r {
+        Reading::Wrong(line, k) => say_wrong(plan_path, line, k),
+        Reading::Good(p) => run(p, path, spare, count),
     }
 }
 
@@ -457,7 +412,18 @@ fn run_beside(plan_path: &[u8], path: &[u8], count: usize) {
         say::about(path, b"the name is too long");
         return;
     }
-    run(plan_path, path, &name[..n], count);
+    run_plan(plan_path, path, &name[..n], count);
+}
+
+// Argument 2, the name BOOK.
+fn run_book(plan_path: &[u8], count: usize) {
+    let mut path = io::buffer();
+    let n = os::arg(2, &mut path);
+    if os::errno() != 0 {
+        say::failed(b"BOOK");
+        return;
+    }
+    run_beside(plan_path, &path[..n], count);
 }
 
 fn main() {
@@ -472,11 +438,5 @@ fn main() {
         say::failed(b"PLAN");
         return;
     }
-    let mut path = io::buffer();
-    let k = os::arg(2, &mut path);
-    if os::errno() != 0 {
-        say::failed(b"BOOK");
-        return;
-    }
-    run_beside(&plan_path[..n], &path[..k], count);
+    run_book(&plan_path[..n], count);
 }

@@ -17,7 +17,7 @@ use Rattle.text.specs.declared.Numeral.{Numeral}
 use Rattle.text.specs.declared.Numeral.the-variants.{Is, Not}
 use Rattle.text.specs.Text.{numeralFrom, numeralOf}
 
-cons : (s : List ℕ) (i end : ℕ) → i < end → end ≤ length s → part s i (end - i) ≡ getD s i 0 ∷ part s (i + 1) (end - (i + 1))
+pub cons : (s : List ℕ) (i end : ℕ) → i < end → end ≤ length s → part s i (end - i) ≡ getD s i 0 ∷ part s (i + 1) (end - (i + 1))
 cons s i end h k =
     let e : end - i ≡ suc (end - (i + 1)) = omega arith in
     ap (part s i) e ∙ part-cons s i (end - (i + 1)) (omega arith) ∙ ap (λ (j : ℕ). getD s i 0 ∷ part s j (end - (i + 1))) (sym (add-one i))

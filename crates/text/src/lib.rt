@@ -14,9 +14,11 @@
 // another question, and document 01's refusal 1.
 ghost use mathlib.Core.Path.{_≡_};
 ghost use Prim.Native.Nat.{ℕ, _+_, _-_, _*_, _≤_, _<_};
-ghost use lib.ListN.{length};
-ghost use Rattle.octets.specs.Bytes.{part};
+ghost use mathlib.Core.List.{_∷_, _++_};
+ghost use lib.ListN.{length, take, drop};
+ghost use Rattle.octets.specs.Bytes.{part, alike};
 ghost use Rattle.text.specs.Text.{numeralOf};
+ghost use Rattle.text.specs.Lines.{blank, until, past, chop, linesOf, wordsOf, afterName, chosen, valueOf, wrongIn, givenBy, memberOf, clientsOf, planOf, planText};
 use terms::Clients;
 use terms::Member;
 use terms::Plan;
@@ -34,9 +36,9 @@ struct Line {
     next: usize,
 }
 
-// What was read: nine values, or the line and the value that is not to be had there.
+// What a text says: a plan, or the line and the value that is not to be had there.
 pub enum Reading {
-    All,
+    Good(Plan),
     Wrong(u64, usize),
 }
 
@@ -81,17 +83,22 @@ pub fn number_in(s: &[u8], at: usize, end: usize) -> Numeral
     Numeral::Is(x)
 }
 
-fn is_blank(x: u8) -> bool {
-    match x {
-        9 | 13 | 32 => true,
-        _ => false,
+fn is_blank(x: u8) -> bool
+    ensures { λ r. ⌜ r ≡ blank x ⌝ }
+{
+    if x == 9 {
+        return true;
     }
+    if x == 13 {
+        return true;
+    }
+    x == 32
 }
 
 // The first place from `at` on with this byte, or `end`.
 fn first_of(s: &[u8], at: usize, end: usize, x: u8) -> usize
     requires { ⌜ (at ≤ end) × (end ≤ length (now s)) ⌝ }
-    ensures { λ r. ⌜ (at ≤ r) × (r ≤ end) ⌝ }
+    ensures { λ r. ⌜ (at ≤ r) × (r ≤ end) × (part (now (s .entry)) at (r - at) ≡ until x (part (now (s .entry)) at (end - at))) ⌝ }
 {
     let mut i = at;
     while i < end {
@@ -106,7 +113,7 @@ fn first_of(s: &[u8], at: usize, end: usize, x: u8) -> usize
 // The first place from `at` on that is not blank, or `end`.
 fn past_blanks(s: &[u8], at: usize, end: usize) -> usize
     requires { ⌜ (at ≤ end) × (end ≤ length (now s)) ⌝ }
-    ensures { λ r. ⌜ (at ≤ r) × (r ≤ end) ⌝ }
+    ensures { λ r. ⌜ (at ≤ r) × (r ≤ end) × (part (now (s .entry)) r (end - r) ≡ past (part (now (s .entry)) at (end - at))) ⌝ }
 {
     let mut i = at;
     while i < end {
@@ -121,7 +128,7 @@ fn past_blanks(s: &[u8], at: usize, end: usize) -> usize
 // The end, less the blanks before it.
 fn before_blanks(s: &[u8], at: usize, end: usize) -> usize
     requires { ⌜ (at ≤ end) × (end ≤ length (now s)) ⌝ }
-    ensures { λ r. ⌜ (at ≤ r) × (r ≤ end) ⌝ }
+    ensures { λ r. ⌜ (at ≤ r) × (r ≤ end) × (part (now (s .entry)) at (r - at) ≡ chop (part (now (s .entry)) at (end - at))) ⌝ }
 {
     let mut i = end;
     while i > at {
@@ -137,6 +144,8 @@ fn before_blanks(s: &[u8], at: usize, end: usize) -> usize
 fn line_at(s: &[u8], at: usize) -> Line
     requires { ⌜ at < length (now s) ⌝ }
     ensures { λ l. ⌜ (l .at ≤ l .end) × (l .end ≤ length (now (s .entry))) × (at < l .next) × (l .next ≤ length (now (s .entry))) ⌝ }
+    ensures { λ l. ⌜ part (now (s .entry)) (l .at) (l .end - l .at) ≡ wordsOf (until 10 (drop at (now (s .entry)))) ⌝ }
+    ensures { λ l. ⌜ linesOf (drop at (now (s .entry))) ≡ until 10 (drop at (now (s .entry))) ∷ linesOf (drop (l .next) (now (s .entry))) ⌝ }
 {
     let n = s.len();
     let stop = first_of(s, at, n, b'\n');
@@ -157,81 +166,83 @@ fn line_at(s: &[u8], at: usize) -> Line
     }
 }
 
-// Where the value starts in words that start with this name; `end` where they do not.
-fn value_at(s: &[u8], at: usize, end: usize, name: &[u8]) -> usize
-    requires { ⌜ (at ≤ end) × (end ≤ length (now s)) ⌝ }
-    ensures { λ r. ⌜ (at ≤ r) × (r ≤ end) ⌝ }
+// Where the value starts in words that start with this name and a blank; their end where they do not.
+fn value_at(w: &[u8], name: &[u8]) -> usize
+    ensures { λ r. ⌜ (r ≤ length (now (w .entry))) × (part (now (w .entry)) r (length (now (w .entry)) - r) ≡ afterName (now (name .entry)) (now (w .entry))) ⌝ }
 {
     let n = name.len();
-    if end - at <= n {
+    let end = w.len();
+    if end <= n {
         return end;
     }
-    if !octets::same(s, at, name, 0, n) {
+    if !octets::same(w, 0, name, 0, n) {
         return end;
     }
-    let v = past_blanks(s, at + n, end);
-    if v == at + n {
+    if !is_blank(w[n]) {
         return end;
     }
-    v
+    past_blanks(w, n, end)
 }
 
 // The number that has this name.
-fn named(s: &[u8], at: usize, end: usize, name: &[u8]) -> Numeral
-    requires { ⌜ (at ≤ end) × (end ≤ length (now s)) ⌝ }
+fn named(w: &[u8], name: &[u8]) -> Numeral
+    ensures { λ r. ⌜ r ≡ numeralOf (afterName (now (name .entry)) (now (w .entry))) ⌝ }
 {
-    let v = value_at(s, at, end, name);
-    number_in(s, v, end)
+    let v = value_at(w, name);
+    number_in(w, v, w.len())
 }
 
-fn is_word(s: &[u8], at: usize, end: usize, word: &[u8]) -> bool
-    requires { ⌜ (at ≤ end) × (end ≤ length (now s)) ⌝ }
+// Whether the words from `at` on are this one.
+fn is_word(w: &[u8], at: usize, word: &[u8]) -> bool
+    requires { ⌜ at ≤ length (now w) ⌝ }
+    ensures { λ r. ⌜ r ≡ alike (part (now (w .entry)) at (length (now (w .entry)) - at)) (now (word .entry)) ⌝ }
 {
     let n = word.len();
-    if end - at != n {
+    if w.len() - at != n {
         return false;
     }
-    octets::same(s, at, word, 0, n)
+    octets::same(w, at, word, 0, n)
 }
 
 // Which of two words has this name: 0 or 1.
-fn either(s: &[u8], at: usize, end: usize, name: &[u8], zero: &[u8], one: &[u8]) -> Numeral
-    requires { ⌜ (at ≤ end) × (end ≤ length (now s)) ⌝ }
+fn either(w: &[u8], name: &[u8], zero: &[u8], one: &[u8]) -> Numeral
+    ensures { λ r. ⌜ r ≡ chosen (now (zero .entry)) (now (one .entry)) (afterName (now (name .entry)) (now (w .entry))) ⌝ }
 {
-    let v = value_at(s, at, end, name);
-    if is_word(s, v, end, zero) {
+    let v = value_at(w, name);
+    if is_word(w, v, zero) {
         return Numeral::Is(0);
     }
-    if is_word(s, v, end, one) {
+    if is_word(w, v, one) {
         return Numeral::Is(1);
     }
     Numeral::Not
 }
 
-// Value k of the nine, in the words from `at` to `end`.
-fn value(s: &[u8], at: usize, end: usize, k: usize) -> Numeral
-    requires { ⌜ (at ≤ end) × (end ≤ length (now s)) ⌝ }
+// Value k of the nine, in the words of a line.
+fn value(w: &[u8], k: usize) -> Numeral
+    requires { ⌜ k < 9 ⌝ }
+    ensures { λ r. ⌜ r ≡ valueOf k (now (w .entry)) ⌝ }
 {
     match k {
-        0 => named(s, at, end, b"N"),
-        1 => named(s, at, end, b"t"),
-        2 => named(s, at, end, b"b"),
-        3 => named(s, at, end, b"Q"),
-        4 => named(s, at, end, b"m"),
-        5 => named(s, at, end, b"F"),
-        6 => either(s, at, end, b"member", b"repairable", b"non-repair"),
-        7 => either(s, at, end, b"clients", b"crash", b"byzantine"),
-        8 => named(s, at, end, b"W"),
-        _ => Numeral::Not,
+        0 => named(w, b"N"),
+        1 => named(w, b"t"),
+        2 => named(w, b"b"),
+        3 => named(w, b"Q"),
+        4 => named(w, b"m"),
+        5 => named(w, b"F"),
+        6 => either(w, b"member", b"repairable", b"non-repair"),
+        7 => either(w, b"clients", b"crash", b"byzantine"),
+        _ => named(w, b"W"),
     }
 }
 
 // A line's value, if it has words, as value k.
-fn take_line(s: &[u8], at: usize, end: usize, k: usize, values: &mut [u64; 9]) -> Given
-    requires { ⌜ (at ≤ end) × (end ≤ length (now s)) × (k ≤ 9) ⌝ }
-    ensures { λ g. ⌜ k + g .more ≤ 9 ⌝ }
+fn take_line(w: &[u8], k: usize, values: &mut [u64; 9]) -> Given
+    requires { ⌜ (k ≤ 9) × (length (now values) ≡ 9) ⌝ }
+    ensures { λ g. ⌜ (k + g .more ≤ 9) × (g .wrong ≡ wrongIn k (now (w .entry))) × (length (now (values .exit)) ≡ 9) ⌝ }
+    ensures { λ g. ⌜ take (k + g .more) (now (values .exit)) ≡ take k (now (values .entry)) ++ givenBy k (now (w .entry)) ⌝ }
 {
-    if at == end {
+    if w.len() == 0 {
         return Given {
             wrong: false,
             more: 0,
@@ -243,7 +254,7 @@ fn take_line(s: &[u8], at: usize, end: usize, k: usize, values: &mut [u64; 9]) -
             more: 0,
         };
     }
-    let v = value(s, at, end, k);
+    let v = value(w, k);
     match v {
         Numeral::Is(x) => {
             values[k] = x;
@@ -259,8 +270,11 @@ fn take_line(s: &[u8], at: usize, end: usize, k: usize, values: &mut [u64; 9]) -
     }
 }
 
-// The nine values of a text.
-pub fn read_plan(s: &[u8], values: &mut [u64; 9]) -> Reading {
+// What a text says. `values` is lent to hold what its lines gave.
+fn read_lines(s: &[u8], values: &mut [u64; 9]) -> Reading
+    requires { ⌜ length (now values) ≡ 9 ⌝ }
+    ensures { λ r. ⌜ r ≡ planText (now (s .entry)) ⌝ }
+{
     let mut at = 0;
     let mut k = 0;
     let mut lines: u64 = 0;
@@ -269,7 +283,7 @@ pub fn read_plan(s: &[u8], values: &mut [u64; 9]) -> Reading {
         let l = line_at(s, at);
         let from = l.at;
         let end = l.end;
-        let g = take_line(s, from, end, k, values);
+        let g = take_line(&s[from..end], k, values);
         if g.wrong {
             return Reading::Wrong(lines, k);
         }
@@ -279,17 +293,30 @@ pub fn read_plan(s: &[u8], values: &mut [u64; 9]) -> Reading {
     if k < 9 {
         return Reading::Wrong(lines, k);
     }
-    Reading::All
+    let p = plan_of(values);
+    Reading::Good(p)
 }
 
-fn member(x: u64) -> Member {
+// What a text says: a plan, or the line and the value that is not to be had there.
+pub fn read_plan(s: &[u8]) -> Reading
+    ensures { λ r. ⌜ r ≡ planText (now (s .entry)) ⌝ }
+{
+    let mut values = [0u64; 9];
+    read_lines(s, &mut values)
+}
+
+fn member(x: u64) -> Member
+    ensures { λ r. ⌜ r ≡ memberOf x ⌝ }
+{
     match x {
         0 => Member::Repairable,
         _ => Member::NonRepair,
     }
 }
 
-fn clients(x: u64) -> Clients {
+fn clients(x: u64) -> Clients
+    ensures { λ r. ⌜ r ≡ clientsOf x ⌝ }
+{
     match x {
         0 => Clients::Crash,
         _ => Clients::Byzantine,
@@ -297,7 +324,9 @@ fn clients(x: u64) -> Clients {
 }
 
 // The plan of nine values.
-pub fn plan_of(v: &[u64; 9]) -> Plan {
+fn plan_of(v: &[u64; 9]) -> Plan
+    ensures { λ p. ⌜ p ≡ planOf (now (v .entry)) ⌝ }
+{
     let who = member(v[6]);
     let what = clients(v[7]);
     Plan {

@@ -1,15 +1,14 @@
 -- `files::hold` ends: its turns are counted down, and the seconds waited never pass them. Assumes nothing.
-use borrow.Author.Needs.{needs}
 use native.Mathlib.Omega.{arith}
 use Prim.Native.Nat.{_+_, _≤_}
 use Rattle.files.proofs.hold.Statement.{statement}
 use Rattle.files.proofs.hold.Tie as tie
 
 abbrev Inv-loop : tie.InvT-loop
-Inv-loop spare last₀ waited₀ left₀ t7 last waited left = waited + left ≤ 18446744073709551615
+Inv-loop spare last₀ waited₀ left₀ last waited left = waited + left ≤ 18446744073709551615
 
 abbrev μ-loop : tie.MeasureT-loop
-μ-loop spare last₀ waited₀ left₀ t7 last waited left = left
+μ-loop spare last₀ waited₀ left₀ last waited left = left
 
 clock-requires : tie.Need-clock-requires Inv-loop μ-loop
 clock-requires c κs = tt
@@ -44,11 +43,8 @@ loop-less c = omega arith
 loop-again : tie.Need-loop-again Inv-loop μ-loop
 loop-again c = omega arith
 
-slice-aggregate-about : tie.Need-slice-aggregate-about Inv-loop μ-loop
-slice-aggregate-about c = search needs
-
-about-requires : tie.Need-about-requires Inv-loop μ-loop
-about-requires c κs = tt
+still-held-requires : tie.Need-still-held-requires Inv-loop μ-loop
+still-held-requires c κs = tt
 
 returns-2 : tie.Need-returns-2 Inv-loop μ-loop
 returns-2 c = tt
@@ -70,6 +66,5 @@ hold-spec =
     sub-left
     loop-less
     loop-again
-    slice-aggregate-about
-    about-requires
+    still-held-requires
     returns-2)

@@ -9,13 +9,7 @@ asks-to-write-requires : tie.Need-asks-to-write-requires
 asks-to-write-requires c κs = search needs
 
 answer-look-requires : tie.Need-answer-look-requires
-answer-look-requires c κs = sym (c .before .before .before .asks-to-write .ensures) ∙ not-true (c .before .before .before .asks-to-write .result) (c .before .before .if1 .taken)
-
-same-length : tie.Need-same-length
-same-length c = search needs
-
-same-length-2 : tie.Need-same-length-2
-same-length-2 c = search needs
+answer-look-requires c κs = sym (c .before .asks-to-write .ensures) ∙ not-true (c .before .asks-to-write .result) (c .if1 .taken)
 
 returns : tie.Need-returns
 returns c = search needs
@@ -29,15 +23,6 @@ returns-2 c = search needs
 answer-held-requires : tie.Need-answer-held-requires
 answer-held-requires c κs = search needs
 
-same-length-3 : tie.Need-same-length-3
-same-length-3 c = search needs
-
-same-length-4 : tie.Need-same-length-4
-same-length-4 c = search needs
-
-same-length-5 : tie.Need-same-length-5
-same-length-5 c = search needs
-
 returns-3 : tie.Need-returns-3
 returns-3 c = search needs
 
@@ -47,13 +32,8 @@ answer-spec =
     (tie.spec
     asks-to-write-requires
     answer-look-requires
-    same-length
-    same-length-2
     returns
     hold-requires
     returns-2
     answer-held-requires
-    same-length-3
-    same-length-4
-    same-length-5
     returns-3)

@@ -1,17 +1,24 @@
--- `text::before_blanks` stays between its two places, and ends. Assumes nothing.
+-- `text::before_blanks` stops after the last byte that is not blank, or at the start. Assumes nothing.
+use mathlib.Core.Path.{_≡_, refl, sym, _∙_}
+use Prim.Native.Nat.{_-_, _≤_}
+use borrow.Author.Tests.{not-true, not-false}
+use Rattle.octets.specs.Bytes.{part}
+use Rattle.text.specs.Lines.{chop}
 use native.Mathlib.Omega.{arith}
-use Prim.Native.Nat.{_≤_}
+use Rattle.text.proofs.Words as words
 use Rattle.text.proofs.before_blanks.Statement.{statement}
 use Rattle.text.proofs.before_blanks.Tie as tie
 
+-- `text::before_blanks` stays between its two places, and ends. Assumes nothing.
+
 abbrev Inv-loop : tie.InvT-loop
-Inv-loop s at end i₀ i = (at ≤ i) × (i ≤ end)
+Inv-loop s at end i₀ i = (at ≤ i) × (i ≤ end) × (chop (part s at (i - at)) ≡ chop (part s at (end - at)))
 
 abbrev μ-loop : tie.MeasureT-loop
 μ-loop s at end i₀ i = i
 
 loop-holds : tie.Need-loop-holds Inv-loop μ-loop
-loop-holds c = (omega arith, omega arith)
+loop-holds c = (omega arith, omega arith, refl)
 
 sub-is-blank : tie.Need-sub-is-blank Inv-loop μ-loop
 sub-is-blank c = omega arith
@@ -23,7 +30,7 @@ is-blank-requires : tie.Need-is-blank-requires Inv-loop μ-loop
 is-blank-requires c κs = tt
 
 returns : tie.Need-returns Inv-loop μ-loop
-returns c = (omega arith, omega arith)
+returns c = (omega arith, omega arith, words.chop-at (c .before .before .before .before .before .before .args .s .now) (c .before .before .before .before .before .before .args .at) (c .before .before .before .before .before .before .args .end) (c .before .before .before .before .loop .i) (c .before .before .before .before .loop .inv .2) (omega arith) (omega arith) (sym (c .before .is-blank .ensures) ∙ not-true (c .before .is-blank .result) (c .if1 .taken)))
 
 sub-i : tie.Need-sub-i Inv-loop μ-loop
 sub-i c = omega arith
@@ -32,10 +39,10 @@ loop-less : tie.Need-loop-less Inv-loop μ-loop
 loop-less c = omega arith
 
 loop-again : tie.Need-loop-again Inv-loop μ-loop
-loop-again c = (omega arith, omega arith)
+loop-again c = (omega arith, omega arith, words.chop-on (c .before .before .before .before .before .before .args .s .now) (c .before .before .before .before .before .before .args .at) (c .before .before .before .before .before .before .args .end) (c .before .before .before .before .loop .i) (c .before .before .before .before .loop .inv .2) (omega arith) (omega arith) (sym (c .before .is-blank .ensures) ∙ not-false (c .before .is-blank .result) (c .if1 .left)))
 
 returns-2 : tie.Need-returns-2 Inv-loop μ-loop
-returns-2 c = (omega arith, omega arith)
+returns-2 c = (omega arith, omega arith, words.chop-end (c .before .before .before .args .s .now) (c .before .before .before .args .at) (c .before .before .before .args .end) (c .before .loop .i) (c .before .loop .inv .2) (omega arith))
 
 pub before-blanks-spec : {M : Type 1} → statement M
 before-blanks-spec =

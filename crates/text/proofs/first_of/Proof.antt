@@ -1,23 +1,31 @@
--- `text::first_of` stays between its two places, and ends. Assumes nothing.
+-- `text::first_of` stops at the first such byte, or at the end: each turn is a law of Words. Assumes nothing.
+use mathlib.Core.Path.{_≡_}
+use mathlib.Core.List.{_++_}
+use lib.ListN.{getD}
+use Rattle.octets.specs.Bytes.{part}
+use Rattle.text.specs.Lines.{until}
 use native.Mathlib.Omega.{arith}
 use Prim.Native.Nat.{_≤_, _-_}
+use Rattle.text.proofs.Words as words
 use Rattle.text.proofs.first_of.Statement.{statement}
 use Rattle.text.proofs.first_of.Tie as tie
 
+-- `text::first_of` stays between its two places, and ends. Assumes nothing.
+
 abbrev Inv-loop : tie.InvT-loop
-Inv-loop s at end x i₀ i = (at ≤ i) × (i ≤ end)
+Inv-loop s at end x i₀ i = (at ≤ i) × (i ≤ end) × (part s at (i - at) ++ until x (part s i (end - i)) ≡ until x (part s at (end - at)))
 
 abbrev μ-loop : tie.MeasureT-loop
 μ-loop s at end x i₀ i = end - i
 
 loop-holds : tie.Need-loop-holds Inv-loop μ-loop
-loop-holds c = (omega arith, omega arith)
+loop-holds c = (omega arith, omega arith, words.until-start (c .args .s .now) (c .args .at) (c .args .end) (c .args .x))
 
 shared-slice-read-if1 : tie.Need-shared-slice-read-if1 Inv-loop μ-loop
 shared-slice-read-if1 c = omega arith
 
 returns : tie.Need-returns Inv-loop μ-loop
-returns c = (omega arith, omega arith)
+returns c = (omega arith, omega arith, words.until-at (c .before .before .before .before .args .s .now) (c .before .before .before .before .args .at) (c .before .before .before .before .args .end) (c .before .before .before .before .args .x) (c .before .before .before .loop .i) (c .before .before .before .loop .inv .2) (omega arith) (omega arith) (omega arith))
 
 add-i : tie.Need-add-i Inv-loop μ-loop
 add-i c = omega arith
@@ -26,10 +34,10 @@ loop-less : tie.Need-loop-less Inv-loop μ-loop
 loop-less c = omega arith
 
 loop-again : tie.Need-loop-again Inv-loop μ-loop
-loop-again c = (omega arith, omega arith)
+loop-again c = (omega arith, omega arith, words.until-on (c .before .before .before .before .args .s .now) (c .before .before .before .before .args .at) (c .before .before .before .before .args .end) (c .before .before .before .before .args .x) (c .before .before .before .loop .i) (c .before .before .before .loop .inv .2) (omega arith) (omega arith) (omega arith) (λ (e : getD (c .before .before .before .before .args .s .now) (c .before .before .before .loop .i) 0 ≡ c .before .before .before .before .args .x). omega arith))
 
 returns-2 : tie.Need-returns-2 Inv-loop μ-loop
-returns-2 c = (omega arith, omega arith)
+returns-2 c = (omega arith, omega arith, words.until-end (c .before .before .args .s .now) (c .before .before .args .at) (c .before .before .args .end) (c .before .before .args .x) (c .before .loop .i) (c .before .loop .inv .2) (omega arith))
 
 pub first-of-spec : {M : Type 1} → statement M
 first-of-spec =

@@ -1,17 +1,24 @@
--- `text::past_blanks` stays between its two places, and ends. Assumes nothing.
+-- `text::past_blanks` stops at the first byte that is not blank, or at the end. Assumes nothing.
+use mathlib.Core.Path.{_≡_, refl, sym, _∙_}
+use borrow.Author.Tests.{not-true, not-false}
+use Rattle.octets.specs.Bytes.{part}
+use Rattle.text.specs.Lines.{past}
 use native.Mathlib.Omega.{arith}
 use Prim.Native.Nat.{_≤_, _-_}
+use Rattle.text.proofs.Words as words
 use Rattle.text.proofs.past_blanks.Statement.{statement}
 use Rattle.text.proofs.past_blanks.Tie as tie
 
+-- `text::past_blanks` stays between its two places, and ends. Assumes nothing.
+
 abbrev Inv-loop : tie.InvT-loop
-Inv-loop s at end i₀ i = (at ≤ i) × (i ≤ end)
+Inv-loop s at end i₀ i = (at ≤ i) × (i ≤ end) × (past (part s i (end - i)) ≡ past (part s at (end - at)))
 
 abbrev μ-loop : tie.MeasureT-loop
 μ-loop s at end i₀ i = end - i
 
 loop-holds : tie.Need-loop-holds Inv-loop μ-loop
-loop-holds c = (omega arith, omega arith)
+loop-holds c = (omega arith, omega arith, refl)
 
 shared-slice-read-is-blank : tie.Need-shared-slice-read-is-blank Inv-loop μ-loop
 shared-slice-read-is-blank c = omega arith
@@ -20,7 +27,7 @@ is-blank-requires : tie.Need-is-blank-requires Inv-loop μ-loop
 is-blank-requires c κs = tt
 
 returns : tie.Need-returns Inv-loop μ-loop
-returns c = (omega arith, omega arith)
+returns c = (omega arith, omega arith, words.past-at (c .before .before .before .before .before .before .args .s .now) (c .before .before .before .before .before .before .args .at) (c .before .before .before .before .before .before .args .end) (c .before .before .before .before .loop .i) (c .before .before .before .before .loop .inv .2) (omega arith) (omega arith) (sym (c .before .is-blank .ensures) ∙ not-true (c .before .is-blank .result) (c .if1 .taken)))
 
 add-i : tie.Need-add-i Inv-loop μ-loop
 add-i c = omega arith
@@ -29,10 +36,10 @@ loop-less : tie.Need-loop-less Inv-loop μ-loop
 loop-less c = omega arith
 
 loop-again : tie.Need-loop-again Inv-loop μ-loop
-loop-again c = (omega arith, omega arith)
+loop-again c = (omega arith, omega arith, words.past-on (c .before .before .before .before .before .before .args .s .now) (c .before .before .before .before .before .before .args .at) (c .before .before .before .before .before .before .args .end) (c .before .before .before .before .loop .i) (c .before .before .before .before .loop .inv .2) (omega arith) (omega arith) (sym (c .before .is-blank .ensures) ∙ not-false (c .before .is-blank .result) (c .if1 .left)))
 
 returns-2 : tie.Need-returns-2 Inv-loop μ-loop
-returns-2 c = (omega arith, omega arith)
+returns-2 c = (omega arith, omega arith, words.past-end (c .before .before .before .args .s .now) (c .before .before .before .args .at) (c .before .before .before .args .end) (c .before .loop .i) (c .before .loop .inv .2) (omega arith))
 
 pub past-blanks-spec : {M : Type 1} → statement M
 past-blanks-spec =

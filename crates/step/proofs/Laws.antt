@@ -6,7 +6,8 @@
 --   told              the comparison with a copy of the book tells whether the book changed
 --   looked refuses sends stores-it   the contracts of `look` and `step`
 --   short kind-told   the test for a write
---   counted counted-next   the length of a reply counts bytes of its buffer
+--   counted counted-due   the length of a reply counts bytes of its buffer
+--   due-as            what is due, by the case of a step and of its storing
 -- Assumes nothing.
 use mathlib.Core.Path.{_≡_, refl, sym, ap, _∙_, subst}
 use mathlib.Core.Bool.{Bool, true, false, not}
@@ -33,9 +34,11 @@ use Rattle.node.specs.declared.Answer.the-variants.{Refused, Replied}
 use Rattle.node.specs.Node.{NodeCall, Said, said, refused, replied, Outcome, outcome, Reply, replyTo, sends, bookAfter, answered, served, nodeLadder}
 use Rattle.io.specs.Counts.{Counts}
 use Rattle.io.proofs.Counting.{counts}
-use Rattle.keeper.specs.declared.step.Next.{Next}
-use Rattle.keeper.specs.declared.step.Next.the-variants as next
-use Rattle.keeper.specs.Step.{asksToWrite, answerOf, lengthOf, Looked, Stepped}
+use Rattle.step.specs.declared.Next.{Next}
+use Rattle.step.specs.declared.Next.the-variants as next
+use Rattle.step.specs.declared.Due.{Due}
+use Rattle.step.specs.declared.Due.the-variants as due
+use Rattle.step.specs.Step.{asksToWrite, answerOf, lengthOf, Looked, Stepped, dueAfter}
 
 module _ (p : Plan) (f b y : List ℕ) where
   by-verdict : (P : Outcome → Type 0) → ((k : ℕ) → P (outcome (refused k) b y)) → (rungs.None (nodeLadder p f b y) → P (answered p f b y)) → P (served p f b y)
@@ -157,11 +160,24 @@ pub kind-told : (f : List ℕ) (r : ℕ) → 15 ≤ length f → r ≡ kindOf f 
 kind-told f r h e = ap (λ (x : ℕ). eqb x 3) e ∙ sym (long-enough f h)
 
 -- ---- the length of a reply
+reply-not-said : (k : ℕ) (r : Refusal) → due.Reply k ≡ due.Say r → ⊥
+reply-not-said k r e = let z : _≡_ {A = ℕ} 0 1 = cc in omega arith
+
+reply-not-nothing : (k : ℕ) → due.Reply k ≡ due.Nothing → ⊥
+reply-not-nothing k e = let z : _≡_ {A = ℕ} 0 1 = cc in omega arith
+
 pub counted : (a : Answer) (k : ℕ) (y : List ℕ) → a ≡ Replied k → lengthOf a ≤ length y → Counts k y
 counted a k y e h = counts k y (subst (λ (x : Answer). lengthOf x ≤ length y) e h)
 
-pub counted-send : (x : Next) (k : ℕ) (y : List ℕ) → x ≡ next.Send k → lengthOf (answerOf x) ≤ length y → Counts k y
-counted-send x k y e h = counts k y (subst (λ (z : Next). lengthOf (answerOf z) ≤ length y) e h)
+pub counted-due : (x : Next) (s : Bool) (d : Due) (k : ℕ) (y : List ℕ) → d ≡ dueAfter x s → d ≡ due.Reply k → lengthOf (answerOf x) ≤ length y → Counts k y
+counted-due x s d k y e f h = within x s k y (sym f ∙ e) h
+  where
+    within : (x : Next) (s : Bool) (k : ℕ) (y : List ℕ) → due.Reply k ≡ dueAfter x s → lengthOf (answerOf x) ≤ length y → Counts k y
+    within (next.Refused r) s k y e h = absurd (reply-not-said k r e)
+    within (next.Send j) s k y e h = let z : k ≡ j = cc in counts k y (omega arith)
+    within (next.Store j) true k y e h = let z : k ≡ j = cc in counts k y (omega arith)
+    within (next.Store j) false k y e h = absurd (reply-not-nothing k e)
 
-pub counted-store : (x : Next) (k : ℕ) (y : List ℕ) → x ≡ next.Store k → lengthOf (answerOf x) ≤ length y → Counts k y
-counted-store x k y e h = counts k y (subst (λ (z : Next). lengthOf (answerOf z) ≤ length y) e h)
+-- ---- what is due
+pub due-as : (x : Next) (s : Bool) (y : Next) (t : Bool) (d : Due) → x ≡ y → s ≡ t → d ≡ dueAfter y t → d ≡ dueAfter x s
+due-as x s y t d e f h = h ∙ sym (ap (λ (z : Next). dueAfter z s) e ∙ ap (dueAfter y) f)

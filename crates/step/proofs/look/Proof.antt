@@ -1,8 +1,8 @@
--- `keeper::look` leaves the book, by the laws of the node's call. Assumes nothing.
-use Rattle.keeper.proofs.Laws as laws
+-- `step::look` leaves the book, by the laws of the node's call. Assumes nothing.
+use Rattle.step.proofs.Laws as laws
 use borrow.Author.Needs.{needs}
-use Rattle.keeper.proofs.step.look.Statement.{statement}
-use Rattle.keeper.proofs.step.look.Tie as tie
+use Rattle.step.proofs.look.Statement.{statement}
+use Rattle.step.proofs.look.Tie as tie
 
 serve-requires : tie.Need-serve-requires
 serve-requires c κs = search needs

@@ -1,9 +1,10 @@
-// What one request comes to: the node's call, and whether the book is to be stored before the reply goes out.
+// What one request comes to: the node's call, whether the book is to be stored before the reply goes out, and what is then due. Document 01,
+// "The node". A program over files (keeper) does what this says; nothing here reads or writes a file.
 ghost use mathlib.Core.Path.{_≡_};
 ghost use mathlib.Core.Bool.{true, false};
 ghost use Prim.Native.Nat.{ℕ, _≤_};
 ghost use lib.ListN.{length};
-ghost use Rattle.keeper.specs.Step.{asksToWrite, Looked, Stepped};
+ghost use Rattle.step.specs.Step.{asksToWrite, Looked, Stepped, dueAfter};
 use node::Answer;
 use terms::Plan;
 use terms::Refusal;
@@ -13,6 +14,13 @@ pub enum Next {
     Refused(Refusal),
     Send(usize),
     Store(usize),
+}
+
+// What is due to the client: a line that says the refusal, the reply of this length, or nothing.
+pub enum Due {
+    Say(Refusal),
+    Reply(usize),
+    Nothing,
 }
 
 // Whether a request may change a book: a frame of kind 3.
@@ -34,7 +42,7 @@ pub fn look(p: Plan, request: &[u8], book: &mut [u8], reply: &mut [u8]) -> Answe
 }
 
 // Any request. `before` is lent to hold the book as it came.
-pub fn step(p: Plan, request: &[u8], book: &mut [u8], before: &mut [u8], reply: &mut [u8]) -> Next
+fn step_with(p: Plan, request: &[u8], book: &mut [u8], before: &mut [u8], reply: &mut [u8]) -> Next
     requires { ⌜ length (now book) ≤ length (now before) ⌝ }
     ensures { λ x. ⌜ Stepped p (now (request .entry)) (now (book .entry)) (now (reply .entry)) x (now (book .exit)) (now (reply .exit)) ⌝ }
 {
@@ -48,6 +56,31 @@ pub fn step(p: Plan, request: &[u8], book: &mut [u8], before: &mut [u8], reply: 
                 return Next::Send(k);
             }
             Next::Store(k)
+        }
+    }
+}
+
+// Any request, against a book that is no longer than document 01 allows.
+pub fn step(p: Plan, request: &[u8], book: &mut [u8], reply: &mut [u8]) -> Next
+    requires { ⌜ length (now book) ≤ 65536 ⌝ }
+    ensures { λ x. ⌜ Stepped p (now (request .entry)) (now (book .entry)) (now (reply .entry)) x (now (book .exit)) (now (reply .exit)) ⌝ }
+{
+    let mut before = io::large_buffer();
+    step_with(p, request, book, &mut before, reply)
+}
+
+// What is due, once it is known whether the book is safe: a reply over a book that has changed goes out only where that book is stored.
+pub fn due_after(x: Next, stored: bool) -> Due
+    ensures { λ d. ⌜ d ≡ dueAfter x stored ⌝ }
+{
+    match x {
+        Next::Refused(r) => Due::Say(r),
+        Next::Send(k) => Due::Reply(k),
+        Next::Store(k) => {
+            if !stored {
+                return Due::Nothing;
+            }
+            Due::Reply(k)
         }
     }
 }

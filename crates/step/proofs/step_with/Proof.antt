@@ -1,10 +1,10 @@
--- `keeper::step` is the node's call, and tells whether the book changed. Assumes nothing.
+-- `step::step_with` is the node's call, and tells whether the book changed. Assumes nothing.
 use mathlib.Core.Path.{sym, _∙_}
 use native.Mathlib.Omega.{arith}
-use Rattle.keeper.proofs.Laws as laws
+use Rattle.step.proofs.Laws as laws
 use borrow.Author.Needs.{needs}
-use Rattle.keeper.proofs.step.step.Statement.{statement}
-use Rattle.keeper.proofs.step.step.Tie as tie
+use Rattle.step.proofs.step_with.Statement.{statement}
+use Rattle.step.proofs.step_with.Tie as tie
 
 copy-requires : tie.Need-copy-requires
 copy-requires c κs = search needs
@@ -57,8 +57,8 @@ same-length-9 c = search needs
 returns-3 : tie.Need-returns-3
 returns-3 c = laws.stores-as _ _ _ _ _ _ _ _ (c .before .before .before .before .before .a2 .given .1) (c .before .before .before .before .before .before .before .before .before .before .before .serve .ensures) (sym (c .if1 .left) ∙ laws.told (c .before .before .before .before .before .before .before .before .before .before .before .before .before .before .before .before .before .before .before .before .before .before .before .args .book .now) _ _ _ _ _ (c .before .before .before .before .before .before .before .before .before .before .before .before .before .before .before .before .copy .ensures) (c .before .same .ensures) (omega arith) (omega arith) (omega arith))
 
-pub step-spec : {M : Type 1} → statement M
-step-spec =
+pub step-with-spec : {M : Type 1} → statement M
+step-with-spec =
     tie.close
     (tie.spec
     copy-requires

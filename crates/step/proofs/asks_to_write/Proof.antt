@@ -1,9 +1,9 @@
--- `keeper::asks_to_write` is its definition. Assumes nothing.
+-- `step::asks_to_write` is its definition. Assumes nothing.
 use native.Mathlib.Omega.{arith}
-use Rattle.keeper.proofs.Laws as laws
+use Rattle.step.proofs.Laws as laws
 use borrow.Author.Needs.{needs}
-use Rattle.keeper.proofs.step.asks_to_write.Statement.{statement}
-use Rattle.keeper.proofs.step.asks_to_write.Tie as tie
+use Rattle.step.proofs.asks_to_write.Statement.{statement}
+use Rattle.step.proofs.asks_to_write.Tie as tie
 
 returns : tie.Need-returns
 returns c = laws.short (c .before .before .args .request .now) (omega arith)

@@ -4,6 +4,7 @@
 --   stores x        whether a step answers that the book is to be stored
 --   lengthOf a      the length of the reply, 0 for a refusal
 --   Looked Stepped  the contracts of `look` and `step`
+--   dueAfter x s    what is due after a step, where s says whether the book is stored
 -- Assumes nothing.
 use Prim.Native.Nat.{ℕ, _≤_}
 use mathlib.Core.Path.{_≡_}
@@ -17,8 +18,10 @@ use Rattle.frame.specs.Frame.{kindOf}
 use Rattle.node.specs.Node.{NodeCall}
 use Rattle.node.specs.declared.Answer.{Answer}
 use Rattle.node.specs.declared.Answer.the-variants as answers
-use Rattle.keeper.specs.declared.step.Next.{Next}
-use Rattle.keeper.specs.declared.step.Next.the-variants.{Refused, Send, Store}
+use Rattle.step.specs.declared.Next.{Next}
+use Rattle.step.specs.declared.Next.the-variants.{Refused, Send, Store}
+use Rattle.step.specs.declared.Due.{Due}
+use Rattle.step.specs.declared.Due.the-variants as due
 
 unfoldable pub asksToWrite : List ℕ → Bool
 asksToWrite f = cond (leb 15 (length f)) (eqb (kindOf f) 3) false
@@ -48,3 +51,10 @@ pub record Stepped (p : Plan) (f b y : List ℕ) (x : Next) (b₂ y₂ : List �
   pub call : NodeCall p f b y (answerOf x) b₂ y₂
   pub changed : stores x ≡ not (alike b₂ b)
   pub fits : lengthOf (answerOf x) ≤ length y₂
+
+-- a refusal is said; a reply over a book that has changed waits until that book is stored, and is not sent where it is not
+abbrev pub dueAfter : Next → Bool → Due
+dueAfter (Refused r) s = due.Say r
+dueAfter (Send k) s = due.Reply k
+dueAfter (Store k) true = due.Reply k
+dueAfter (Store k) false = due.Nothing

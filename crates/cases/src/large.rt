@@ -1,180 +1,127 @@
 // Document 01's row of N 16 and F 1,024: a book of 65,536 bytes, filled.
-use crate::lines::alike;
 use crate::lines::end;
 use crate::lines::fields;
 use crate::lines::filling;
 use crate::lines::say;
 use crate::lines::text;
 use crate::lines::told;
+use crate::places::alike;
+use crate::places::used;
 use crate::walk::BLANK;
-use crate::walk::Said;
-use crate::walk::is_refused;
-use crate::walk::said_node;
-use session::Answer;
-use session::Session;
+use crate::walk::records;
+use pasis::store;
 use terms::Ask;
-use terms::Clients;
-use terms::Member;
-use terms::Plan;
-use terms::Time;
 ghost use mathlib.Core.Path.{_≡_};
 ghost use Prim.Native.Nat.{_≤_};
 ghost use lib.ListN.{length};
 
-// One node, its book, and the write request of an item's record: R is 1,576.
+// A book, the reply that was written and the answer.
+struct Served {
+    book: [u8; 65536],
+    reply: [u8; 1591],
+    answer: u32,
+}
+
+// A book, and how many records went into it.
 struct Shelf {
     book: [u8; 65536],
-    request: [u8; 1591],
-    reply: [u8; 1591],
-    said: Said,
     stored: u8,
 }
 
-fn sixteen() -> Plan {
-    Plan {
-        n: 16,
-        t: 1,
-        b: 1,
-        q: 3,
-        m: 2,
-        f: 1024,
-        member: Member::Repairable,
-        clients: Clients::Byzantine,
-        w: 1,
-    }
-}
-
-fn blank() -> [u8; 65536]
-    ensures { λ r. ⌜ 65536 ≡ length r ⌝ }
+// N 16, t 1, b 1, Q 3, m 2, F 1,024, repairable, Byzantine clients, W 1.
+fn sixteen() -> [u8; 11]
+    ensures { λ r. ⌜ 11 ≡ length r ⌝ }
 {
-    [BLANK; 65536]
+    [16, 1, 1, 3, 2, 4, 0, 0, 1, 0, 1]
 }
 
-// A writer that hears the time 0 from node i.
-fn timed(s: Session, i: u64, desk: &mut [u8], item: &[u8]) -> Session {
-    let mut reply = [0u8; 23];
-    frame::with_time(&mut reply, 2, i, Ask(8), Time(0));
-    let t = s.write_reply(sixteen(), &reply, desk, item);
-    t.session
-}
-
-// The write request for node 3, of the records that the time replies of all nodes but the last bring forth.
-fn request_of(desk: &mut [u8], item: &[u8], request: &mut [u8]) {
-    let o = Session::open_write(sixteen(), Ask(8));
-    let mut s = o.session;
-    let mut i: u64 = 0;
-    while i < 15 {
-        s = timed(s, i, desk, item);
-        i += 1;
-    }
-    s.owed(sixteen(), 3, desk, request);
-}
-
-fn request() -> [u8; 1591] {
-    let mut desk = [0u8; 25216];
-    let item = [7u8; 2048];
+// The write request for node 3 of a record of this time, whose fragments are all of sevens: R is 1,576.
+fn request(time: u8) -> [u8; 1591]
+    ensures { λ r. ⌜ 1591 ≡ length r ⌝ }
+{
+    let plan = sixteen();
+    let mut desk = [7u8; 25216];
+    let mut cross = [0u8; 512];
     let mut request = [0u8; 1591];
-    request_of(&mut desk, &item, &mut request);
+    records(packing::plan_of(&plan), time as u64, &mut desk, &mut cross);
+    frame::with_part(&mut request, 3, 3, Ask(9), &desk, 4728, 1576);
     request
 }
 
-impl Shelf {
-    // A fresh book.
-    fn new() -> Shelf {
-        let mut book = blank();
-        node::fresh(sixteen(), 3, &mut book);
-        let r = request();
-        let said = Said {
-            answer: Answer::Open,
-            len: 0,
-        };
-        Shelf {
-            book: book,
-            request: r,
-            reply: [0u8; 1591],
-            said: said,
-            stored: 0,
+// The record of a time, given to the node, with a reply buffer that is blank.
+fn serve(from: [u8; 65536], time: u8) -> Served {
+    let plan = sixteen();
+    let asked = request(time);
+    let mut book = from;
+    let mut reply = [BLANK; 1591];
+    let a = store::pasis_node(&plan, &asked, &mut book, &mut reply);
+    Served {
+        book: book,
+        reply: reply,
+        answer: a,
+    }
+}
+
+fn fresh() -> [u8; 65536]
+    ensures { λ r. ⌜ 65536 ≡ length r ⌝ }
+{
+    let plan = sixteen();
+    let mut book = [BLANK; 65536];
+    store::pasis_fresh_book(&plan, 3, &mut book);
+    book
+}
+
+// The records of times 1, 2, .. until one is refused.
+fn fill() -> Shelf {
+    let mut book = fresh();
+    let mut k: u8 = 0;
+    while k < 60 {
+        let s = serve(book, k + 1);
+        if s.answer > 0 {
+            return Shelf {
+                book: book,
+                stored: k,
+            };
         }
+        let next = s.book;
+        book = next;
+        k += 1;
     }
+    Shelf {
+        book: book,
+        stored: k,
+    }
+}
 
-    // The request for the record of a time, served.
-    fn serve(mut self, t: u8) -> Shelf {
-        self.request[22] = t;
-        let mut book = self.book;
-        let request = self.request;
-        let mut reply = self.reply;
-        let said = said_node(node::serve(sixteen(), &request, &mut book, &mut reply));
-        self.book = book;
-        self.reply = reply;
-        self.said = said;
-        self
+// What came of a call whose reply buffer was blank: the reply, or a refusal.
+fn outcome(reply: &[u8], a: u64) {
+    if a == 0 {
+        fields(reply);
+        return;
     }
+    told(reply, a);
+    if used(reply, BLANK) > 0 {
+        text(b", reply CHANGED");
+    }
+}
 
-    // The records of times 1, 2, .. until one is refused.
-    fn fill(self) -> Shelf {
-        let mut s = self;
-        let mut k: u8 = 0;
-        while k < 60 {
-            let next = s.serve(k + 1);
-            let said = next.said;
-            let a = said.answer;
-            if is_refused(a) {
-                s.stored = k;
-                return s;
-            }
-            s = next;
-            k += 1;
-        }
-        s
-    }
-
-    fn filled(self) {
-        let book = self.book;
-        say(
-            b"N16 F1024, 65536 bytes: records stored ",
-            self.stored as u64,
-        );
-        filling(&book);
-    }
-
-    fn same_book(self, other: Shelf) -> bool {
-        let a = self.book;
-        let b = other.book;
-        alike(&a, &b)
-    }
-
-    fn same_reply(self, other: Shelf) -> bool {
-        let a = self.reply;
-        let b = other.reply;
-        alike(&a, &b)
-    }
-
-    fn next(self, t: u8) {
-        let s = self.serve(t);
-        let said = s.said;
-        let a = said.answer;
-        text(b"N16 F1024, the next record");
-        told(a);
-        if !s.same_reply(self) {
-            text(b", reply CHANGED");
-        }
-        end(b", ", s.same_book(self));
-    }
-
-    fn held(self) {
-        let s = self.serve(1);
-        let said = s.said;
-        let reply = s.reply;
-        text(b"N16 F1024, a held record");
-        fields(said.len, &reply);
-        end(b", book ", s.same_book(self));
-    }
+// The record of a time, given to a full book: what comes of it, and whether the book is as it was.
+fn again(name: &[u8], book: [u8; 65536], time: u8, of: &[u8]) {
+    let s = serve(book, time);
+    let after = s.book;
+    let reply = s.reply;
+    text(name);
+    outcome(&reply, s.answer as u64);
+    end(of, alike(&after, &book));
 }
 
 // A full book: it refuses the next record, and acknowledges one that it holds.
 pub fn full() {
-    let s = Shelf::new().fill();
-    s.filled();
-    s.next(42);
-    s.held();
+    let f = fill();
+    let book = f.book;
+    say(b"N16 F1024, 65536 bytes: records stored ", f.stored as u64);
+    filling(&book);
+    again(b"\nN16 F1024, the next record", book, 42, b", ");
+    again(b"\nN16 F1024, a held record", book, 1, b", book ");
+    text(b"\n");
 }

@@ -1,47 +1,13 @@
 // The lines of the script, read and run: steps, a bar and the name of a case. The file `stdin` says what each step is.
+use crate::lines::tell;
 use crate::lines::text;
+use crate::places::find;
+use crate::walk;
 use crate::walk::World;
-use terms::Clients;
-use terms::Member;
-use terms::Plan;
-ghost use mathlib.Core.Path.{_≡_};
-ghost use Prim.Native.Nat.{_+_, _-_, _≤_, _<_};
-ghost use lib.ListN.{length, take, drop};
+ghost use Prim.Native.Nat.{_+_, _≤_, _<_};
+ghost use lib.ListN.{length};
 
-// ---- places in a text
-
-fn between(s: &[u8], a: usize, e: usize) -> &[u8]
-    requires { ⌜ (a ≤ e) × (e ≤ length (now s)) ⌝ }
-    ensures { λ r. ⌜ now r ≡ take (e - a) (drop a (now (s .entry))) ⌝ }
-{
-    &s[a..e]
-}
-
-// The bytes from a to e, all where these are no places of s.
-pub fn part(s: &[u8], a: usize, e: usize) -> &[u8] {
-    if e > s.len() {
-        return s;
-    }
-    if a > e {
-        return s;
-    }
-    between(s, a, e)
-}
-
-// The first place of a byte from `at` on, the end where there is none.
-fn find(s: &[u8], at: usize, x: u8) -> usize
-    requires { ⌜ at ≤ length (now s) ⌝ }
-    ensures { λ r. ⌜ (at ≤ r) × (r ≤ length (now (s .entry))) ⌝ }
-{
-    let mut k = at;
-    while k < s.len() {
-        if s[k] == x {
-            return k;
-        }
-        k += 1;
-    }
-    k
-}
+// ---- numbers
 
 // A number in decimal, and the place after it.
 struct Decimal {
@@ -49,11 +15,20 @@ struct Decimal {
     next: usize,
 }
 
-fn digit(d: u8) -> u64 {
-    if d < b'0' {
-        return 0;
+// The value of a digit; 10 or more for any other byte.
+fn digit(c: u8) -> u64 {
+    if c < b'0' {
+        return 10;
     }
-    (d - b'0') as u64
+    (c - b'0') as u64
+}
+
+// A number with one more digit; one that has no room for it stays.
+fn longer(x: u64, c: u8) -> u64 {
+    if x > 1844674407370955161 {
+        return x;
+    }
+    std::num::wrapping_add_u64(x * 10, digit(c))
 }
 
 // The number that starts at a place; 0 where there is no digit.
@@ -64,195 +39,114 @@ fn number(s: &[u8], at: usize) -> Decimal
     let mut x: u64 = 0;
     let mut k = at;
     while k < s.len() {
-        let d = s[k];
-        if d < b'0' {
+        let c = s[k];
+        if digit(c) > 9 {
             return Decimal { is: x, next: k };
         }
-        if d > b'9' {
-            return Decimal { is: x, next: k };
-        }
-        if x > 1844674407370955161 {
-            return Decimal { is: x, next: k };
-        }
-        x = std::num::wrapping_add_u64(x * 10, digit(d));
+        x = longer(x, c);
         k += 1;
     }
     Decimal { is: x, next: k }
 }
 
-// ---- plans: N 5, t 1 and m 2
-
-fn five(b: u64, q: u64, f: u64, member: Member, clients: Clients, w: u64) -> Plan {
-    Plan {
-        n: 5,
-        t: 1,
-        b: b,
-        q: q,
-        m: 2,
-        f: f,
-        member: member,
-        clients: clients,
-        w: w,
-    }
-}
-
-fn plan(x: u64) -> Plan {
-    match x {
-        1 => five(1, 3, 4, Member::Repairable, Clients::Byzantine, 1),
-        2 => five(1, 3, 4, Member::Repairable, Clients::Byzantine, 2),
-        3 => five(1, 3, 4, Member::Repairable, Clients::Crash, 2),
-        4 => five(0, 2, 4, Member::NonRepair, Clients::Byzantine, 2),
-        5 => five(1, 3, 5, Member::Repairable, Clients::Byzantine, 2),
-        _ => five(2, 3, 4, Member::Repairable, Clients::Byzantine, 2),
-    }
-}
-
 // ---- steps
 
-impl World {
-    // A call of the client.
-    fn asks(self, op: u8, x: u64) -> World {
-        match op {
-            b'w' => self.write(x),
-            b'r' => self.read(x),
-            b'o' => self.owe(x),
-            b'h' => self.hear(),
-            b'v' => self.hear_write(),
-            b'u' => self.hear_read(),
-            _ => self.answers(op, x),
+// A call of the client or of a node, with its number; a digit is a node whose request is carried.
+fn call(w: World, op: u8, x: u64) -> World {
+    match op {
+        b'0'..=b'9' => walk::carry(w, digit(op)),
+        b'w' => walk::open(w, 0, x),
+        b'r' => walk::read(w, x),
+        b'o' => walk::owe(w, x),
+        b'h' => walk::hear(w, walk::operation(&w)),
+        b'v' => walk::hear(w, 0),
+        b'u' => walk::hear(w, 1),
+        b's' => walk::serve(w, x),
+        b'f' => walk::fresh(w, 3, x),
+        b'm' => walk::short_serve(w),
+        b'n' => walk::short_fresh(w),
+        _ => change(w, op, x),
+    }
+}
+
+// An item that starts with this byte.
+fn with_item(w: World, x: u8) -> World {
+    let item = [x, 2, 3, 4, 5, 6, 7, 8];
+    walk::laid(w, walk::ITEM, &item)
+}
+
+// What a case changes by itself.
+fn change(w: World, op: u8, x: u64) -> World {
+    match op {
+        b'q' => walk::flip(w, walk::REQUEST, x),
+        b'y' => walk::flip(w, walk::REPLY, x),
+        b'd' => walk::flip(w, walk::DESK, x),
+        b'b' => walk::flip(w, 4715, x),
+        b'g' => walk::set(w, 1159, (x % 256) as u8),
+        b'i' => with_item(w, (x % 256) as u8),
+        b'p' => walk::under(w, x),
+        b'l' => walk::lie(w, x),
+        b't' => walk::time_reply(w, x),
+        b'k' => walk::previous(w, x),
+        _ => {
+            text(b"UNKNOWN STEP ");
+            w
         }
     }
+}
 
-    // A call of a node.
-    fn answers(self, op: u8, x: u64) -> World {
-        match op {
-            b's' => self.serve(x as usize),
-            b'f' => self.fresh(3, x),
-            b'm' => self.short_serve(),
-            b'n' => self.short_fresh(),
-            _ => self.turns(op, x),
-        }
-    }
-
-    // One byte another.
-    fn turns(self, op: u8, x: u64) -> World {
-        match op {
-            b'q' => self.flip_request(x as usize),
-            b'y' => self.flip_reply(x as usize),
-            b'd' => self.flip_desk(x as usize),
-            b'b' => self.flip_book(x as usize),
-            b'g' => self.at_time((x % 256) as u8),
-            _ => self.changes(op, x),
-        }
-    }
-
-    // Anything else that a case changes by itself.
-    fn changes(self, op: u8, x: u64) -> World {
-        match op {
-            b'i' => self.with_item((x % 256) as u8),
-            b'p' => self.under(plan(x)),
-            b'l' => self.lie(x),
-            b't' => self.time_reply(x),
-            b'k' => self.previous(x),
-            _ => {
-                text(b"UNKNOWN STEP ");
-                self
-            }
-        }
-    }
-
-    // A step: a digit is a node whose request is carried, a letter a call or a change, and any other sign is no step.
-    fn step(self, op: u8, x: u64) -> World {
-        match op {
-            b'0'..=b'9' => self.carry((op - b'0') as u64),
-            b'a'..=b'z' => self.asks(op, x),
-            _ => self,
-        }
+// A step, with what was before it kept: a digit or a letter. Any other sign is none.
+fn step(w: World, op: u8, x: u64) -> World {
+    match op {
+        b'0'..=b'9' | b'a'..=b'z' => call(walk::keep(w), op, x),
+        _ => w,
     }
 }
 
 // ---- a line
-
-fn is_letter(op: u8) -> bool {
-    if op < b'a' {
-        return false;
-    }
-    op <= b'z'
-}
 
 // The number that belongs to a step, and the place after both.
 fn argument(s: &[u8], at: usize) -> Decimal
     requires { ⌜ at < length (now s) ⌝ }
     ensures { λ r. ⌜ (at + 1 ≤ r .next) × (r .next ≤ length (now (s .entry))) ⌝ }
 {
-    if is_letter(s[at]) {
-        return number(s, at + 1);
+    if s[at] < b'a' {
+        return Decimal {
+            is: 0,
+            next: at + 1,
+        };
     }
-    Decimal {
-        is: 0,
-        next: at + 1,
-    }
+    number(s, at + 1)
 }
 
 // The steps, walked.
-fn walk(from: World, steps: &[u8]) -> World {
-    let mut w = from;
+fn steps(s: &[u8]) -> World {
+    let mut w = walk::new();
     let mut k: usize = 0;
-    while k < steps.len() {
-        let x = argument(steps, k);
-        w = w.step(steps[k], x.is);
+    while k < s.len() {
+        let x = argument(s, k);
+        let next = step(w, s[k], x.is);
+        w = next;
         k = x.next;
     }
     w
 }
 
-fn is_step(op: u8) -> bool {
-    if is_letter(op) {
-        return true;
-    }
-    if op < b'0' {
-        return false;
-    }
-    op <= b'9'
-}
-
-// The later place, where a step stands there.
-fn later(op: u8, at: usize, last: usize) -> usize {
-    if is_step(op) {
-        return at;
-    }
-    last
-}
-
-// The place of the last step.
-fn last_step(steps: &[u8]) -> usize {
-    let mut last: usize = 0;
-    let mut k: usize = 0;
-    while k < steps.len() {
-        let x = argument(steps, k);
-        last = later(steps[k], k, last);
-        k = x.next;
-    }
-    last
-}
-
 // The sign that stands last of all: what is shown.
-fn sign(steps: &[u8]) -> u8 {
-    let n = steps.len();
+fn sign(s: &[u8]) -> u8 {
+    let n = s.len();
     if n < 2 {
         return b'.';
     }
-    steps[n - 2]
+    s[n - 2]
 }
 
-// A case: all steps but the last, then the last.
-fn run_case(steps: &[u8], name: &[u8]) {
-    let n = last_step(steps);
-    let start = World::new(plan(2));
-    let before = walk(start, part(steps, 0, n));
-    let after = walk(before, part(steps, n, steps.len()));
+// A case: its name, and what came of its steps.
+fn run_case(s: &[u8], name: &[u8]) {
+    let w = steps(s);
     text(name);
-    after.tell(before, sign(steps));
+    tell(&w, sign(s));
+    text(b"\n");
 }
 
 // A line; one that starts with '#' says something to the reader, and an empty one nothing.
@@ -268,14 +162,15 @@ fn line(s: &[u8]) {
         text(b"NO NAME\n");
         return;
     }
-    run_case(part(s, 0, bar), part(s, bar + 2, s.len()));
+    let name = bar + 2;
+    run_case(&s[0..bar], &s[name..]);
 }
 
 pub fn run(s: &[u8]) {
     let mut k: usize = 0;
     while k < s.len() {
         let e = find(s, k, b'\n');
-        line(part(s, k, e));
+        line(&s[k..e]);
         if e == s.len() {
             return;
         }

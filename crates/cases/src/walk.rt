@@ -1,14 +1,14 @@
-// A small world: a client, five nodes with their books, and the frames between them, as one value that is handed on. A step is one call
-// of the library; the answer to it lies in `took`, and a refused step leaves the rest as it came, which the line of a case compares.
-use crate::lines::alike;
+// A small world: a client, five nodes with their books, and the frames between them, as the bytes of one value that is handed on. A step is
+// one call of the library, by the interface for a host; its answer lies there too, and a refused step has to leave the rest as it came,
+// which the line of a case compares.
 use crate::lines::text;
-use crate::script::part;
-use session::Answer;
-use session::Session;
-use session::Took;
-use session::opening::Opened;
-use session::opening::Opening;
-use session::owed::Owed;
+use crate::places::number_at;
+use crate::places::part;
+use crate::places::put;
+use crate::places::take;
+use crate::places::used;
+use pasis::client;
+use pasis::store;
 use terms::Ask;
 use terms::Hash;
 use terms::Plan;
@@ -20,129 +20,150 @@ ghost use Prim.Native.Nat.{_*_, _≤_};
 ghost use lib.ListN.{length};
 ghost use Rattle.terms.specs.Terms.{planOk, recordLength};
 
-// What a book and an item buffer hold before they are written: no last byte of a record here is this one.
+// What books and the item buffer hold before they are written: no last byte of a record here is this one.
 pub const BLANK: u8 = 170;
 
-// A book of 1,030 bytes: one byte short of room for five records of N 5 and F 4.
-pub struct Book {
-    pub bytes: [u8; 1030],
+// The places of N 5 and F 4: a session of 117 bytes, a desk of 5 times 204, two frames of R+15, an ending of 42, an item of 8, and five
+// books of 1,030, one byte short of room for five records each. All of these a refused call leaves as they came. Then the plan's 11 bytes,
+// the number of the last answer, and what the kept places held before the last step.
+pub type World = [u8; 13600];
+
+pub const SESSION: usize = 0;
+
+pub const DESK: usize = 117;
+
+pub const REQUEST: usize = 1137;
+
+pub const REPLY: usize = 1356;
+
+pub const ENDING: usize = 1575;
+
+pub const ITEM: usize = 1617;
+
+pub const BOOKS: usize = 1625;
+
+pub const KEPT: usize = 6775;
+
+pub const PLAN: usize = 6775;
+
+pub const ANSWER: usize = 6786;
+
+pub const OLD: usize = 6787;
+
+// ---- changes
+
+// Some bytes, laid at a place.
+pub fn laid(from: World, at: usize, x: &[u8]) -> World {
+    let mut w = from;
+    put(&mut w, at, x);
+    w
 }
 
-// What a client holds: its session with the last answer, its desk of 5 times 204 bytes and its item of 8.
-pub struct Client {
-    pub took: Took,
-    pub desk: [u8; 1020],
-    pub item: [u8; 8],
-}
-
-// The frames last written: of the request buffer `asked` bytes, of the reply buffer `told`. Each has R+15 bytes.
-pub struct Wire {
-    pub request: [u8; 219],
-    pub asked: usize,
-    pub reply: [u8; 219],
-    pub told: usize,
-}
-
-pub struct World {
-    pub p: Plan,
-    pub client: Client,
-    pub wire: Wire,
-    pub books: [Book; 5],
-}
-
-// ---- answers
-
-// What a call came to: its answer as a client's, and the length of the frame that it wrote.
-pub struct Said {
-    pub answer: Answer,
-    pub len: usize,
-}
-
-fn said_opening(o: Opening) -> Answer {
-    match o {
-        Opening::Refused(r) => Answer::Refused(r),
-        Opening::Accepted => Answer::Open,
+pub fn set(from: World, at: usize, x: u8) -> World {
+    let mut w = from;
+    if at < 13600 {
+        w[at] = x;
     }
+    w
 }
 
-fn said_owed(o: Owed) -> Said {
-    match o {
-        Owed::Refused(r) => Said {
-            answer: Answer::Refused(r),
-            len: 0,
-        },
-        Owed::Request(n) => Said {
-            answer: Answer::Open,
-            len: n,
-        },
+// One bit of byte number k after `at` turned over.
+pub fn flip(w: World, at: usize, k: u64) -> World {
+    if at > 13600 {
+        return w;
     }
-}
-
-pub fn said_node(a: node::Answer) -> Said {
-    match a {
-        node::Answer::Refused(r) => Said {
-            answer: Answer::Refused(r),
-            len: 0,
-        },
-        node::Answer::Replied(n) => Said {
-            answer: Answer::Open,
-            len: n,
-        },
+    let i = k as usize;
+    if i < 13600 - at {
+        return set(w, at + i, w[at + i] ^ 1);
     }
+    w
 }
 
-fn said_made(a: node::Made) -> Answer {
-    match a {
-        node::Made::Refused(r) => Answer::Refused(r),
-        node::Made::Fresh => Answer::Open,
-    }
+// What the step that follows may change, kept.
+pub fn keep(from: World) -> World {
+    let mut w = from;
+    octets::within(&mut w, 0, 6775, 6787);
+    w
 }
 
-pub fn is_refused(a: Answer) -> bool {
-    match a {
-        Answer::Refused(_) => true,
-        _ => false,
-    }
+fn says(w: World, a: u32) -> World {
+    set(w, ANSWER, (a % 256) as u8)
 }
 
-// ---- the buffers, with their lengths
+// ---- what lies in a world
 
-pub fn bytes_of(b: Book) -> [u8; 1030]
-    ensures { λ r. ⌜ length r ≡ 1030 ⌝ }
+pub fn answer(w: &[u8]) -> u64 {
+    number_at(w, ANSWER, 1)
+}
+
+pub fn is_refused(w: &[u8]) -> bool {
+    let a = answer(w);
+    a > 0 && a < 100
+}
+
+// The operation of the session: 0 is a write, 1 a read.
+pub fn operation(w: &[u8]) -> u64 {
+    number_at(w, SESSION, 1)
+}
+
+fn is_heard(w: &[u8], at: usize) -> u64
+    ensures { λ r. ⌜ r ≤ 1 ⌝ }
 {
-    b.bytes
-}
-
-pub fn desk_of(c: Client) -> [u8; 1020]
-    ensures { λ r. ⌜ length r ≡ 1020 ⌝ }
-{
-    c.desk
-}
-
-pub fn item_of(c: Client) -> [u8; 8]
-    ensures { λ r. ⌜ length r ≡ 8 ⌝ }
-{
-    c.item
-}
-
-pub fn request_of(w: Wire) -> [u8; 219]
-    ensures { λ r. ⌜ length r ≡ 219 ⌝ }
-{
-    w.request
-}
-
-pub fn reply_of(w: Wire) -> [u8; 219]
-    ensures { λ r. ⌜ length r ≡ 219 ⌝ }
-{
-    w.reply
-}
-
-// Says so where a book of 10 bytes was written.
-fn still_blank(book: &[u8]) {
-    let old = [BLANK; 10];
-    if !alike(book, &old) {
-        text(b"WRITTEN ");
+    if number_at(w, at, 1) == 0 {
+        return 0;
     }
+    1
+}
+
+// How many of the five nodes are heard, by their marks.
+pub fn heard(w: &[u8]) -> u64 {
+    is_heard(w, 101) + is_heard(w, 102) + is_heard(w, 103) + is_heard(w, 104) + is_heard(w, 105)
+}
+
+// The frame of 219 bytes or fewer at a place: as long as its length field says.
+fn frame_at(w: &[u8], at: usize) -> &[u8] {
+    let n = number_at(w, at, 4);
+    if n > 215 {
+        return part(w, at, 219);
+    }
+    part(w, at, n as usize + 4)
+}
+
+// Where the book of a node lies; a node that there is not has the place after all books.
+pub fn book_at(i: u64) -> usize {
+    match i {
+        0 => 1625,
+        1 => 2655,
+        2 => 3685,
+        3 => 4715,
+        4 => 5745,
+        _ => 6775,
+    }
+}
+
+// ---- frames that no call makes
+
+// The read request of node 3 for the last record strictly below time 1, verifier 0. The reply buffer is blank, so that what is then
+// written there can be told.
+pub fn previous(w: World, ask: u64) -> World {
+    let bound = Timestamp {
+        time: Time(1),
+        verifier: Hash(0, 0, 0, 0),
+    };
+    let mut request = [0u8; 55];
+    let reply = [BLANK; 219];
+    frame::with_stamp(&mut request, 6, 3, Ask(ask), bound);
+    laid(laid(w, REQUEST, &request), REPLY, &reply)
+}
+
+// A time reply that no node made, from the first node that is not heard where they come in order.
+pub fn time_reply(w: World, time: u64) -> World {
+    let s: &[u8] = &w;
+    let node = heard(s);
+    let ask = number_at(s, 45, 8);
+    let mut reply = [0u8; 23];
+    frame::with_time(&mut reply, 2, node, Ask(ask), Time(time));
+    laid(w, REPLY, &reply)
 }
 
 // ---- a lie
@@ -160,7 +181,7 @@ fn desk_fits(p: Plan, len: usize) -> bool
 }
 
 // The records of a time, of the fragments that lie in the slots of a desk.
-fn records(p: Plan, time: u64, desk: &mut [u8], cross: &mut [u8]) {
+pub fn records(p: Plan, time: u64, desk: &mut [u8], cross: &mut [u8]) {
     if !desk_fits(p, desk.len()) {
         return;
     }
@@ -172,357 +193,199 @@ fn records(p: Plan, time: u64, desk: &mut [u8], cross: &mut [u8]) {
     record::fill(p, t, cross, 0, desk);
 }
 
-// ---- the client's calls
+// The last fragment is changed, and the records are made anew of what then lies in the desk: each passes the hash checks, and together
+// they are no encoding of any item.
+pub fn lie(w: World, time: u64) -> World {
+    let v = flip(w, DESK, 1016);
+    let s: &[u8] = &v;
+    let p = packing::plan_of(part(s, PLAN, 11));
+    let mut desk = [0u8; 1020];
+    let mut cross = [0u8; 512];
+    take(s, DESK, &mut desk);
+    records(p, time, &mut desk, &mut cross);
+    laid(v, DESK, &desk)
+}
 
-impl Client {
-    fn says(mut self, a: Answer) -> Client {
-        let t = self.took;
-        let s = t.session;
-        let u = Took {
-            session: s,
-            answer: a,
-        };
-        self.took = u;
-        self
-    }
+// ---- calls of a node
 
-    fn opened(mut self, o: Opened) -> Client {
-        let s = o.session;
-        let a = o.answer;
-        let u = Took {
-            session: s,
-            answer: said_opening(a),
-        };
-        self.took = u;
-        self
-    }
+// A fresh book in place i, for the node of this number.
+pub fn fresh(w: World, i: u64, node: u64) -> World {
+    let at = book_at(i);
+    let s: &[u8] = &w;
+    let mut book = [0u8; 1030];
+    take(s, at, &mut book);
+    let a = store::pasis_fresh_book(part(s, PLAN, 11), node, &mut book);
+    says(laid(w, at, &book), a)
+}
 
-    fn hear_read(mut self, p: Plan, frame: &[u8]) -> Client {
-        let t = self.took;
-        let s = t.session;
-        let mut desk = desk_of(self);
-        let mut item = item_of(self);
-        let u = s.read_reply(p, frame, &mut desk, &mut item);
-        self.took = u;
-        self.desk = desk;
-        self.item = item;
-        self
-    }
+// The request, served by node i.
+pub fn serve(w: World, i: u64) -> World {
+    let at = book_at(i);
+    let s: &[u8] = &w;
+    let mut book = [0u8; 1030];
+    let mut reply = [0u8; 219];
+    take(s, at, &mut book);
+    take(s, REPLY, &mut reply);
+    let a = store::pasis_node(
+        part(s, PLAN, 11),
+        frame_at(s, REQUEST),
+        &mut book,
+        &mut reply,
+    );
+    says(laid(laid(w, at, &book), REPLY, &reply), a)
+}
 
-    fn hear_write(mut self, p: Plan, frame: &[u8]) -> Client {
-        let t = self.took;
-        let s = t.session;
-        let mut desk = desk_of(self);
-        let item = item_of(self);
-        let u = s.write_reply(p, frame, &mut desk, &item);
-        self.took = u;
-        self.desk = desk;
-        self
-    }
-
-    // The last fragment is changed, and the records are made anew of what then lies in the desk: each passes the hash checks, and
-    // together they are no encoding of any item.
-    fn lie(mut self, p: Plan, t: u64) -> Client {
-        self.desk[1016] = self.desk[1016] ^ 1;
-        let mut desk = desk_of(self);
-        let mut cross = [0u8; 512];
-        records(p, t, &mut desk, &mut cross);
-        self.desk = desk;
-        self
-    }
-
-    fn flip(mut self, at: usize) -> Client {
-        if at < 1020 {
-            self.desk[at] = self.desk[at] ^ 1;
-        }
-        self
+// Says so where a buffer that was blank was written.
+fn still_blank(s: &[u8]) {
+    if used(s, BLANK) > 0 {
+        text(b"WRITTEN ");
     }
 }
 
-impl World {
-    // ---- what a case changes by itself
+// A fresh book of 10 bytes.
+pub fn short_fresh(w: World) -> World {
+    let mut book = [BLANK; 10];
+    let a = store::pasis_fresh_book(part(&w, PLAN, 11), 3, &mut book);
+    still_blank(&book);
+    says(w, a)
+}
 
-    fn with_client(mut self, c: Client) -> World {
-        self.client = c;
-        self
+// The request, served by a node whose book has 10 bytes.
+pub fn short_serve(w: World) -> World {
+    let s: &[u8] = &w;
+    let mut book = [BLANK; 10];
+    let mut reply = [BLANK; 219];
+    let a = store::pasis_node(
+        part(s, PLAN, 11),
+        frame_at(s, REQUEST),
+        &mut book,
+        &mut reply,
+    );
+    still_blank(&book);
+    still_blank(&reply);
+    says(w, a)
+}
+
+// ---- calls of the client
+
+fn opening(op: u64, plan: &[u8], ask: u64, session: &mut [u8]) -> u32 {
+    if op == 0 {
+        return client::pasis_open_write(plan, ask, session);
     }
+    client::pasis_open_read(plan, ask, session)
+}
 
-    fn with_wire(mut self, w: Wire) -> World {
-        self.wire = w;
-        self
+// Opens an operation, by its number.
+pub fn open(w: World, op: u64, ask: u64) -> World {
+    let s: &[u8] = &w;
+    let mut session = [0u8; 117];
+    take(s, SESSION, &mut session);
+    let a = opening(op, part(s, PLAN, 11), ask, &mut session);
+    says(laid(w, SESSION, &session), a)
+}
+
+// The item buffer of a read is blank.
+pub fn read(w: World, ask: u64) -> World {
+    let item = [BLANK; 8];
+    open(laid(w, ITEM, &item), 1, ask)
+}
+
+// The request owed to a node.
+pub fn owe(w: World, i: u64) -> World {
+    let s: &[u8] = &w;
+    let mut request = [0u8; 219];
+    take(s, REQUEST, &mut request);
+    let a = client::pasis_owed(
+        part(s, PLAN, 11),
+        part(s, SESSION, 117),
+        i,
+        part(s, DESK, 1020),
+        &mut request,
+    );
+    says(laid(w, REQUEST, &request), a)
+}
+
+fn hearing(
+    op: u64,
+    plan: &[u8],
+    session: &mut [u8],
+    reply: &[u8],
+    desk: &mut [u8],
+    item: &mut [u8],
+    ending: &mut [u8],
+) -> u32 {
+    if op == 0 {
+        return client::pasis_write_reply(plan, session, reply, desk, item, ending);
     }
+    client::pasis_read_reply(plan, session, reply, desk, item, ending)
+}
 
-    fn says(self, a: Answer) -> World {
-        let c = self.client;
-        self.with_client(c.says(a))
+// The reply, heard by a writer (0) or a reader.
+pub fn hear(w: World, op: u64) -> World {
+    let s: &[u8] = &w;
+    let mut session = [0u8; 117];
+    let mut desk = [0u8; 1020];
+    let mut item = [0u8; 8];
+    let mut ending = [0u8; 42];
+    take(s, SESSION, &mut session);
+    take(s, DESK, &mut desk);
+    take(s, ITEM, &mut item);
+    take(s, ENDING, &mut ending);
+    let a = hearing(
+        op,
+        part(s, PLAN, 11),
+        &mut session,
+        frame_at(s, REPLY),
+        &mut desk,
+        &mut item,
+        &mut ending,
+    );
+    let v = laid(laid(w, SESSION, &session), DESK, &desk);
+    says(laid(laid(v, ITEM, &item), ENDING, &ending), a)
+}
+
+// ---- walks
+
+// The request owed to node i, served, and its reply heard; where one is refused, no further.
+pub fn carry(w: World, i: u64) -> World {
+    let asked = owe(w, i);
+    if is_refused(&asked) {
+        return asked;
     }
-
-    pub fn under(mut self, p: Plan) -> World {
-        self.p = p;
-        self
+    let served = serve(asked, i);
+    if is_refused(&served) {
+        return served;
     }
+    hear(served, operation(&served))
+}
 
-    // Another item, told by its first byte.
-    pub fn with_item(self, x: u8) -> World {
-        let mut c = self.client;
-        c.item = [x, 2, 3, 4, 5, 6, 7, 8];
-        self.with_client(c)
+// A plan of N 5, t 1 and m 2, with F in the second of its two bytes, and so W.
+fn five(w: World, b: u8, q: u8, f: u8, member: u8, clients: u8, rounds: u8) -> World {
+    let plan = [5, 1, b, q, 2, 0, f, member, clients, 0, rounds];
+    laid(w, PLAN, &plan)
+}
+
+// The plans of the cases, by their numbers.
+pub fn under(w: World, x: u64) -> World {
+    match x {
+        1 => five(w, 1, 3, 4, 0, 1, 1),
+        2 => five(w, 1, 3, 4, 0, 1, 2),
+        3 => five(w, 1, 3, 4, 0, 0, 2),
+        4 => five(w, 0, 2, 4, 1, 1, 2),
+        5 => five(w, 1, 3, 5, 0, 1, 2),
+        _ => five(w, 2, 3, 4, 0, 1, 2),
     }
+}
 
-    pub fn lie(self, t: u64) -> World {
-        let p = self.p;
-        let c = self.client;
-        self.with_client(c.lie(p, t))
-    }
+// A client with no session, and books that are not made.
+fn bare() -> World {
+    let blank = [BLANK; 5158];
+    laid([0u8; 13600], ITEM, &blank)
+}
 
-    // One bit of a byte turned over.
-    pub fn flip_desk(self, at: usize) -> World {
-        let c = self.client;
-        self.with_client(c.flip(at))
-    }
-
-    pub fn flip_reply(self, at: usize) -> World {
-        let mut w = self.wire;
-        if at < 219 {
-            w.reply[at] = w.reply[at] ^ 1;
-        }
-        self.with_wire(w)
-    }
-
-    pub fn flip_request(self, at: usize) -> World {
-        let mut w = self.wire;
-        if at < 219 {
-            w.request[at] = w.request[at] ^ 1;
-        }
-        self.with_wire(w)
-    }
-
-    pub fn flip_book(mut self, at: usize) -> World {
-        let mut b = self.books[3];
-        if at < 1030 {
-            b.bytes[at] = b.bytes[at] ^ 1;
-        }
-        self.books[3] = b;
-        self
-    }
-
-    // The write request for a record of another time, by the last byte of its time: the verifier does not depend on it.
-    pub fn at_time(self, t: u8) -> World {
-        let mut w = self.wire;
-        w.request[22] = t;
-        self.with_wire(w)
-    }
-
-    // The read request of node 3 for the last record strictly below time 1, verifier 0.
-    pub fn previous(self, ask: u64) -> World {
-        let bound = Timestamp {
-            time: Time(1),
-            verifier: Hash(0, 0, 0, 0),
-        };
-        let mut w = self.wire;
-        let mut request = request_of(w);
-        frame::with_stamp(&mut request, 6, 3, Ask(ask), bound);
-        w.request = request;
-        w.asked = 55;
-        self.with_wire(w)
-    }
-
-    // A time reply that no node made, from the first node that is not heard where they come in order.
-    pub fn time_reply(self, time: u64) -> World {
-        let c = self.client;
-        let t = c.took;
-        let s = t.session;
-        let ask = s.opening;
-        let marks = s.marks;
-        let mut w = self.wire;
-        let mut reply = reply_of(w);
-        frame::with_time(&mut reply, 2, rounds::count(marks), ask, Time(time));
-        w.reply = reply;
-        w.told = 23;
-        self.with_wire(w)
-    }
-
-    // ---- calls
-
-    // A fresh book in place i, for the node of this number.
-    pub fn fresh(mut self, i: usize, node: u64) -> World {
-        if i >= 5 {
-            return self;
-        }
-        let p = self.p;
-        let b = self.books[i];
-        let mut bytes = bytes_of(b);
-        let m = node::fresh(p, node, &mut bytes);
-        self.books[i] = Book { bytes: bytes };
-        self.says(said_made(m))
-    }
-
-    // A fresh book of 10 bytes.
-    pub fn short_fresh(self) -> World {
-        let p = self.p;
-        let mut bytes = [BLANK; 10];
-        let m = node::fresh(p, 3, &mut bytes);
-        still_blank(&bytes);
-        self.says(said_made(m))
-    }
-
-    pub fn write(self, ask: u64) -> World {
-        let p = self.p;
-        let c = self.client;
-        let o = Session::open_write(p, Ask(ask));
-        self.with_client(c.opened(o))
-    }
-
-    // The item buffer of a read is blank.
-    pub fn read(self, ask: u64) -> World {
-        let p = self.p;
-        let mut c = self.client;
-        c.item = [BLANK; 8];
-        let o = Session::open_read(p, Ask(ask));
-        self.with_client(c.opened(o))
-    }
-
-    // The request owed to a node.
-    pub fn owe(self, i: u64) -> World {
-        let p = self.p;
-        let c = self.client;
-        let t = c.took;
-        let s = t.session;
-        let desk = desk_of(c);
-        let mut w = self.wire;
-        let mut request = request_of(w);
-        let said = said_owed(s.owed(p, i, &desk, &mut request));
-        w.request = request;
-        w.asked = said.len;
-        let a = said.answer;
-        self.with_wire(w).says(a)
-    }
-
-    // The request, served by node i.
-    pub fn serve(mut self, i: usize) -> World {
-        if i >= 5 {
-            return self;
-        }
-        let p = self.p;
-        let mut w = self.wire;
-        let b = self.books[i];
-        let mut bytes = bytes_of(b);
-        let request = request_of(w);
-        let mut reply = reply_of(w);
-        let n = w.asked;
-        let said = said_node(node::serve(p, part(&request, 0, n), &mut bytes, &mut reply));
-        w.reply = reply;
-        w.told = said.len;
-        self.books[i] = Book { bytes: bytes };
-        let a = said.answer;
-        self.with_wire(w).says(a)
-    }
-
-    // The request, served by a node whose book has 10 bytes.
-    pub fn short_serve(self) -> World {
-        let p = self.p;
-        let mut w = self.wire;
-        let mut bytes = [BLANK; 10];
-        let request = request_of(w);
-        let mut reply = reply_of(w);
-        let said = said_node(node::serve(p, &request, &mut bytes, &mut reply));
-        still_blank(&bytes);
-        w.reply = reply;
-        let a = said.answer;
-        self.with_wire(w).says(a)
-    }
-
-    // The reply, heard by a reader.
-    pub fn hear_read(self) -> World {
-        let p = self.p;
-        let c = self.client;
-        let w = self.wire;
-        let n = w.told;
-        let reply = reply_of(w);
-        let d = c.hear_read(p, part(&reply, 0, n));
-        self.with_client(d)
-    }
-
-    // The reply, heard by a writer.
-    pub fn hear_write(self) -> World {
-        let p = self.p;
-        let c = self.client;
-        let w = self.wire;
-        let n = w.told;
-        let reply = reply_of(w);
-        let d = c.hear_write(p, part(&reply, 0, n));
-        self.with_client(d)
-    }
-
-    // The reply, heard by the session's own operation.
-    pub fn hear(self) -> World {
-        let c = self.client;
-        let t = c.took;
-        let s = t.session;
-        let o = s.operation;
-        if session::reads(o) {
-            return self.hear_read();
-        }
-        self.hear_write()
-    }
-
-    pub fn answer(self) -> Answer {
-        let c = self.client;
-        let t = c.took;
-        t.answer
-    }
-
-    // ---- walks
-
-    // The request owed to node i, served, and its reply heard; where one is refused, no further.
-    pub fn carry(self, i: u64) -> World {
-        let w = self.owe(i);
-        if is_refused(w.answer()) {
-            return w;
-        }
-        let v = w.serve(i as usize);
-        if is_refused(v.answer()) {
-            return v;
-        }
-        v.hear()
-    }
-
-    // A client with no operation yet, and books that are not made.
-    fn bare(p: Plan) -> World {
-        let o = Session::open_read(p, Ask(0));
-        let s = o.session;
-        let took = Took {
-            session: s,
-            answer: Answer::Open,
-        };
-        let client = Client {
-            took: took,
-            desk: [0u8; 1020],
-            item: [BLANK; 8],
-        };
-        let wire = Wire {
-            request: [0u8; 219],
-            asked: 0,
-            reply: [0u8; 219],
-            told: 0,
-        };
-        World {
-            p: p,
-            client: client,
-            wire: wire,
-            books: [Book {
-                bytes: [BLANK; 1030],
-            }; 5],
-        }
-    }
-
-    // Five fresh books.
-    pub fn new(p: Plan) -> World {
-        World::bare(p)
-            .fresh(0, 0)
-            .fresh(1, 1)
-            .fresh(2, 2)
-            .fresh(3, 3)
-            .fresh(4, 4)
-    }
+// Five fresh books, under plan 2.
+pub fn new() -> World {
+    let w = under(bare(), 2);
+    let two = fresh(fresh(w, 0, 0), 1, 1);
+    fresh(fresh(fresh(two, 2, 2), 3, 3), 4, 4)
 }

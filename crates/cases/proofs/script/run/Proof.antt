@@ -1,4 +1,4 @@
--- `cases::script::run` ends. Assumes nothing.
+-- `cases::script::run` ends, and reads within the lines. Assumes nothing.
 use Prim.Native.Nat.{_≤_, _-_}
 use lib.ListN.{length}
 use native.Mathlib.Omega.{arith}
@@ -18,8 +18,14 @@ loop-holds c = omega arith
 find-requires : tie.Need-find-requires Inv-loop μ-loop
 find-requires c κs = omega arith
 
-part-requires : tie.Need-part-requires Inv-loop μ-loop
-part-requires c κs = search needs
+sub-line : tie.Need-sub-line Inv-loop μ-loop
+sub-line c = omega arith
+
+part-line-start : tie.Need-part-line-start Inv-loop μ-loop
+part-line-start c = omega arith
+
+part-line-end : tie.Need-part-line-end Inv-loop μ-loop
+part-line-end c = omega arith
 
 line-requires : tie.Need-line-requires Inv-loop μ-loop
 line-requires c κs = search needs
@@ -47,7 +53,9 @@ run-spec =
     μ-loop
     loop-holds
     find-requires
-    part-requires
+    sub-line
+    part-line-start
+    part-line-end
     line-requires
     returns
     add-k

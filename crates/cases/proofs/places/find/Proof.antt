@@ -1,10 +1,10 @@
--- `cases::script::find` meets its contract. Assumes nothing.
+-- `cases::places::find` meets its contract. Assumes nothing.
 use Prim.Native.Nat.{_≤_, _-_}
 use lib.ListN.{length}
 use native.Mathlib.Omega.{arith}
 use borrow.Author.Needs.{needs}
-use Rattle.cases.proofs.script.find.Statement.{statement}
-use Rattle.cases.proofs.script.find.Tie as tie
+use Rattle.cases.proofs.places.find.Statement.{statement}
+use Rattle.cases.proofs.places.find.Tie as tie
 
 abbrev Inv-loop : tie.InvT-loop
 Inv-loop s at x k₀ k = (at ≤ k) × (k ≤ length s)

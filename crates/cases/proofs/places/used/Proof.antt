@@ -1,16 +1,16 @@
--- `cases::lines::used` ends, and reads within the book. Assumes nothing.
+-- `cases::places::used` ends, and reads within the bytes. Assumes nothing.
 use Prim.Native.Nat.{_≤_}
 use native.Mathlib.Omega.{arith}
 use lib.ListN.{length}
 use borrow.Author.Needs.{needs}
-use Rattle.cases.proofs.lines.used.Statement.{statement}
-use Rattle.cases.proofs.lines.used.Tie as tie
+use Rattle.cases.proofs.places.used.Statement.{statement}
+use Rattle.cases.proofs.places.used.Tie as tie
 
 abbrev Inv-loop : tie.InvT-loop
-Inv-loop book k₀ k = k ≤ length book
+Inv-loop s x k₀ k = k ≤ length s
 
 abbrev μ-loop : tie.MeasureT-loop
-μ-loop book k₀ k = k
+μ-loop s x k₀ k = k
 
 loop-holds : tie.Need-loop-holds Inv-loop μ-loop
 loop-holds c = omega arith

@@ -1,15 +1,18 @@
--- `cases::large::Shelf::fill` ends. Assumes nothing.
+-- `cases::large::fill` ends. Assumes nothing.
 use Prim.Native.Nat.{_≤_, _-_}
 use native.Mathlib.Omega.{arith}
 use borrow.Author.Needs.{needs}
-use Rattle.cases.proofs.large.Shelf.fill.Statement.{statement}
-use Rattle.cases.proofs.large.Shelf.fill.Tie as tie
+use Rattle.cases.proofs.large.fill.Statement.{statement}
+use Rattle.cases.proofs.large.fill.Tie as tie
 
 abbrev Inv-loop : tie.InvT-loop
-Inv-loop s₀ k₀ s k = k ≤ 60
+Inv-loop book₀ k₀ book k = k ≤ 60
 
 abbrev μ-loop : tie.MeasureT-loop
-μ-loop s₀ k₀ s k = 60 - k
+μ-loop book₀ k₀ book k = 60 - k
+
+fresh-requires : tie.Need-fresh-requires Inv-loop μ-loop
+fresh-requires c κs = search needs
 
 loop-holds : tie.Need-loop-holds Inv-loop μ-loop
 loop-holds c = omega arith
@@ -19,9 +22,6 @@ add-serve c = omega arith
 
 serve-requires : tie.Need-serve-requires Inv-loop μ-loop
 serve-requires c κs = search needs
-
-is-refused-requires : tie.Need-is-refused-requires Inv-loop μ-loop
-is-refused-requires c κs = search needs
 
 returns : tie.Need-returns Inv-loop μ-loop
 returns c = search needs
@@ -44,10 +44,10 @@ fill-spec =
     (tie.spec
     Inv-loop
     μ-loop
+    fresh-requires
     loop-holds
     add-serve
     serve-requires
-    is-refused-requires
     returns
     add-k
     loop-less

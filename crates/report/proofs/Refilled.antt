@@ -1,46 +1,24 @@
 -- What stands in the slots of a desk that repair has filled: in each the head of slot a and the fragment regenerated from the sources. Of n
 -- slots of r bytes, a head of h and a fragment of f. Assumes nothing.
-use Prim.{tt}
 use Prim.Native.Nat.{ℕ, zero, suc, _+_, _*_, _≤_, _<_}
 use mathlib.Core.Path.{_≡_, refl, sym, ap, ap₂, _∙_, subst}
 use mathlib.Core.Bool.{Bool, true, false, cond}
-use mathlib.Core.List.{List, [], _∷_, _++_, append-nil}
+use mathlib.Core.List.{List, [], _++_, append-nil}
 use native.Mathlib.Nat.{add-zero, add-comm}
 use native.Mathlib.Decide.{ℕ-discrete}
 use native.Mathlib.Omega.{arith}
-use borrow.Author.Tests.{ltb-true, ltb-false, eq-eqb, eqb-true}
-use lib.Dec.{ltb, eqb}
+use borrow.Author.Tests.{ltb-true, ltb-false}
+use lib.Dec.{ltb}
 use lib.ListN.{length, getD, length-append}
 use Rattle.octets.specs.Bytes.{part, put}
-use Rattle.octets.proofs.Laws.{length-part, length-put, part-part, part-put-same, part-put-before, part-put-after, part-middle}
+use Rattle.octets.proofs.Laws.{length-part, length-put, part-part, part-put-same, part-put-before, part-put-after, part-middle, slot-fits}
 use Rattle.octets.proofs.Meaning.{part-add, getD-part}
-use Rattle.terms.proofs.Rungs.{clash}
 use Rattle.fragments.specs.Fragments.{All, among, value, regenerated, Sources}
 use Rattle.fragments.proofs.Lists.{tabulate-ext}
-use Rattle.fragments.proofs.Interp.{all-map, all-map2, value-ext}
-use Rattle.fragments.proofs.Laws.{length-regenerated}
-use Rattle.record.proofs.Desks.{slot-fits}
+use Rattle.fragments.proofs.Interp.{all-map2, value-ext}
+use Rattle.fragments.proofs.Laws.{length-regenerated, all-among}
 use Rattle.recover.specs.Recover.{recordFrom, slotFilled, refilled}
-
--- every number of a list is among it
-pub all-among : (l : List ℕ) → All (λ (q : ℕ). among q l ≡ true) l
-unfolding among
-all-among [] = tt
-all-among (x ∷ l) = (rw (eq-eqb x x refl), all-map (λ q e. more q (eqb x q) e) l (all-among l))
-  where
-    more : (q : ℕ) (t : Bool) → among q l ≡ true → cond t true (among q l) ≡ true
-    more q true e = refl
-    more q false e = e
-
--- what holds of all of a list holds of each that is among it
-pub among-is : (P : ℕ → Type 0) (x : ℕ) (l : List ℕ) → All P l → among x l ≡ true → P x
-unfolding among
-among-is P x [] a e = absurd (clash (sym e))
-among-is P x (y ∷ l) a e = go (eqb y x) refl e (among-is P x l (a .1))
-  where
-    go : (t : Bool) → eqb y x ≡ t → cond t true (among x l) ≡ true → (among x l ≡ true → P x) → P x
-    go true q k ih = subst P (eqb-true y x q) (a .0)
-    go false q k ih = ih k
+use Rattle.recover.proofs.Filled.{each-source}
 
 module _ (d : List ℕ) (h r f n : ℕ) (qs : List ℕ) (a : ℕ) (ld : length d ≡ n * r) (hr : h + f ≡ r) (ha : a < n) (src : Sources d h r f qs)
     (low : All (λ (q : ℕ). q < n) qs) (heads : All (λ (q : ℕ). part d (q * r) h ≡ part d (a * r) h) qs) where
@@ -80,7 +58,7 @@ module _ (d : List ℕ) (h r f n : ℕ) (qs : List ℕ) (a : ℕ) (ld : length d
   slot-own : (k : ℕ) → among k qs ≡ true → part d (k * r) r ≡ rec k
   slot-own k e =
       ap (part d (k * r)) (sym hr) ∙ part-add d (k * r) h f
-      ∙ ap₂ (λ (x y : List ℕ). x ++ y) (among-is (λ (q : ℕ). part d (q * r) h ≡ part d (a * r) h) k qs heads e)
+      ∙ ap₂ (λ (x y : List ℕ). x ++ y) (all-among (λ (q : ℕ). part d (q * r) h ≡ part d (a * r) h) k qs heads e)
       (ap (λ (j : ℕ). part d j f) (add-comm (k * r) h) ∙ sym (own k e))
 
   -- the first j slots are filled
@@ -109,7 +87,7 @@ module _ (d : List ℕ) (h r f n : ℕ) (qs : List ℕ) (a : ℕ) (ld : length d
     regenerated-stays e =
         rw e
         (tabulate-ext f (λ i. value qs (λ q. getD (filled j) (h + q * r + i) 0) j) (λ i. value qs (λ q. getD d (h + q * r + i) 0) j)
-        (λ i hi. value-ext qs (λ q. getD (filled j) (h + q * r + i) 0) (λ q. getD d (h + q * r + i) 0) j (all-map2 (λ q l m. byte i hi q l m) qs low (all-among qs))))
+        (λ i hi. value-ext qs (λ q. getD (filled j) (h + q * r + i) 0) (λ q. getD d (h + q * r + i) 0) j (all-map2 (λ q l m. byte i hi q l m) qs low (each-source (λ (q : ℕ). among q qs ≡ true) qs (λ q e. e)))))
       where
         byte : (i : ℕ) → i < f → (q : ℕ) → q < n → among q qs ≡ true → getD (filled j) (h + q * r + i) 0 ≡ getD d (h + q * r + i) 0
         byte i hi q l m =

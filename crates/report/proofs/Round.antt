@@ -1,7 +1,6 @@
 -- ONE CLOSED READ ROUND DECIDES AS FIGURE 3 (round-decides): candidate, classification, validation, repair, abort, next round, cut at W.
 -- Assumes nothing.
-use Prim.{tt}
-use Prim.Native.Nat.{ℕ, zero, suc, _+_, _-_, _*_, _≤_, _<_}
+use Prim.Native.Nat.{ℕ, _+_, _*_, _≤_, _<_}
 use mathlib.Core.Path.{_≡_, refl, sym, ap, ap₂, _∙_, subst}
 use mathlib.Core.Bool.{Bool, true, false, cond}
 use mathlib.Core.List.{List, [], _∷_}
@@ -11,7 +10,7 @@ use borrow.Author.Tests.{le-leb, lt-leb, leb-true, leb-false, ne-eqb}
 use lib.Dec.{leb}
 use lib.ListN.{length, getD, take}
 use Rattle.octets.specs.Bytes.{part, num, alike, Octets}
-use Rattle.octets.proofs.Laws.{part-part}
+use Rattle.octets.proofs.Laws.{part-part, slot-room}
 use Rattle.octets.proofs.Meaning.{alike-is}
 use Rattle.sha256.specs.Sha256.{sha256}
 use Rattle.terms.specs.Stamp.{stamp, time, stampAt, stampNumber}
@@ -28,7 +27,9 @@ use Rattle.terms.specs.declared.Verdict.the-variants as verdict
 use Rattle.terms.proofs.Rungs.{clash}
 use Rattle.terms.proofs.Facts.{facts, is-complete, is-incomplete, is-unclassifiable, decided-is}
 use Rattle.terms.proofs.Stamps.{stamp-at-number}
+use Rattle.terms.proofs.Picks.{either}
 use Rattle.fragments.specs.Fragments.{All, regenerated, Sources}
+use Rattle.fragments.proofs.Lists.{all-take, all-at}
 use Rattle.fragments.proofs.Interp.{all-map}
 use Rattle.fragments.proofs.Laws.{length-regenerated}
 use Rattle.record.specs.Record.{crossOf, fragmentOf, fragmentHash}
@@ -39,7 +40,7 @@ use Rattle.rounds.specs.declared.Heard.the-variants.{Unheard, First, Record}
 use Rattle.rounds.specs.declared.Lead.{Lead}
 use Rattle.rounds.specs.declared.Lead.the-variants.{Nobody, Node}
 use Rattle.rounds.specs.Rounds.{heardCount, markOf, restUnheard, slotStamp, leadOf, joinsOf, setOf, Closed, closeWith}
-use Rattle.rounds.proofs.Laws.{slot-room, lead-room}
+use Rattle.rounds.proofs.Laws.{lead-room}
 use Rattle.rounds.proofs.Closes.{candidate, no-candidate, members-are}
 use Rattle.recover.specs.Recover.{validates, recordFrom, refilled}
 use Rattle.session.specs.declared.Session.{Session}
@@ -55,16 +56,6 @@ use Rattle.report.proofs.Triples.{stamp-low}
 use Rattle.report.proofs.Sets.{size-is, slot-stamp, max-is, all-first, heads-first, in-responses, set-is}
 use Rattle.report.proofs.Refilled as repair
 use Rattle.report.proofs.Erasure.{generated-is, laid-is, request, requests-decode}
-
-all-take : (P : ℕ → Type 0) (n : ℕ) (l : List ℕ) → All P l → All P (take n l)
-all-take P zero l a = tt
-all-take P (suc n) [] a = tt
-all-take P (suc n) (x ∷ l) a = (a .0, all-take P n l (a .1))
-
-all-at : (P : ℕ → Type 0) (l : List ℕ) → All P l → (k : ℕ) → k < length l → P (getD l k 0)
-all-at P [] a k h = absurd (omega arith)
-all-at P (x ∷ l) a zero h = a .0
-all-at P (x ∷ l) a (suc k) h = all-at P l (a .1) k (omega arith)
 
 abbrev message : ℕ → Triple → Message
 message k x = record { S = k; Response = x }
@@ -116,11 +107,7 @@ module _ (p : Plan) (s : Session) (d i : List ℕ) (u : Full p s d i) where
 
     valid-so : VALIDATE-CANDIDATE-SET (family p) set ≡ true
     unfolding VALIDATE-CANDIDATE-SET
-    valid-so = rw first-so (go (lies (p .clients)))
-      where
-        go : (t : Bool) → cond t true true ≡ true
-        go true = refl
-        go false = refl
+    valid-so = rw first-so (either (λ (b : Bool). b ≡ true) (lies (p .clients)) refl refl)
 
     first-decides : LOOP (family p) set ≡ returned 0 null
     unfolding decodedFrom

@@ -2,7 +2,7 @@
 -- refusal 12 (in-time-is), and S is in the set exactly where refusal 11 finds the node heard (heard-has, unheard-has). What fails one of them
 -- is left out (heard-hears, hash-hears, late-hears); what passes all is put in (puts), and a node that is marked then is in the set
 -- (record-after, first-after). DO_READ goes by the set, and not by its list (receives-same, gathers-more). Assumes nothing.
-use Prim.Native.Nat.{ℕ, zero, suc, _+_, _*_, _≤_, _<_}
+use Prim.Native.Nat.{ℕ, zero, suc, _*_, _≤_, _<_}
 use mathlib.Core.Path.{_≡_, refl, sym, ap, _∙_, subst}
 use mathlib.Core.Bool.{Bool, true, false, cond}
 use mathlib.Core.List.{List, [], _∷_, _++_}

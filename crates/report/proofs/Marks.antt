@@ -2,15 +2,13 @@
 -- their checks, and no two cross checksums with one hash, one timestamp is one cross checksum (one-cross). Assumes nothing.
 use Prim.Native.Nat.{ℕ, zero, suc, _+_, _*_, _≤_, _<_}
 use mathlib.Core.Path.{_≡_, refl, sym, ap, _∙_}
-use mathlib.Core.Bool.{Bool, true, false}
+use mathlib.Core.Bool.{true}
 use mathlib.Core.List.{List, []}
 use mathlib.Core.Logic.{_⊎_, inl, inr}
 use native.Mathlib.Omega.{arith}
-use borrow.Author.Tests.{ltb-true, ltb-false}
-use lib.Dec.{ltb}
 use lib.ListN.{length, replicate}
 use Rattle.octets.specs.Bytes.{part, put, alike, Octets}
-use Rattle.octets.proofs.Laws.{length-part, part-put-same, part-put-before, part-put-after, slot-fits}
+use Rattle.octets.proofs.Laws.{length-part, part-put-same, slot-fits}
 use Rattle.octets.proofs.Meaning.{alike-is, octets-part}
 use Rattle.sha256.specs.Sha256.{sha256}
 use Rattle.terms.proofs.Rungs.{both}
@@ -24,6 +22,7 @@ use Rattle.rounds.specs.declared.Heard.{Heard}
 use Rattle.rounds.specs.declared.Heard.the-variants.{Unheard, First, Record}
 use Rattle.rounds.specs.declared.Mark.{Mark}
 use Rattle.rounds.specs.Rounds.{markOf, unheard}
+use Rattle.recover.proofs.Filled.{slot-stays}
 use Rattle.report.specs.Triple.{Message, In}
 use Rattle.report.specs.Figure1.{initial}
 use Rattle.report.specs.Ours.{verifierIn, bearing, responseOf, responses}
@@ -51,13 +50,9 @@ module _ (d x : List ℕ) (r n i : ℕ) (ld : length d ≡ n * r) (lx : length x
   slot-own = part-put-same d (i * r) x r lx (omega (arith, fits))
 
   pub slot-other : (k : ℕ) → (k ≡ i → ⊥) → part (put d (i * r) x) (k * r) r ≡ part d (k * r) r
-  slot-other k h = go (ltb k i) refl
-    where
-      go : (t : Bool) → ltb k i ≡ t → part (put d (i * r) x) (k * r) r ≡ part d (k * r) r
-      go true e = part-put-before d (i * r) x (k * r) r (slot-fits k i r (ltb-true k i e)) (omega (arith, fits))
-      go false e =
-          let l : i < k = omega (arith, ltb-false k i e) in
-          part-put-after d (i * r) x (k * r) r (omega (arith, lx, slot-fits i k r l)) (omega (arith, lx, fits))
+  slot-other k h =
+      let z : k * r ≡ k * r + 0 = omega arith in
+      ap (λ (y : ℕ). part (put d (i * r) x) y r) z ∙ slot-stays d x r i k lx fits h 0 r (omega arith) ∙ ap (λ (y : ℕ). part d y r) (sym z)
 
 -- ---- the members of a response set
 -- a record that passed the checks of an accepted reply

@@ -6,10 +6,9 @@ use mathlib.Core.List.{List, _++_, append-assoc}
 use Prim.Native.Nat.{ℕ, _+_, _-_, _*_, _≤_, _<_}
 use native.Mathlib.Nat.{mul-le-mul, mul-one}
 use native.Mathlib.Omega.{arith}
-use lib.ListN.{length, take, drop}
-use lib.Seq.{take-at, drop-append-add}
+use lib.ListN.{length, drop}
 use Rattle.octets.specs.Bytes.{part, be, num, over}
-use Rattle.octets.proofs.Laws.{length-be}
+use Rattle.octets.proofs.Laws.{length-be, part-past, part-first}
 use Rattle.octets.proofs.Meaning.{num-be, length-over}
 use Rattle.terms.specs.Terms.{planOk, recordLength}
 use Rattle.terms.specs.declared.Plan.{Plan}
@@ -17,14 +16,6 @@ use Rattle.terms.proofs.Plans.{plan-is}
 use Rattle.book.specs.Records.{timed, rising}
 use Rattle.book.specs.Book.{recordsFrom, recordsPast, joined, laidAs, header, nodeOf, countOf}
 use Rattle.book.proofs.Laid.{Sized, back, HeadIs, FillIs, BookIs, length-laid, length-header, over-is, laid-is}
-
-skip : (x l : List ℕ) (k at n : ℕ) → length x ≡ k → part (x ++ l) (k + at) n ≡ part l at n
-unfolding part
-skip x l k at n e = ap (λ (i : ℕ). take n (drop (i + at) (x ++ l))) (sym e) ∙ ap (λ (m : List ℕ). take n m) (drop-append-add x l at)
-
-first-part : (q s : List ℕ) (n : ℕ) → length q ≡ n → part (q ++ s) 0 n ≡ q
-unfolding part
-first-part q s n e = take-at q s n e
 
 pub long : (p : Plan) → planOk p ≡ true → 73 ≤ recordLength p
 unfolding recordLength
@@ -59,19 +50,19 @@ module _ (v : ℕ) (more : List ℕ) (p : Plan) (node : ℕ) (rs : List (List �
   b-parts = b-is ∙ simp append-assoc
 
   c4 : (at n : ℕ) → part b (4 + at) n ≡ part (be 1 v ++ (be 1 (p .n) ++ (be 1 node ++ (be 2 (p .f) ++ (be 2 m ++ Y))))) at n
-  c4 at n = ap (λ (l : List ℕ). part l (4 + at) n) b-parts ∙ skip (be 4 (7 + length more + m * R)) _ 4 at n (length-be 4 _)
+  c4 at n = ap (λ (l : List ℕ). part l (4 + at) n) b-parts ∙ part-past (be 4 (7 + length more + m * R)) _ 4 at n (length-be 4 _)
 
   c5 : (at n : ℕ) → part b (4 + (1 + at)) n ≡ part (be 1 (p .n) ++ (be 1 node ++ (be 2 (p .f) ++ (be 2 m ++ Y)))) at n
-  c5 at n = c4 (1 + at) n ∙ skip (be 1 v) _ 1 at n (length-be 1 _)
+  c5 at n = c4 (1 + at) n ∙ part-past (be 1 v) _ 1 at n (length-be 1 _)
 
   c6 : (at n : ℕ) → part b (4 + (1 + (1 + at))) n ≡ part (be 1 node ++ (be 2 (p .f) ++ (be 2 m ++ Y))) at n
-  c6 at n = c5 (1 + at) n ∙ skip (be 1 (p .n)) _ 1 at n (length-be 1 _)
+  c6 at n = c5 (1 + at) n ∙ part-past (be 1 (p .n)) _ 1 at n (length-be 1 _)
 
   c7 : (at n : ℕ) → part b (4 + (1 + (1 + (1 + at)))) n ≡ part (be 2 (p .f) ++ (be 2 m ++ Y)) at n
-  c7 at n = c6 (1 + at) n ∙ skip (be 1 node) _ 1 at n (length-be 1 _)
+  c7 at n = c6 (1 + at) n ∙ part-past (be 1 node) _ 1 at n (length-be 1 _)
 
   c9 : (at n : ℕ) → part b (4 + (1 + (1 + (1 + (2 + at))))) n ≡ part (be 2 m ++ Y) at n
-  c9 at n = c7 (2 + at) n ∙ skip (be 2 (p .f)) _ 2 at n (length-be 2 _)
+  c9 at n = c7 (2 + at) n ∙ part-past (be 2 (p .f)) _ 2 at n (length-be 2 _)
 
   small : m < 65536
   unfolding m
@@ -83,11 +74,11 @@ module _ (v : ℕ) (more : List ℕ) (p : Plan) (node : ℕ) (rs : List (List �
 
   pub count-back : countOf (over (laidAs v more p node rs) old) ≡ length rs
   unfolding b m
-  count-back = ap num (c9 0 2 ∙ first-part (be 2 m) Y 2 (length-be 2 m)) ∙ num-be 2 m small
+  count-back = ap num (c9 0 2 ∙ part-first (be 2 m) Y 2 (length-be 2 m)) ∙ num-be 2 m small
 
   pub node-back : nodeOf (over (laidAs v more p node rs) old) ≡ node
   unfolding b
-  node-back = ap num (c6 0 1 ∙ first-part (be 1 node) _ 1 (length-be 1 node)) ∙ num-be 1 node (let q = plan-is p pk in omega arith)
+  node-back = ap num (c6 0 1 ∙ part-first (be 1 node) _ 1 (length-be 1 node)) ∙ num-be 1 node (let q = plan-is p pk in omega arith)
 
   pub records-back : recordsPast (11 + length more) p (over (laidAs v more p node rs) old) ≡ rs
   unfolding b m end
@@ -105,13 +96,13 @@ module _ (v : ℕ) (more : List ℕ) (p : Plan) (node : ℕ) (rs : List (List �
       let u : 7 + length more + length rs * recordLength p ≡ 11 + length more - 4 + length rs * recordLength p = omega arith in
       let hd : HeadIs v (11 + length more) p (over (laidAs v more p node rs) old) = record {
         used =
-            ap num (ap (λ (l : List ℕ). part l 0 4) b-parts ∙ first-part (be 4 (7 + length more + m * R)) _ 4 (length-be 4 _))
+            ap num (ap (λ (l : List ℕ). part l 0 4) b-parts ∙ part-first (be 4 (7 + length more + m * R)) _ 4 (length-be 4 _))
             ∙ num-be 4 (7 + length more + length rs * recordLength p) (omega arith)
             ∙ u ∙ ap (λ (k : ℕ). 11 + length more - 4 + k * recordLength p) (sym count-back);
-        version = ap num (c4 0 1 ∙ first-part (be 1 v) _ 1 (length-be 1 v)) ∙ num-be 1 v hv;
-        nodes = ap num (c5 0 1 ∙ first-part (be 1 (p .n)) _ 1 (length-be 1 (p .n))) ∙ num-be 1 (p .n) (omega arith);
+        version = ap num (c4 0 1 ∙ part-first (be 1 v) _ 1 (length-be 1 v)) ∙ num-be 1 v hv;
+        nodes = ap num (c5 0 1 ∙ part-first (be 1 (p .n)) _ 1 (length-be 1 (p .n))) ∙ num-be 1 (p .n) (omega arith);
         node = subst (λ (x : ℕ). x < p .n) (sym node-back) hn;
-        size = ap num (c7 0 2 ∙ first-part (be 2 (p .f)) _ 2 (length-be 2 (p .f))) ∙ num-be 2 (p .f) (omega arith);
+        size = ap num (c7 0 2 ∙ part-first (be 2 (p .f)) _ 2 (length-be 2 (p .f))) ∙ num-be 2 (p .f) (omega arith);
       } in
       let fl : FillIs (11 + length more) p (over (laidAs v more p node rs) old) = record {
         inside =

@@ -12,7 +12,7 @@ use lib.ListN.{length, take, drop, length-append, length-drop, take-append-drop}
 use lib.Seq.{take-at, drop-at, length-take-le}
 use lib.Dec.{leb, ltb, eqb}
 use Rattle.octets.specs.Bytes.{part, put, be, num, over, Octets}
-use Rattle.octets.proofs.Laws.{length-part, length-be, put-put, put-is}
+use Rattle.octets.proofs.Laws.{length-part, length-be, put-put, put-is, part-middle}
 use Rattle.octets.proofs.Meaning.{be-part, part-add}
 use Rattle.terms.specs.Ladder.{all}
 use Rattle.terms.specs.Stamp.{stamp}
@@ -59,16 +59,12 @@ unfolding joined
 length-joined r [] z = sym (zero-mul r)
 length-joined r (x ∷ rs) z = length-append x (joined rs) ∙ omega (arith, length-joined r rs (z .1), suc-mul (length rs) r, z .0)
 
-part-at : (p q s : List ℕ) (at n : ℕ) → length p ≡ at → length q ≡ n → part (p ++ (q ++ s)) at n ≡ q
-unfolding part
-part-at p q s at n e f = rw (drop-at p (q ++ s) at e) (take-at q s n f)
-
 pub back : (rs : List (List ℕ)) (p s : List ℕ) (r at : ℕ) → length p ≡ at → Sized r rs → recordsFrom (p ++ (joined rs ++ s)) r (length rs) at ≡ rs
 unfolding recordsFrom joined
 back [] p s r at e z = refl
 back (x ∷ xs) p s r at e z =
     let l : length (p ++ x) ≡ at + r = length-append p x ∙ (λ i. e i + z .0 i) in
-    rw append-assoc (λ i. part-at p x (joined xs ++ s) at r e (z .0) i
+    rw append-assoc (λ i. part-middle _ p x (joined xs ++ s) at r refl e (z .0) i
     ∷ (ap (λ (q : List ℕ). recordsFrom q r (length xs) (at + r)) (sym (append-assoc p x (joined xs ++ s))) ∙ back xs (p ++ x) s r (at + r) l (z .1)) i)
 
 sized-take : (r n : ℕ) (rs : List (List ℕ)) → Sized r rs → Sized r (take n rs)
@@ -250,7 +246,7 @@ module _ (v : ℕ) (more : List ℕ) (p : Plan) (node : ℕ) where
       let tk : take at b ≡ H ++ J1 = ap (λ (l : List ℕ). take at l) split ∙ take-at (H ++ J1) (J2 ++ T) at lp in
       let q : end - at ≡ (m - j) * R = omega arith in
       let pt : part b at (end - at) ≡ J2 = rw q
-      (ap (λ (l : List ℕ). part l at ((m - j) * R)) split ∙ part-at (H ++ J1) J2 T at ((m - j) * R) lp l2) in
+      (ap (λ (l : List ℕ). part l at ((m - j) * R)) split ∙ part-middle _ (H ++ J1) J2 T at ((m - j) * R) refl lp l2) in
       let n : at + length (rec ++ J2) ≡ end + R = ap (λ (x : ℕ). at + x) (length-append rec J2) ∙ omega arith in
       let ra : at + R ≡ at + length rec = omega arith in
       let two : put (put b (at + R) (part b at (end - at))) at rec ≡ H ++ Y =

@@ -1,6 +1,6 @@
 -- What the book's functions ensure, each need a law. Assumes nothing.
 use mathlib.Core.Path.{_≡_, refl, sym, ap, _∙_, subst}
-use mathlib.Core.Bool.{Bool, true, false, cond}
+use mathlib.Core.Bool.{Bool, true, false}
 use mathlib.Core.List.{List, [], _++_, append-nil, append-assoc}
 use Prim.Native.Nat.{ℕ, zero, suc, _+_, _-_, _*_, _≤_, _<_}
 use native.Mathlib.Nat.{add-zero, suc-mul, zero-mul, mul-le-mul-right}
@@ -10,7 +10,7 @@ use lib.ListN.{length, take, getD, length-append}
 use lib.Seq.{take-all}
 use lib.Dec.{eqb}
 use Rattle.octets.specs.Bytes.{part, put, num, numFrom, be, over, alike, Octets}
-use Rattle.octets.proofs.Laws.{length-be, length-part}
+use Rattle.octets.proofs.Laws.{length-be, length-part, slot-fits}
 use Rattle.octets.proofs.Meaning.{be-part, is-alike, alike-is, over-start, over-more}
 use Rattle.terms.specs.Ladder.{all}
 use Rattle.terms.specs.Stamp.{stamp, time}
@@ -18,6 +18,7 @@ use Rattle.terms.specs.Terms.{recordLength}
 use Rattle.terms.specs.declared.Plan.{Plan}
 use Rattle.terms.proofs.Rungs.{clash}
 use Rattle.terms.proofs.Plans.{not-ok}
+use Rattle.terms.proofs.Picks.{itself}
 use Rattle.book.specs.declared.Fate.{Fate}
 use Rattle.book.specs.declared.Fate.the-variants.{Held, Other, Free}
 use Rattle.book.specs.declared.Span.{Span}
@@ -39,10 +40,6 @@ pub good-laid : (p : Plan) (b : List ℕ) → Octets b → laid.BookIs 1 11 p b 
 unfolding part
 good-laid p b o i = laid.laid 1 11 p b (omega arith) o i
 
-last : (t : Bool) → t ≡ cond t true false
-last true = refl
-last false = refl
-
 pub head-no : (v h : ℕ) (p : Plan) (b : List ℕ) → (laid.HeadIs v h p b → ⊥) → false ≡ headed v h p b
 head-no v h p b f = not-ok _ (λ e. f (laid.head-is v h p b e))
 
@@ -52,7 +49,7 @@ pub head-last : (v h : ℕ) (p : Plan) (b : List ℕ) → num (part b 0 4) ≡ h
 unfolding headed all
 head-last v h p b u e n d =
     rw (eq-eqb (num (part b 0 4)) (h - 4 + countOf b * recordLength p) u, eq-eqb (num (part b 4 1)) v e, eq-eqb (num (part b 5 1)) (p .n) n, lt-ltb (nodeOf b) (p .n) d)
-    (last (eqb (num (part b 7 2)) (p .f)))
+    (itself (eqb (num (part b 7 2)) (p .f)))
 
 pub fill-no : (h : ℕ) (p : Plan) (b : List ℕ) → (laid.FillIs h p b → ⊥) → false ≡ filled h p b
 fill-no h p b f = not-ok _ (λ e. f (laid.fill-is h p b e))
@@ -60,7 +57,7 @@ fill-no h p b f = not-ok _ (λ e. f (laid.fill-is h p b e))
 pub fill-last : (h : ℕ) (p : Plan) (b : List ℕ) (a : Bool) → h + countOf b * recordLength p ≤ length b → rising (recordsPast h p b) ≡ true
     → a ≡ timed (recordsPast h p b) → a ≡ filled h p b
 unfolding filled all
-fill-last h p b a i r e = rw (le-leb (h + countOf b * recordLength p) (length b) i, r) (e ∙ last (timed (recordsPast h p b)))
+fill-last h p b a i r e = rw (le-leb (h + countOf b * recordLength p) (length b) i, r) (e ∙ itself (timed (recordsPast h p b)))
 
 pub not-good : (p : Plan) (b : List ℕ) → headed 1 11 p b ≡ false → Checked p b false
 unfolding goodBook
@@ -99,7 +96,7 @@ span-some b r m h (suc k) f l u =
     let q : suc k - 1 ≡ k = omega arith in
     let n = laid.length-records b r m h in
     rw q (record {
-      inside = omega (arith, turns.step k m r (omega arith));
+      inside = omega (arith, slot-fits k m r (omega arith));
       short = omega arith;
       is = sym (lists.last-take k (recordsFrom b r m h) (omega arith) ∙ record-at b r m h k (omega arith));
     })

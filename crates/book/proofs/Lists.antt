@@ -11,6 +11,7 @@ use Rattle.octets.specs.Bytes.{alike}
 use Rattle.octets.proofs.Meaning.{alike-is}
 use Rattle.terms.specs.Stamp.{stamp}
 use Rattle.terms.proofs.Rungs.{both, clash}
+use Rattle.terms.proofs.Picks.{itself}
 use Rattle.book.specs.declared.Fate.{Fate}
 use Rattle.book.specs.declared.Fate.the-variants.{Held, Other, Free}
 use Rattle.book.specs.Records.{rising, above, below, those, some, lastOf, holds, holdsOther, insertRecord, fateOf}
@@ -53,16 +54,12 @@ module _ (s : ℕ) (t : List ℕ → Bool) (only : (x : List ℕ) → t x ≡ tr
   some-in [] e h = absurd (omega arith)
   some-in (x ∷ rs) e h = go (ltb (stamp x) s) refl h (some-in rs (above-rising (stamp x) rs e)) (none-above (stamp x) rs)
     where
-      last : (u : Bool) → cond u true false ≡ u
-      last true = refl
-      last false = refl
-
       go : (u : Bool) → ltb (stamp x) s ≡ u → cond u (suc (below s rs)) 0 < suc (length rs)
           → (below s rs < length rs → some t rs ≡ t (getD rs (below s rs) []))
           → (s ≤ stamp x → above (stamp x) rs ≡ true → some t rs ≡ false)
           → cond (t x) true (some t rs) ≡ t (getD (x ∷ rs) (cond u (suc (below s rs)) 0) [])
       go true f k ih nothing = let l : stamp x < s = ltb-true _ _ f in rw (not-met x (λ g. omega arith)) (ih (omega arith))
-      go false f k ih nothing = rw (nothing (ltb-false _ _ f) e) (last (t x))
+      go false f k ih nothing = rw (nothing (ltb-false _ _ f) e) (sym (itself (t x)))
 
   pub some-none : (rs : List (List ℕ)) → length rs ≤ below s rs → some t rs ≡ false
   unfolding some below

@@ -3,7 +3,7 @@ use mathlib.Core.Path.{_≡_, sym, ap, _∙_}
 use mathlib.Core.Bool.{Bool, true, false}
 use Prim.Native.Nat.{ℕ, zero, suc, _+_, _-_, _*_, _≤_, _<_}
 use mathlib.Core.List.{List}
-use native.Mathlib.Nat.{add-zero, zero-add, sub-zero, suc-mul, zero-mul, mul-le-mul, mul-le-mul-right}
+use native.Mathlib.Nat.{add-zero, zero-add, sub-zero, suc-mul, zero-mul, mul-le-mul}
 use native.Mathlib.Omega.{arith}
 use borrow.Author.Tests.{le-leb, lt-leb}
 use lib.Dec.{ltb}
@@ -24,10 +24,6 @@ pub room2 : (at m r e : ℕ) → 1 < m → at + m * r ≤ e → at + r + r ≤ e
 room2 at zero r e h k = absurd (omega arith)
 room2 at (suc zero) r e h k = absurd (omega arith)
 room2 at (suc (suc m)) r e h k = omega (arith, suc-mul (suc m) r, suc-mul m r)
-
--- a record before the m-th ends before it
-pub step : (j m r : ℕ) → j < m → j * r + r ≤ m * r
-step j m r h = let q : suc j * r ≤ m * r = mul-le-mul-right r h in omega (arith, suc-mul j r)
 
 pub next : (j r : ℕ) → (j + 1) * r ≡ j * r + r
 next j r = let q : j + 1 ≡ suc j = omega arith in rw q (suc-mul j r)

@@ -2,6 +2,7 @@
 -- node number, F (2 bytes), count (2 bytes), then records in strictly rising timestamp, all times 1 or more. The node number is below N;
 -- length = 7 + count·R, within the lent book."
 -- A version has a number v and a header of h bytes: the 11 above and what it has more. Version 1 has no more; record k lies at h + k·R.
+--   bookLent                         a lent book may have n bytes
 --   countOf, nodeOf                  the count and the node number in some bytes
 --   recordsPast, recordsOf           the records read back: past a header of h bytes, and of a version 1 book
 --   header, laidAs, laidOut          the records laid out: in a version, and as a version 1 book
@@ -23,6 +24,10 @@ use Rattle.book.specs.declared.Fate.{Fate}
 use Rattle.book.specs.declared.Fate.the-variants.{Held, Other, Free}
 use Rattle.book.specs.declared.Span.{Span}
 use Rattle.book.specs.Records.{timed, rising, below, insertRecord}
+
+-- "Lent book: 11 to 65,536 bytes"
+abbrev pub bookLent : ℕ → Bool
+bookLent n = leb 11 n and leb n 65536
 
 abbrev pub countOf : List ℕ → ℕ
 countOf b = num (part b 9 2)

@@ -41,12 +41,12 @@ use Rattle.session.proofs.Openings.{opening-one}
 use Rattle.session.proofs.Oweds.{due-one}
 use Rattle.session.proofs.Checks.{refusal-low}
 use Rattle.conduct.specs.Endings.{readLadder, writeLadder, ReadGives, WriteGives}
-use Rattle.conduct.proofs.Ladders as ladders
+use Rattle.terms.proofs.Ladders as ladders
 use Rattle.conduct.proofs.Reading as reading
 use Rattle.conduct.proofs.Writing as writing
 
 -- ---- the paper's terms determine the answer
--- a timestamp's five words have 8 bytes each, as every word of a machine has
+-- the four words of a timestamp's verifier have 8 bytes each, as every word of a machine has
 pub record Sized (t : Timestamp) : Type 0 where
   pub head : t .verifier .0 < 256 ^ 8
   pub rest : Words (t .verifier)

@@ -19,8 +19,6 @@ use Rattle.rounds.specs.declared.Heard.{Heard}
 use Rattle.rounds.specs.declared.Heard.the-variants.{Record}
 use Rattle.rounds.specs.Rounds.{heardCount}
 use Rattle.session.specs.declared.Session.{Session}
-use Rattle.session.specs.declared.Stage.{Stage}
-use Rattle.session.specs.declared.Stage.the-variants.{Asking, Storing, Ended}
 use Rattle.session.specs.declared.Operation.the-variants.{Read}
 use Rattle.session.specs.declared.opening.Opened.{Opened}
 use Rattle.session.specs.declared.opening.Opening.the-variants.{Accepted}
@@ -29,10 +27,10 @@ use Rattle.session.specs.Opening.{OpenCall}
 use Rattle.session.specs.Reply.{isHeard}
 use Rattle.session.specs.Reader.{Outcome, outcome, readReply}
 use Rattle.session.proofs.Openings.{accepted-session}
-use Rattle.session.proofs.ReadKept.{asking as is-asking}
+use Rattle.session.proofs.ReadKept.{asking as is-asking, not-asking}
 use Rattle.conduct.specs.Endings.{readLadder, heardAs, after}
 use Rattle.conduct.specs.Turns.{Turn, Turns, closedRounds, Reports, lastSaid}
-use Rattle.conduct.proofs.Ladders as ladders
+use Rattle.terms.proofs.Ladders as ladders
 use Rattle.conduct.proofs.Reading as reading
 use Rattle.session.proofs.Closings as shapes
 use Rattle.conduct.proofs.RoundKept as kept
@@ -46,11 +44,6 @@ pub record At (s : Session) (k : ℕ) : Type 0 where
   pub marks : length (s .marks) ≡ 16
   pub heard : isAsking (s .stage) ≡ true → heardCount (s .marks) ≡ k
   pub low : 1 ≤ s .round
-
-not-asking : (g : Stage) → isStoring g ≡ true → isAsking g ≡ false
-not-asking Asking e = let z : _≡_ {A = ℕ} 0 1 = cc in absurd (omega arith)
-not-asking Storing e = refl
-not-asking Ended e = refl
 
 -- what one reply comes to: x is 1 where it closed a round, k₂ were accepted in the round that is open after it
 pub record Step (p : Plan) (s : Session) (k : ℕ) (o : Outcome) (x k₂ : ℕ) : Type 0 where

@@ -29,7 +29,7 @@ use Rattle.session.specs.Session.{isStoring, replies, markedOf, Said, refused, 
 use Rattle.session.specs.Reader.{ReadReplyCall, Outcome, outcome, headLength, closed, settled, stored, accepted}
 use Rattle.session.specs.Writer.{WriteReplyCall}
 use Rattle.conduct.specs.Endings.{Exactly, readLadder, after, deskAfter, Candidate, size, WhenNever, WhenAborted, WhenSpent, WhenDone, WhenOpen, DoneByRead, RepairOpens, WriteDone, WriteClock, WriteOpen, ReadGives, WriteGives}
-use Rattle.conduct.proofs.Ladders as ladders
+use Rattle.terms.proofs.Ladders as ladders
 use Rattle.conduct.proofs.Reading as reading
 use Rattle.session.proofs.Closings as shapes
 use Rattle.conduct.proofs.Client as client

@@ -9,10 +9,9 @@ use Prim.Native.Nat.{ℕ, zero, suc, _+_, _*_, _^_, _≤_, _<_}
 use native.Mathlib.Omega.{arith}
 use borrow.Author.Tests.{ltb-true, eq-eqb, ne-eqb}
 use lib.ListN.{length, length-append}
-use lib.Seq.{take-at, drop-at}
 use lib.Dec.{ltb, lit<}
 use Rattle.octets.specs.Bytes.{part, num, be, beOnto, over, Octets}
-use Rattle.octets.proofs.Laws.{length-be, length-part}
+use Rattle.octets.proofs.Laws.{length-be, length-part, part-middle}
 use Rattle.octets.proofs.Meaning.{num-be, num-append, alike-refl}
 use Rattle.sha256.specs.Sha256.{sha256}
 use Rattle.sha256.proofs.Laws.{sha256-length, whole}
@@ -101,10 +100,6 @@ unfolding book small zeros over laidAs header joined be beOnto plan recordLength
 book-small = refl
 
 -- ---- a record of a time, and the request to write it
-piece : (x y z : List ℕ) (at n : ℕ) → length x ≡ at → length y ≡ n → part (x ++ (y ++ z)) at n ≡ y
-unfolding part
-piece x y z at n a e = rw (drop-at x (y ++ z) at a) (take-at y z n e)
-
 pub fragment : List ℕ
 fragment = 7 ∷ []
 
@@ -124,23 +119,23 @@ length-record t = simp (length-append, length-be, sha256-length)
 module _ (t : ℕ) (low : 0 < t) (high : t < 256) where
   time-is : time (record-of t) ≡ t
   unfolding record-of
-  time-is = ap num (piece [] (be 8 t) (sha256 cross ++ (cross ++ fragment)) 0 8 refl (length-be 8 t)) ∙ num-be 8 t (omega arith)
+  time-is = ap num (part-middle _ [] (be 8 t) (sha256 cross ++ (cross ++ fragment)) 0 8 refl refl (length-be 8 t)) ∙ num-be 8 t (omega arith)
 
   verifier-is : part (record-of t) 8 32 ≡ sha256 cross
   unfolding record-of
-  verifier-is = piece (be 8 t) (sha256 cross) (cross ++ fragment) 8 32 (length-be 8 t) (sha256-length cross)
+  verifier-is = part-middle _ (be 8 t) (sha256 cross) (cross ++ fragment) 8 32 refl (length-be 8 t) (sha256-length cross)
 
   cross-is : part (record-of t) 40 32 ≡ cross
   unfolding record-of cross
   cross-is =
       ap (λ (l : List ℕ). part l 40 32) (sym (append-assoc (be 8 t) (sha256 cross) (cross ++ fragment)))
-      ∙ piece (be 8 t ++ sha256 cross) cross fragment 40 32 (simp (length-append, length-be, sha256-length)) (sha256-length fragment)
+      ∙ part-middle _ (be 8 t ++ sha256 cross) cross fragment 40 32 refl (simp (length-append, length-be, sha256-length)) (sha256-length fragment)
 
   fragment-is : part (record-of t) 72 1 ≡ fragment
   unfolding record-of cross fragment
   fragment-is =
       let e : be 8 t ++ (sha256 cross ++ (cross ++ fragment)) ≡ (be 8 t ++ sha256 cross ++ cross) ++ (fragment ++ []) = simp append-assoc in
-      ap (λ (l : List ℕ). part l 72 1) e ∙ piece (be 8 t ++ sha256 cross ++ cross) fragment [] 72 1
+      ap (λ (l : List ℕ). part l 72 1) e ∙ part-middle _ (be 8 t ++ sha256 cross ++ cross) fragment [] 72 1 refl
       (simp (length-append, length-be, sha256-length)) refl
 
   entry-is : part cross 0 32 ≡ sha256 fragment
@@ -188,7 +183,7 @@ module _ (t : ℕ) (low : 0 < t) (high : t < 256) where
   stamp-is =
       let e : be 8 t ++ (sha256 cross ++ (cross ++ fragment)) ≡ [] ++ (be 8 t ++ sha256 cross ++ (cross ++ fragment)) = simp append-assoc in
       ap (λ (l : List ℕ). num (part l 0 40)) e
-      ∙ ap num (piece [] (be 8 t ++ sha256 cross) (cross ++ fragment) 0 40 refl (simp (length-append, length-be, sha256-length)))
+      ∙ ap num (part-middle _ [] (be 8 t ++ sha256 cross) (cross ++ fragment) 0 40 refl refl (simp (length-append, length-be, sha256-length)))
       ∙ num-append (be 8 t) (sha256 cross) ∙ (λ i. num-be 8 t (omega arith) i * 256 ^ sha256-length cross i + num (sha256 cross))
 
 -- ---- the set of two requests

@@ -110,7 +110,7 @@ module _ (p : Plan) (f b y : List ℕ) (g : goodBook p b ≡ true) (o : Octets b
 
       go : (t : Bool) → writes f ≡ t → After p b b₂
       go true w = subst (After p b) (sym (ap (λ (o : Outcome). o .book) (c .is))) (written p f b y g o (theorems.clear p f b y (q .0)) w .0)
-      go false w = same-after p b b₂ g (ap (λ (o : Outcome). o .book) (q .1) ∙ one.answered-book p f b y ∙ one.after-other p f b w)
+      go false w = same-after p b b₂ g (ap (λ (o : Outcome). o .book) (q .1) ∙ one.answered-book p f b y ∙ nodes.after-other p f b w)
 
   -- A write request that was acknowledged is in the book.
   pub call-stores : (n : ℕ) (b₂ y₂ : List ℕ) → NodeCall p f b y (Replied n) b₂ y₂ → writes f ≡ true → Among (bodyOf f) (recordsOf p b₂)

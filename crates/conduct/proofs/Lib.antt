@@ -1,4 +1,3 @@
-pub mod Ladders
 pub mod Order
 pub mod Node
 pub mod One

@@ -25,7 +25,7 @@ use Rattle.node.specs.declared.Made.the-variants as make
 use Rattle.node.specs.Node.{NodeCall, served, answered, sends, bookAfter, said, Said, refused, replied, Outcome, outcome, nodeLadder, lengthsOk, zeroTime, hashFails, otherHeld, noRoom}
 use Rattle.node.specs.Fresh.{FreshCall, FreshOutcome, made, freshOutcome, saidMade, freshened, freshLadder}
 use Rattle.node.specs.Fresh as fresh
-use Rattle.conduct.proofs.Ladders as ladders
+use Rattle.terms.proofs.Ladders as ladders
 
 -- ---- the paper's terms determine the answer
 pub said-one : (a b : Answer) → said a ≡ said b → a ≡ b

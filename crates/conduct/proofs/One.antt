@@ -31,7 +31,7 @@ use Rattle.node.proofs.Laws as nodes
 use Rattle.conduct.specs.Deliver.{Among, passes}
 use Rattle.conduct.proofs.Order as order
 use Rattle.conduct.proofs.Node as calls
-use Rattle.conduct.proofs.Ladders as ladders
+use Rattle.terms.proofs.Ladders as ladders
 
 -- ---- ladders
 pub first-stays : (b y : List ℕ) (pass : Outcome) (l : List Rung) → (rungs.None l → pass .book ≡ b)
@@ -61,15 +61,11 @@ pub answered-book : (p : Plan) (f b y : List ℕ) → answered p f b y .book ≡
 unfolding answered sends
 answered-book p f b y = refl
 
-pub after-other : (p : Plan) (f b : List ℕ) → writes f ≡ false → bookAfter p f b ≡ b
-unfolding bookAfter
-after-other p f b e = rw e
-
 -- a request that does not pass leaves the book
 pub not-passed : (p : Plan) (f b y : List ℕ) → passes p (nodeOf b) f ≡ false → served p f b y .book ≡ b
 unfolding served
 not-passed p f b y e =
-    first-stays b y (answered p f b y) (nodeLadder p f b y) (λ n. answered-book p f b y ∙ after-other p f b (other n (writes f) refl))
+    first-stays b y (answered p f b y) (nodeLadder p f b y) (λ n. answered-book p f b y ∙ nodes.after-other p f b (other n (writes f) refl))
   where
     other : rungs.None (nodeLadder p f b y) → (t : Bool) → writes f ≡ t → t ≡ false
     other n false w = refl

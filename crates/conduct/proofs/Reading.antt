@@ -9,7 +9,7 @@ use borrow.Author.Tests.{ltb-true, ltb-false, lt-ltb, le-ltb, leb-true, leb-fals
 use lib.Dec.{ltb, leb}
 use lib.ListN.{length, length-drop}
 use Rattle.octets.specs.Bytes.{put}
-use Rattle.octets.proofs.Laws.{length-put}
+use Rattle.octets.proofs.Laws.{length-put, slot-room}
 use Rattle.terms.specs.Ladder.{first, _and_}
 use Rattle.terms.specs.Stamp.{stampAt, stampNumber}
 use Rattle.terms.specs.Terms.{planOk, recordLength, complete, incomplete, decided}
@@ -28,7 +28,7 @@ use Rattle.rounds.specs.declared.Heard.the-variants.{First, Record}
 use Rattle.rounds.specs.declared.Lead.{Lead}
 use Rattle.rounds.specs.declared.Lead.the-variants.{Nobody, Node}
 use Rattle.rounds.specs.Rounds.{heardCount, markOf, leadOf, slotStamp, Closed, closeWith}
-use Rattle.rounds.proofs.Laws.{lead-room, slot-room}
+use Rattle.rounds.proofs.Laws.{lead-room}
 use Rattle.rounds.proofs.Closes.{candidate, no-candidate}
 use Rattle.session.specs.declared.Session.{Session}
 use Rattle.session.specs.declared.Operation.the-variants.{Read}
@@ -39,7 +39,7 @@ use Rattle.session.specs.Reader.{Outcome, outcome, headLength, decoded, collect
 use Rattle.session.proofs.Rules.{lengths-are, in-range-is}
 use Rattle.session.proofs.Readers as readers
 use Rattle.conduct.specs.Endings.{readLadder, after, deskAfter, Closes, Candidate, size, valid, Fails, ReadGives}
-use Rattle.conduct.proofs.Ladders as ladders
+use Rattle.terms.proofs.Ladders as ladders
 
 -- ---- a set, by its size: one of three
 pub data Sorted (k : Member) (high low n : ℕ) : Type 0 where

@@ -8,14 +8,12 @@
 use Prim.Native.Nat.{ℕ, zero, suc, _+_, _*_, _≤_, _<_}
 use mathlib.Core.Path.{_≡_, refl, sym, ap, ap₂, _∙_}
 use mathlib.Core.Bool.{Bool, true, false, cond}
-use mathlib.Core.List.{List, [], _∷_, _++_}
+use mathlib.Core.List.{List}
 use native.Mathlib.Omega.{arith}
 use borrow.Author.Tests.{lt-ltb}
-use lib.Dec.{lit<}
 use lib.ListN.{length, getD}
-use lib.Seq.{take-at, drop-at, take-all}
 use Rattle.octets.specs.Bytes.{part, put, num, Octets}
-use Rattle.octets.proofs.Laws.{length-part, part-part}
+use Rattle.octets.proofs.Laws.{length-part, part-part, slot-room, part-first, part-last}
 use Rattle.octets.proofs.Meaning.{getD-part}
 use Rattle.terms.specs.Terms.{planOk, recordLength}
 use Rattle.terms.specs.Stamp.{stampNumber}
@@ -24,39 +22,21 @@ use Rattle.terms.proofs.Facts.{facts}
 use Rattle.terms.proofs.Plans.{plan-is}
 use Rattle.terms.proofs.Stamps.{stamp-at-number}
 use Rattle.fragments.specs.Fragments.{All, Distinct, among, from, tabulate, eval, value, regenerated, Sources, laid}
-use Rattle.fragments.proofs.Lists.{getD-tabulate}
+use Rattle.fragments.proofs.Lists.{getD-tabulate, all-at}
 use Rattle.fragments.proofs.Interp.{all, all-map, Bytes, value-ext, only, newton, length-newton, bytes-newton, newton-at}
 use Rattle.fragments.proofs.Laws.{among-all, among-from, length-regenerated}
-use Rattle.fragments.proofs.Theorems.{coefficients}
+use Rattle.fragments.proofs.Theorems.{coefficients, octets-bytes, all-bytes}
 use Rattle.record.specs.Desk.{slotOf, fragmentIn}
 use Rattle.record.proofs.Records.{record-length, start-of, stamp-at}
 use Rattle.rounds.specs.declared.Lead.the-variants.{Node}
-use Rattle.rounds.proofs.Laws.{slot-room}
 use Rattle.recover.specs.Recover.{recordFrom}
-use Rattle.recover.proofs.Filled.{all-at, filled-record}
+use Rattle.recover.proofs.Filled.{filled-record}
 use Rattle.session.specs.declared.Session.{Session}
 use Rattle.session.specs.Reader.{headLength, lowest, decoded, collected, repaired, closed}
 use Rattle.session.proofs.Closings.{Led, led, lead-low, Lowest, lowest-are, heads-alike}
 use Rattle.conduct.specs.Repair.{Through, Holds}
 
--- ---- bytes, by index and one by one
-each-byte : (l : List ℕ) → Octets l → Bytes l
-each-byte [] h = tt
-each-byte (x ∷ l) h = (h 0, each-byte l (λ i. h (suc i)))
-
-byte-at : (l : List ℕ) → Bytes l → Octets l
-byte-at [] b i = lit< tt
-byte-at (x ∷ l) b zero = b .0
-byte-at (x ∷ l) b (suc i) = byte-at l (b .1) i
-
 -- ---- the two parts of a record
-module _ (x y : List ℕ) (h f : ℕ) (lx : length x ≡ h) (ly : length y ≡ f) where
-  head-part : part (x ++ y) 0 h ≡ x
-  head-part = unfold part in take-at x y h lx
-
-  tail-part : part (x ++ y) h f ≡ y
-  tail-part = unfold part in rw (drop-at x y h lx) (take-all f y (omega arith))
-
 part-start : (l : List ℕ) (h at n : ℕ) → at + n ≤ h → part l at n ≡ part (part l 0 h) at n
 part-start l h at n u = let z : at ≡ 0 + at = omega arith in ap (λ (y : ℕ). part l y n) z ∙ sym (part-part l 0 h at n u)
 
@@ -77,7 +57,7 @@ module _ (p : Plan) (qs d : List ℕ) (few : length qs ≡ p .m) (distinct : Dis
   through-there o =
       record {
         degree = omega (arith, length-newton qs held, few);
-        octets = byte-at (newton qs held) (bytes-newton qs held bytes);
+        octets = all-bytes (newton qs held) (bytes-newton qs held bytes);
         passes = newton-at qs held distinct points bytes;
       }
     where
@@ -87,7 +67,7 @@ module _ (p : Plan) (qs d : List ℕ) (few : length qs ≡ p .m) (distinct : Dis
   through-only : (cs : List ℕ) → Through p qs d i cs → (k : ℕ) → k < 256 → value qs held k ≡ eval cs k
   through-only cs t k h =
       value-ext qs held (eval cs) k (all-map (λ q e. sym e) qs (t .passes))
-      ∙ only qs cs k distinct points (each-byte cs (t .octets)) (omega (arith, t .degree, few)) h
+      ∙ only qs cs k distinct points (octets-bytes cs (t .octets)) (omega (arith, t .degree, few)) h
 
   pub through-one : p .m ≤ 255 → (cs ds : List ℕ) → Through p qs d i cs → Through p qs d i ds → (k : ℕ) → getD cs k 0 ≡ getD ds k 0
   through-one m cs ds t u k =
@@ -169,7 +149,7 @@ module _ (p : Plan) (s : Session) (d : List ℕ) (a : ℕ) (ok : planOk p ≡ tr
   head-is k h q at n w u =
       let x : List ℕ = part d (a * recordLength p) (headLength p) in
       let new : part (slotOf p full k) 0 (headLength p) ≡ x =
-      ap (λ (l : List ℕ). part l 0 (headLength p)) (repaired-record k h) ∙ head-part x (fragment-of k) (headLength p) (p .f) long-head (long-fragment k) in
+      ap (λ (l : List ℕ). part l 0 (headLength p)) (repaired-record k h) ∙ part-first x (fragment-of k) (headLength p) long-head in
       let old : part (slotOf p d q) 0 (headLength p) ≡ x = start-of p d (q * recordLength p) (headLength p) (omega (arith, record-length p)) ∙ w in
       part-start (slotOf p full k) (headLength p) at n u ∙ ap (λ (l : List ℕ). part l at n) (new ∙ sym old) ∙ sym (part-start (slotOf p d q) (headLength p) at n u)
 
@@ -177,7 +157,7 @@ module _ (p : Plan) (s : Session) (d : List ℕ) (a : ℕ) (ok : planOk p ≡ tr
   fragment-held : (k : ℕ) → k < p .n → fragmentIn p full k ≡ fragment-of k
   fragment-held k h =
       ap (λ (l : List ℕ). part l (headLength p) (p .f)) (repaired-record k h)
-      ∙ tail-part (part d (a * recordLength p) (headLength p)) (fragment-of k) (headLength p) (p .f) long-head (long-fragment k)
+      ∙ part-last (part d (a * recordLength p) (headLength p)) (fragment-of k) (headLength p) (p .f) long-head (long-fragment k)
 
   -- AFTER THE FILL EVERY SLOT k HOLDS the set's timestamp and cross checksum and fragment k of the polynomials through the m lowest, all from
   -- the desk as it was

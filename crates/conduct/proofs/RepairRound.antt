@@ -4,15 +4,15 @@
 --   repair-ends        whatever replies follow leave that desk, and the one that ends the read writes the item that the m lowest decode to
 -- Assumes nothing.
 use Prim.{tt}
-use Prim.Native.Nat.{ℕ, zero, suc, _+_, _*_, _≤_, _<_}
+use Prim.Native.Nat.{ℕ, _*_, _≤_, _<_}
 use mathlib.Core.Path.{_≡_, refl, sym, _∙_, subst}
 use mathlib.Core.Bool.{Bool, true, false, cond}
-use mathlib.Core.List.{List, [], _∷_, _++_}
+use mathlib.Core.List.{List, [], _∷_}
 use native.Mathlib.Omega.{arith}
-use lib.Dec.{ltb, lit<}
-use lib.ListN.{length, take, drop}
-use lib.Seq.{getD-drop}
+use lib.Dec.{ltb}
+use lib.ListN.{length}
 use Rattle.octets.specs.Bytes.{put, Octets}
+use Rattle.octets.proofs.Meaning.{octets-drop, octets-put}
 use Rattle.terms.specs.Terms.{planOk, recordLength}
 use Rattle.terms.specs.Stamp.{stampNumber}
 use Rattle.terms.specs.declared.Plan.{Plan}
@@ -31,7 +31,7 @@ use Rattle.session.specs.Reply.{bears, replyLadder, recordLadder}
 use Rattle.session.specs.Reader.{Outcome, outcome, decoded, collected, repaired, acted, closed, settled, stored, accepted, readReply, ReadReplyCall}
 use Rattle.session.proofs.Checks.{outcome-all}
 use Rattle.session.proofs.Closings.{led, sized, goes}
-use Rattle.session.proofs.ReadKept.{Hearing, hearing}
+use Rattle.session.proofs.ReadKept.{Hearing, hearing, not-asking}
 use Rattle.conduct.specs.Endings.{after, deskAfter}
 use Rattle.conduct.specs.Turns.{Turn, Turns}
 use Rattle.conduct.specs.Repair.{Holds, EachTurn, Rests}
@@ -43,25 +43,6 @@ never : {A : Type 0} → false ≡ true → A
 never z = absurd (clash (sym z))
 
 -- ---- bytes
-octets-append : (a b : List ℕ) → Octets a → Octets b → Octets (a ++ b)
-octets-append [] b h k i = k i
-octets-append (x ∷ a) b h k zero = h 0
-octets-append (x ∷ a) b h k (suc i) = octets-append a b (λ j. h (suc j)) k i
-
-octets-take : (n : ℕ) (l : List ℕ) → Octets l → Octets (take n l)
-octets-take zero l h i = lit< tt
-octets-take (suc n) [] h i = lit< tt
-octets-take (suc n) (x ∷ l) h zero = h 0
-octets-take (suc n) (x ∷ l) h (suc i) = octets-take n l (λ j. h (suc j)) i
-
-octets-drop : (n : ℕ) (l : List ℕ) → Octets l → Octets (drop n l)
-octets-drop n l h i = rw getD-drop (h (n + i))
-
-octets-put : (l : List ℕ) (at : ℕ) (s : List ℕ) → Octets l → Octets s → Octets (put l at s)
-unfolding put
-octets-put l at s h k =
-    octets-append (take at l) (s ++ drop (at + length s) l) (octets-take at l h) (octets-append s (drop (at + length s) l) k (octets-drop (at + length s) l h))
-
 octets-after : (p : Plan) (d f : List ℕ) → Octets d → Octets f → Octets (deskAfter p f d)
 octets-after p d f h k = go (bears p f)
   where
@@ -181,9 +162,4 @@ pub repair-ends : (p : Plan) (s : Session) (f d i : List ℕ) → isStoring (s .
     → isStoring (t .session .stage) ≡ true → (ts : List Turn) → Turns p (t .session) d₂ ts
     → EachTurn (Rests p (closed p (after p s f) (deskAfter p f d)) (deskAfter p f d) d₂) ts
 repair-ends p s f d i asks t d₂ i₂ call opens ts h =
-    rests p (after p s f) (deskAfter p f d) d₂ (refills p s f d i asks t d₂ i₂ call opens) (t .session) ts (past (t .session .stage) opens) h
-  where
-    past : (x : Stage) → isStoring x ≡ true → isAsking x ≡ false
-    past Asking e = sym e
-    past Storing e = refl
-    past Ended e = refl
+    rests p (after p s f) (deskAfter p f d) d₂ (refills p s f d i asks t d₂ i₂ call opens) (t .session) ts (not-asking (t .session .stage) opens) h

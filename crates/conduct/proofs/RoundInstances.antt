@@ -3,7 +3,7 @@
 -- orders. Assumes nothing.
 use Prim.{tt}
 use mathlib.Core.Path.{_≡_, refl, ap, _∙_}
-use mathlib.Core.Bool.{Bool, true, false, cond, not}
+use mathlib.Core.Bool.{Bool, true, false, not}
 use mathlib.Core.List.{List, [], _∷_, _++_, append-assoc}
 use Prim.Native.Nat.{ℕ, _-_, _*_, _≤_, _<_}
 use native.Mathlib.Omega.{arith}
@@ -11,7 +11,7 @@ use borrow.Author.Tests.{eq-eqb, ne-eqb}
 use lib.ListN.{length, replicate, length-replicate, getD-replicate}
 use lib.Dec.{eqb}
 use Rattle.octets.specs.Bytes.{part, num, numFrom, be, beOnto}
-use Rattle.octets.proofs.Laws.{length-be, length-part, part-middle}
+use Rattle.octets.proofs.Laws.{length-be, length-part, part-middle, slot-room}
 use Rattle.octets.proofs.Meaning.{num-be}
 use Rattle.sha256.specs.Sha256.{sha256}
 use Rattle.terms.specs.Ladder.{first, all, _and_}
@@ -21,6 +21,7 @@ use Rattle.terms.specs.declared.Plan.{Plan}
 use Rattle.terms.specs.declared.Ask.{Ask}
 use Rattle.terms.specs.declared.Member.the-variants.{Repairable}
 use Rattle.terms.specs.declared.Clients.the-variants.{Byzantine}
+use Rattle.terms.proofs.Picks.{neither}
 use Rattle.fragments.specs.Fragments.{fragment}
 use Rattle.frame.specs.Frame.{kindOf, frameNode, askOf, bodyOf, frame, goodReply, bodyFits, forParty, oneOf}
 use Rattle.frame.specs.declared.Party.the-variants.{Client}
@@ -31,7 +32,6 @@ use Rattle.record.specs.Desk.{slotOf}
 use Rattle.rounds.specs.declared.Bound.the-variants.{Free}
 use Rattle.rounds.specs.declared.Mark.{Mark}
 use Rattle.rounds.specs.Rounds.{bitOf, unheard, underOf}
-use Rattle.rounds.proofs.Laws.{slot-room}
 use Rattle.session.specs.declared.Session.{Session}
 use Rattle.session.specs.declared.Operation.the-variants.{Read}
 use Rattle.session.specs.declared.opening.Opened.{Opened}
@@ -183,11 +183,7 @@ first-none = accepted-so 0 [] (omega arith) fits-none (omega arith) false refl r
 then-one : Acceptable plan session desk item (reply 1 record-one)
 then-one =
     accepted-so 1 record-one (omega arith) fits-one (omega (arith, length-one)) (bears plan (reply 1 record-one)) refl
-    (rw timed-one (side (bears plan (reply 1 record-one)))) (rw hashed-one (side (bears plan (reply 1 record-one))))
-  where
-    side : (t : Bool) → cond t false false ≡ false
-    side true = refl
-    side false = refl
+    (rw timed-one (neither (bears plan (reply 1 record-one)))) (rw hashed-one (neither (bears plan (reply 1 record-one))))
 
 -- ---- the two replies, in both orders
 pub replies : List (List ℕ)

@@ -2,12 +2,12 @@
 -- (fits-later, fits-before), and a session and a desk that are in their ranges while the round is open (next). Assumes nothing.
 use mathlib.Core.Path.{_≡_, refl, sym, ap, _∙_}
 use mathlib.Core.Bool.{Bool, true, false, cond}
-use mathlib.Core.List.{List, [], _∷_}
-use Prim.Native.Nat.{ℕ, zero, suc, _+_, _*_, _<_}
+use mathlib.Core.List.{List}
+use Prim.Native.Nat.{ℕ, _+_, _*_, _<_}
 use native.Mathlib.Omega.{arith}
-use borrow.Author.Tests.{not-false, eqb-false}
+use borrow.Author.Tests.{not-false}
 use lib.Dec.{ltb, eqb}
-use lib.ListN.{length, set, length-set}
+use lib.ListN.{length, length-set}
 use lib.Seq.{getD-set-same, getD-set-other}
 use Rattle.terms.specs.Terms.{recordLength}
 use Rattle.terms.specs.Stamp.{stamp}
@@ -19,7 +19,7 @@ use Rattle.rounds.specs.declared.Heard.{Heard}
 use Rattle.rounds.specs.declared.Heard.the-variants.{First, Record}
 use Rattle.rounds.specs.declared.Mark.{Mark}
 use Rattle.rounds.specs.Rounds.{heardCount, bitOf, markOf, unheard, underOf, slotsFit}
-use Rattle.rounds.proofs.Laws.{bit-small}
+use Rattle.rounds.proofs.Laws.{count-set, not-heard}
 use Rattle.session.specs.declared.Session.{Session}
 use Rattle.session.specs.Session.{replies, askNow, kindAwaited, markedOf}
 use Rattle.session.specs.Reply.{lengthsOk, awaited, isHeard, bears}
@@ -27,24 +27,10 @@ use Rattle.session.proofs.Rules.{lengths-are}
 use Rattle.session.proofs.Made.{rest-set}
 use Rattle.session.proofs.Slots.{slots-after}
 use Rattle.conduct.specs.Endings.{heardAs, after, deskAfter}
-use Rattle.conduct.proofs.Order.{strict}
 use Rattle.conduct.proofs.RoundOrder.{length-after}
 use Rattle.conduct.proofs.RoundReply.{Fits, Ready, Taken}
 
 -- ---- marks
-bit-unheard : (s : Session) (k : ℕ) → isHeard s k ≡ false → bitOf (markOf (s .marks) k) ≡ 0
-unfolding isHeard
-bit-unheard s k e =
-    let b : ℕ = bitOf (markOf (s .marks) k) in
-    let h : b < 1 = strict b 1 (bit-small (markOf (s .marks) k)) (eqb-false b 1 e) in
-    omega arith
-
-count-set : (ms : List Mark) (k : ℕ) (m : Mark) → k < length ms → bitOf (markOf ms k) ≡ 0 → bitOf (m .is) ≡ 1 → heardCount (set ms k m) ≡ heardCount ms + 1
-unfolding heardCount
-count-set [] k m h e g = absurd (omega arith)
-count-set (x ∷ ms) zero m h e g = omega arith
-count-set (x ∷ ms) (suc k) m h e g = let z = count-set ms k m (omega arith) e g in omega arith
-
 bit-mark : (p : Plan) (f : List ℕ) → bitOf (heardAs p f) ≡ 1
 bit-mark p f = go (bears p f)
   where
@@ -54,7 +40,9 @@ bit-mark p f = go (bears p f)
 
 module _ (p : Plan) (s : Session) (f : List ℕ) (l : length (s .marks) ≡ 16) (h : frameNode f < 16) where
   pub count-marked : isHeard s (frameNode f) ≡ false → heardCount (after p s f .marks) ≡ heardCount (s .marks) + 1
-  count-marked e = count-set (s .marks) (frameNode f) (record { is = heardAs p f }) (omega arith) (bit-unheard s (frameNode f) e) (bit-mark p f)
+  unfolding isHeard
+  count-marked e =
+      count-set (s .marks) (frameNode f) (record { is = heardAs p f }) (omega arith) (not-heard (markOf (s .marks) (frameNode f)) e) (bit-mark p f) ∙ omega arith
 
   pub length-marked : length (after p s f .marks) ≡ 16
   length-marked = length-set (s .marks) (frameNode f) (record { is = heardAs p f }) ∙ l

@@ -10,11 +10,10 @@ use lib.Dec.{ltb}
 use lib.ListN.{length, take, drop, take-append-drop}
 use lib.Seq.{set-comm, length-take-le, take-append-seam, drop-append-add}
 use Rattle.octets.specs.Bytes.{put}
-use Rattle.octets.proofs.Laws.{put-left, length-put}
+use Rattle.octets.proofs.Laws.{put-left, length-put, slot-room}
 use Rattle.terms.specs.Terms.{recordLength}
 use Rattle.terms.specs.declared.Plan.{Plan}
 use Rattle.frame.specs.Frame.{frameNode, bodyOf}
-use Rattle.rounds.proofs.Laws.{slot-room}
 use Rattle.session.specs.declared.Session.{Session}
 use Rattle.session.specs.Reply.{bears}
 use Rattle.session.proofs.Slots.{long-body, long-after}

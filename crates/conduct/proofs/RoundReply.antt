@@ -22,11 +22,12 @@ use Rattle.session.specs.Session.{isRead, isAsking, isStoring, isEnded, readRou
 use Rattle.session.specs.Ranges.{inRange}
 use Rattle.session.specs.Reply.{lengthsOk, awaited, isHeard, bears, recordLadder}
 use Rattle.session.specs.Reader.{Outcome, outcome, closed, settled, accepted, readReply}
-use Rattle.session.proofs.Made.{StandingIs, OpenIs, in-range-facts, open-in-range}
+use Rattle.session.proofs.Made.{OpenIs, in-range-facts, open-in-range}
 use Rattle.conduct.specs.Endings.{readLadder, after, deskAfter}
 use Rattle.conduct.specs.Round.{Acceptable}
-use Rattle.conduct.proofs.Ladders as ladders
+use Rattle.terms.proofs.Ladders as ladders
 use Rattle.session.proofs.Closings as shapes
+use Rattle.session.proofs.Rules.{StandingIs}
 use Rattle.conduct.proofs.Reading as reading
 
 -- ---- what it is to be accepted

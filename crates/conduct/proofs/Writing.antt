@@ -9,7 +9,7 @@ use borrow.Author.Tests.{ltb-true, ltb-false, lt-ltb, le-ltb, eqb-true, eqb-fals
 use lib.Dec.{ltb, eqb}
 use lib.ListN.{length}
 use Rattle.terms.specs.Ladder.{first}
-use Rattle.terms.specs.Stamp.{time, stampNumber}
+use Rattle.terms.specs.Stamp.{time, stampNumber, top}
 use Rattle.terms.specs.declared.Plan.{Plan}
 use Rattle.terms.proofs.Rungs.{None}
 use Rattle.frame.specs.Frame.{frameNode, bodyOf}
@@ -19,7 +19,7 @@ use Rattle.session.specs.declared.Session.{Session}
 use Rattle.session.specs.Session.{isStoring, replies, markedOf, endedOf, storingOf, Said, refused, stillOpen, done, neverWritten, aborted, roundsSpent, clockSpent}
 use Rattle.session.specs.Writer.{timedOf, newTime, stampFor, recordsFor, Leaves, leaves, timeEnd, timeTurn, writeTurn, acceptedWrite, writeReply}
 use Rattle.conduct.specs.Endings.{writeLadder, WriteGives}
-use Rattle.conduct.proofs.Ladders as ladders
+use Rattle.terms.proofs.Ladders as ladders
 
 module _ (p : Plan) (s : Session) (f d i : List ℕ) where
   abbrev refuse : ℕ → Leaves
@@ -56,17 +56,17 @@ module _ (p : Plan) (s : Session) (f d i : List ℕ) where
       waits-time h = is-accepted ∙ rw (q, lt-ltb (heardCount (asked .marks)) (replies p) h)
 
       module _ (h : replies p ≤ heardCount (asked .marks)) where
-        pub spends-clock : asked .greatest .0 ≡ 18446744073709551615 → writeReply p s f d i ≡ leaves clockSpent (endedOf asked) d
+        pub spends-clock : asked .greatest .0 ≡ top → writeReply p s f d i ≡ leaves clockSpent (endedOf asked) d
         unfolding acceptedWrite timeTurn timeEnd
         spends-clock g =
-            is-accepted ∙ rw (q, le-ltb (heardCount (asked .marks)) (replies p) h, eq-eqb (asked .greatest .0) 18446744073709551615 g)
+            is-accepted ∙ rw (q, le-ltb (heardCount (asked .marks)) (replies p) h, eq-eqb (asked .greatest .0) top g)
 
-        pub opens-write : (asked .greatest .0 ≡ 18446744073709551615 → ⊥)
+        pub opens-write : (asked .greatest .0 ≡ top → ⊥)
             → writeReply p s f d i
             ≡ leaves stillOpen (storingOf asked (stampFor p (newTime (asked .greatest .0)) i)) (recordsFor p (newTime (asked .greatest .0)) i)
         unfolding acceptedWrite timeTurn timeEnd
         opens-write g =
-            is-accepted ∙ rw (q, le-ltb (heardCount (asked .marks)) (replies p) h, ne-eqb (asked .greatest .0) 18446744073709551615 g)
+            is-accepted ∙ rw (q, le-ltb (heardCount (asked .marks)) (replies p) h, ne-eqb (asked .greatest .0) top g)
 
     -- ---- it gives one of the answers, with its condition
     abbrev Gives : Leaves → Type 0
@@ -82,18 +82,18 @@ module _ (p : Plan) (s : Session) (f d i : List ℕ) where
             let z = ltb-false _ _ h in
             subst Gives (sym (ends-write q z)) (record { accepted = n; stores = q; enough = rw q z; of = refl; counted = refl })
 
-        clock : isStoring (s .stage) ≡ false → replies p ≤ heardCount (asked .marks) → (x : Bool) → eqb (asked .greatest .0) 18446744073709551615 ≡ x
+        clock : isStoring (s .stage) ≡ false → replies p ≤ heardCount (asked .marks) → (x : Bool) → eqb (asked .greatest .0) top ≡ x
             → Gives (writeReply p s f d i)
         clock q h true g =
-            let z = eqb-true (asked .greatest .0) 18446744073709551615 g in
+            let z = eqb-true (asked .greatest .0) top g in
             subst Gives (sym (spends-clock q h z)) (record { accepted = n; asks = q; enough = rw q h; spent = rw q z })
         clock q h false g =
-            let z = eqb-false (asked .greatest .0) 18446744073709551615 g in
+            let z = eqb-false (asked .greatest .0) top g in
             subst Gives (sym (opens-write q h z)) (record { accepted = n; goes = inr (q, rw q z) })
 
         asks : isStoring (s .stage) ≡ false → (x : Bool) → ltb (heardCount (asked .marks)) (replies p) ≡ x → Gives (writeReply p s f d i)
         asks q true h = let z = ltb-true _ _ h in subst Gives (sym (waits-time q z)) (record { accepted = n; goes = inl (rw q z) })
-        asks q false h = clock q (ltb-false _ _ h) (eqb (asked .greatest .0) 18446744073709551615) refl
+        asks q false h = clock q (ltb-false _ _ h) (eqb (asked .greatest .0) top) refl
 
         go : (x : Bool) → isStoring (s .stage) ≡ x → Gives (writeReply p s f d i)
         go true q = stores q (ltb (heardCount (kept .marks)) (replies p)) refl
@@ -116,7 +116,7 @@ module _ (p : Plan) (s : Session) (f d i : List ℕ) where
       n = g .accepted
 
       go : (x : Bool) → isStoring (s .stage) ≡ x → (y : Bool) → ltb (heardCount (asked .marks)) (replies p) ≡ y
-          → (heardCount (cond x kept asked .marks) < replies p) ⊎ ((x ≡ false) × (cond x kept asked .greatest .0 ≡ 18446744073709551615 → ⊥))
+          → (heardCount (cond x kept asked .marks) < replies p) ⊎ ((x ≡ false) × (cond x kept asked .greatest .0 ≡ top → ⊥))
           → writeReply p s f d i .said ≡ stillOpen
       go true q y k (inl h) = ap (λ (o : Leaves). o .said) (waits-write n q h)
       go true q y k (inr h) = absurd (let z : _≡_ {A = ℕ} 0 1 = let w = h .0 in cc in omega arith)
@@ -133,5 +133,5 @@ module _ (p : Plan) (s : Session) (f d i : List ℕ) where
   so-gives clockSpent g =
       let q = g .asks in
       let h : replies p ≤ heardCount (asked .marks) = rw q at (g .enough) in
-      let z : asked .greatest .0 ≡ 18446744073709551615 = rw q at (g .spent) in
+      let z : asked .greatest .0 ≡ top = rw q at (g .spent) in
       ap (λ (o : Leaves). o .said) (spends-clock (g .accepted) q h z)

@@ -17,7 +17,7 @@ use mathlib.Core.Logic.{_⊎_}
 use lib.ListN.{length}
 use Rattle.octets.specs.Bytes.{put}
 use Rattle.terms.specs.Ladder.{Rung}
-use Rattle.terms.specs.Stamp.{time, stampNumber}
+use Rattle.terms.specs.Stamp.{time, stampNumber, top}
 use Rattle.terms.specs.Terms.{recordLength, complete, incomplete}
 use Rattle.terms.specs.declared.Plan.{Plan}
 use Rattle.terms.specs.declared.Member.the-variants.{Repairable, NonRepair}
@@ -175,13 +175,13 @@ pub record WriteClock (p : Plan) (s : Session) (f d : List ℕ) (item : ℕ) : T
   pub accepted : None (writeLadder p s f d item)
   pub asks : isStoring (s .stage) ≡ false
   pub enough : replies p ≤ heardCount (wrote s f .marks)
-  pub spent : wrote s f .greatest .0 ≡ 18446744073709551615
+  pub spent : wrote s f .greatest .0 ≡ top
 
 -- the round is not full, or the time round has ended and the write round opens
 pub record WriteOpen (p : Plan) (s : Session) (f d : List ℕ) (item : ℕ) : Type 0 where
   pub accepted : None (writeLadder p s f d item)
   pub goes : (heardCount (wrote s f .marks) < replies p)
-      ⊎ ((isStoring (s .stage) ≡ false) × (wrote s f .greatest .0 ≡ 18446744073709551615 → ⊥))
+      ⊎ ((isStoring (s .stage) ≡ false) × (wrote s f .greatest .0 ≡ top → ⊥))
 
 abbrev pub WriteGives : Plan → Session → List ℕ → List ℕ → ℕ → Said → Type 0
 WriteGives p s f d item (refused k) = Given (writeLadder p s f d item) k

@@ -39,7 +39,7 @@ use Rattle.session.specs.Reader.{ReadReplyCall, Outcome, outcome, accepted, sto
 use Rattle.session.specs.Writer.{WriteReplyCall, Leaves, leaves, acceptedWrite}
 use Rattle.session.proofs.Closings.{pick}
 use Rattle.conduct.specs.Endings.{readLadder, writeLadder, after, deskAfter}
-use Rattle.conduct.proofs.Ladders as ladders
+use Rattle.terms.proofs.Ladders as ladders
 use Rattle.conduct.proofs.Reading as reading
 use Rattle.conduct.proofs.Writing as writing
 use Rattle.conduct.proofs.RoundReply.{settled-taken}

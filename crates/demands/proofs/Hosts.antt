@@ -18,7 +18,7 @@ use Rattle.rounds.specs.declared.Bound.the-variants.{Free}
 use Rattle.rounds.specs.declared.Heard.the-variants.{Record}
 use Rattle.rounds.specs.Rounds.{heardCount}
 use Rattle.frame.specs.Frame.{frameNode, bodyOf}
-use Rattle.terms.specs.Stamp.{time}
+use Rattle.terms.specs.Stamp.{time, top}
 use Rattle.node.specs.Fresh.{FreshOutcome, freshLadder, freshened}
 use Rattle.node.specs.Node as node
 use Rattle.node.specs.Node.{nodeLadder, served, answered, sends}
@@ -164,7 +164,7 @@ write-taken p s f d i =
     let timed = timedOf s (frameNode f) (time (bodyOf f)) in
     either Taken (isStoring (s .stage))
     (either Taken (ltb (heardCount (markedOf s (frameNode f) Record .marks)) (replies p)) refl refl)
-    (either Taken (ltb (heardCount (timed .marks)) (replies p)) refl (either Taken (eqb (timed .greatest .0) 18446744073709551615) refl refl))
+    (either Taken (ltb (heardCount (timed .marks)) (replies p)) refl (either Taken (eqb (timed .greatest .0) top) refl refl))
   where
     Taken : Leaves → Type 0
     Taken o = isRefused (o .said) ≡ false

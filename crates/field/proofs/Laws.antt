@@ -1,8 +1,8 @@
 -- The laws of the field. Assumes nothing.
 use mathlib.Core.Path.{_≡_, refl, sym, ap, ap₂, _∙_}
 use mathlib.Core.Bool.{Bool}
-use Prim.Native.Nat.{ℕ, zero, suc, _+_, _-_, _*_, _/_, _%_, _<_}
-use native.Mathlib.Nat.{mod-lt, mod-eq-of-lt}
+use Prim.Native.Nat.{ℕ, zero, suc, _+_, _*_, _/_, _%_, _<_}
+use native.Mathlib.Nat.{mod-lt, mod-eq-of-lt, mul-zero, mul-one}
 use native.Mathlib.Omega.{arith}
 use lib.Dec.{T, eqb, eqb→eq, lit<}
 use lib.Bits.{bitXor, xor-shr, xor-mod, xor-lt, xor-block}
@@ -41,14 +41,8 @@ xtime-lt a = xor-lt 8 (a * 2 % 256) (27 * (a / 128 % 2)) (mod-lt (a * 2) (lit< t
 bit-of : (f : ℕ → ℕ) → f 0 ≡ 0 → (a x : ℕ) → x < 2 → f (a * x) ≡ f a * x
 bit-of f z a x h =
     two-cases (λ x. f (a * x) ≡ f a * x)
-    (ap f (zeroed a) ∙ z ∙ sym (zeroed (f a)))
-    (ap f (one a) ∙ sym (one (f a))) x h
-  where
-    zeroed : (n : ℕ) → n * 0 ≡ 0
-    zeroed n = omega arith
-
-    one : (n : ℕ) → n * 1 ≡ n
-    one n = omega arith
+    (ap f (mul-zero a) ∙ z ∙ sym (mul-zero (f a)))
+    (ap f (mul-one a) ∙ sym (mul-one (f a))) x h
 
 -- ---- the product, in its first factor
 pub mulN-plus : (n a b c : ℕ) → mulN n (bitXor a b) c ≡ bitXor (mulN n a c) (mulN n b c)

@@ -1,7 +1,7 @@
 -- Laws of the exclusive or that lib.Bits lacks. Assumes nothing.
 use mathlib.Core.Path.{_≡_, refl, sym, ap, ap₂, _∙_}
-use Prim.Native.Nat.{ℕ, zero, suc, _+_, _-_, _*_, _/_, _%_, _<_}
-use native.Mathlib.Nat.{mod-lt}
+use Prim.Native.Nat.{ℕ, zero, suc, _+_, _*_, _/_, _%_, _<_}
+use native.Mathlib.Nat.{mod-lt, mul-zero, mul-one}
 use native.Mathlib.Omega.{arith}
 use lib.Arith.{bin-ind, digits-mod}
 use lib.Bits.{bitXor, differ, xor-step, xor-zero-l, xor-zero-r, xor-comm, xor-self, xor-shr}
@@ -71,9 +71,3 @@ times-bit a b x h =
     (mul-zero (bitXor a b) ∙ sym (ap₂ bitXor (mul-zero a) (mul-zero b)))
     (mul-one (bitXor a b) ∙ sym (ap₂ bitXor (mul-one a) (mul-one b)))
     x h
-  where
-    mul-zero : (n : ℕ) → n * 0 ≡ 0
-    mul-zero n = omega arith
-
-    mul-one : (n : ℕ) → n * 1 ≡ n
-    mul-one n = omega arith

@@ -4,10 +4,6 @@
 use Prim.Native.Nat.{ℕ, zero, suc, _*_, _/_, _%_}
 use lib.Bits.{bitXor}
 
--- the sum
-abbrev pub plus : ℕ → ℕ → ℕ
-plus a b = bitXor a b
-
 -- {02} times a: a shifted left by one, and {1b} added where bit 7 was set
 unfoldable pub xtime : ℕ → ℕ
 xtime a = bitXor (a * 2 % 256) (27 * (a / 128 % 2))

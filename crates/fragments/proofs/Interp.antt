@@ -51,9 +51,6 @@ plus-pos a b ne = pos (bitXor a b) (λ e. ne (xor-eq a b e))
     pos zero h = absurd (h refl)
     pos (suc n) h = suc-le-suc zero-le
 
-xor-twice : (a b : ℕ) → bitXor (bitXor a b) b ≡ a
-xor-twice a b = xor-assoc a b b ∙ ap (bitXor a) (xor-self b) ∙ xor-zero-r a
-
 -- ---- ratios and weights
 eqb-no : (p q : ℕ) → (p ≡ q → ⊥) → eqb p q ≡ false
 eqb-no p q ne = go (eqb p q) refl

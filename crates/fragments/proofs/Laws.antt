@@ -3,7 +3,7 @@ use mathlib.Core.Path.{_≡_, refl, sym, ap, ap₂, _∙_}
 use mathlib.Core.Bool.{Bool, true, false, cond}
 use mathlib.Core.List.{List, [], _∷_, _++_}
 use Prim.Native.Nat.{ℕ, zero, suc, _+_, _-_, _*_, _≤_, _<_}
-use native.Mathlib.Nat.{suc-mul, mul-le-mul-right, le-of-suc-le-suc, not-suc-le-zero, add-zero, add-suc, suc-add}
+use native.Mathlib.Nat.{le-of-suc-le-suc, not-suc-le-zero, add-zero, add-suc, suc-add}
 use native.Mathlib.Decide.{ℕ-discrete}
 use native.Mathlib.Numerals.{add-one}
 use native.Mathlib.Omega.{arith}
@@ -12,9 +12,9 @@ use lib.Dec.{eqb, ltb}
 use lib.ListN.{length, getD, take, drop, drop-of-length-le, length-drop}
 use lib.Seq.{drop-cons, drop-drop, length-take-le}
 use Rattle.octets.specs.Bytes.{part, put}
-use Rattle.octets.proofs.Laws.{length-part, put-is}
-use Rattle.fragments.specs.Fragments.{among, from, value, tabulate, fragment, regenerated, Sources, laid, encoded}
-use Rattle.fragments.proofs.Lists.{length-tabulate, tabulate-ext}
+use Rattle.octets.proofs.Laws.{length-part, put-is, slot-fits}
+use Rattle.fragments.specs.Fragments.{among, from, value, tabulate, fragment, regenerated, Sources, laid, encoded, All}
+use Rattle.fragments.proofs.Lists.{length-tabulate, tabulate-ext, all-at}
 use Rattle.fragments.proofs.Interp.{all, value-ext}
 
 -- ---- among: what is left to look at
@@ -39,6 +39,9 @@ among-all P x (q ∷ qs) h t = go (eqb q x) refl t (λ u. among-all P x qs (λ k
     go : (b : Bool) → eqb q x ≡ b → cond b true (among x qs) ≡ true → (among x qs ≡ true → P x) → P x
     go true e u more = let f : q ≡ x = eqb-true q x e in rw (← f) (h 0 (omega arith))
     go false e u more = more u
+
+pub all-among : (P : ℕ → Type 0) (x : ℕ) (qs : List ℕ) → All P qs → among x qs ≡ true → P x
+all-among P x qs h t = among-all P x qs (all-at P qs h) t
 
 -- a source that is asked for lies within the buffer
 pub source-fits : (src : List ℕ) (first stride F : ℕ) (qs : List ℕ) (x : ℕ) (r : Bool) → Sources src first stride F qs → r ≡ among x qs → r ≡ true
@@ -77,10 +80,6 @@ pub laid-more : (src : List ℕ) (first stride F : ℕ) (qs : List ℕ) (start s
     → new ≡ laid src first stride F qs start step (k + 1) out₀
 unfolding laid
 laid-more src first stride F qs start step k out₀ out new e r = r ∙ rw (e, add-one)
-
--- run k of m runs of f lies within m * f
-pub run-fits : (m f k : ℕ) → k < m → k * f + f ≤ m * f
-run-fits m f k h = rw (← suc-mul k f) (mul-le-mul-right f h)
 
 -- the part &l[at .. at + f]
 pub part-length : (at f : ℕ) (l : List ℕ) → at + f ≤ length l → length (take (at + f - at) (drop at l)) ≡ f
@@ -172,7 +171,7 @@ points-within src first stride F m h fit = rw (points-are m h) within
         rw e (fit k hk)
 
 pub runs-within : (m F : ℕ) (item : List ℕ) → m ≤ 16 → length item ≡ m * F → Sources item 0 F F (take m points)
-runs-within m F item h l = points-within item 0 F F m h (λ k hk. omega (arith, run-fits m F k hk))
+runs-within m F item h l = points-within item 0 F F m h (λ k hk. omega (arith, slot-fits k m F hk))
 
 pub points-encode : (m F : ℕ) (item : List ℕ) (first stride n : ℕ) (desk : List ℕ) → m ≤ 16
     → laid item 0 F F (take m points) first stride n desk ≡ encoded m F item first stride n desk

@@ -1,12 +1,12 @@
--- A list given by its elements. Assumes nothing.
+-- A list given by its elements, and what holds of all of them. Assumes nothing.
 use mathlib.Core.Path.{_≡_, refl, sym, ap, ap₂, _∙_}
-use mathlib.Core.List.{List, _∷_}
+use mathlib.Core.List.{List, _∷_, []}
 use Prim.Native.Nat.{ℕ, zero, suc, _<_, suc-le-suc, zero-le}
 use native.Mathlib.Nat.{not-suc-le-zero, le-of-suc-le-suc}
 use native.Mathlib.Omega.{arith}
-use lib.ListN.{length, getD}
+use lib.ListN.{length, getD, take}
 use lib.Seq.{ext-getD}
-use Rattle.fragments.specs.Fragments.{tabulate}
+use Rattle.fragments.specs.Fragments.{tabulate, All}
 
 pub length-tabulate : (n : ℕ) (f : ℕ → ℕ) → length (tabulate n f) ≡ n
 unfolding tabulate
@@ -29,3 +29,14 @@ pub to-tabulate : (xs : List ℕ) (n : ℕ) (f : ℕ → ℕ) → length xs ≡ 
 to-tabulate xs n f l e =
     ext-getD 0 xs (tabulate n f) (l ∙ sym (length-tabulate n f))
     (λ i h. e i (omega arith) ∙ sym (getD-tabulate n f i (omega arith)))
+
+-- ---- what holds of every element of a list: of its start, and of the one at an index
+pub all-take : (P : ℕ → Type 0) (n : ℕ) (l : List ℕ) → All P l → All P (take n l)
+all-take P zero l h = tt
+all-take P (suc n) [] h = tt
+all-take P (suc n) (x ∷ l) h = (h .0, all-take P n l (h .1))
+
+pub all-at : (P : ℕ → Type 0) (l : List ℕ) → All P l → (k : ℕ) → k < length l → P (getD l k 0)
+all-at P [] h k u = absurd (omega arith)
+all-at P (x ∷ l) h zero u = h .0
+all-at P (x ∷ l) h (suc k) u = all-at P l (h .1) k (omega arith)

@@ -4,13 +4,13 @@
 use mathlib.Core.Path.{_≡_, refl, sym, ap, ap₂, _∙_, subst}
 use mathlib.Core.Bool.{Bool, true, false, cond}
 use mathlib.Core.List.{List, [], _∷_, _++_, append-nil, append-assoc}
-use Prim.Native.Nat.{ℕ, zero, suc, _+_, _-_, _*_, _≤_, _<_}
+use Prim.Native.Nat.{ℕ, zero, suc, _+_, _*_, _≤_, _<_}
 use native.Mathlib.Nat.{not-suc-le-zero, le-of-suc-le-suc, add-zero, add-suc, suc-add, suc-mul, zero-mul}
 use native.Mathlib.Decide.{ℕ-discrete}
 use native.Mathlib.Omega.{arith}
-use borrow.Author.Tests.{lt-ltb, ltb-true, eqb-true}
+use borrow.Author.Tests.{lt-ltb, ltb-true}
 use lib.Bits.{bitXor, xor-zero-r}
-use lib.Dec.{eqb, ltb, lit<}
+use lib.Dec.{ltb, lit<}
 use lib.ListN.{length, getD, take, drop, drop-of-length-le, length-drop}
 use lib.Seq.{take-all, take-add, getD-drop, drop-append-add, drop-drop, take-at, length-take-le}
 use Rattle.field.specs.Field.{mul, div}
@@ -18,12 +18,12 @@ use Rattle.field.proofs.Xor.{xor-cancel}
 use Rattle.field.proofs.Laws.{mul-zero-f, zero-mul as zero-mul-f}
 use Rattle.field.proofs.Inverse.{div-mul}
 use Rattle.octets.specs.Bytes.{part, put, Octets}
-use Rattle.octets.proofs.Laws.{length-part, length-put, part-put-same, part-put-before, put-is}
-use Rattle.octets.proofs.Meaning.{getD-part}
+use Rattle.octets.proofs.Laws.{length-part, length-put, part-put-same, part-put-before, put-is, slot-fits}
+use Rattle.octets.proofs.Meaning.{getD-part, octets-drop}
 use Rattle.fragments.specs.Fragments.{All, Distinct, among, from, tabulate, eval, Column, value, fragment, regenerated, laid, encoded}
 use Rattle.fragments.proofs.Lists.{tabulate-ext, to-tabulate, getD-tabulate, length-tabulate}
 use Rattle.fragments.proofs.Interp.{all, all-map, Bytes, eval-lt, value-ext, only, again, newton, length-newton, bytes-newton, newton-at}
-use Rattle.fragments.proofs.Laws.{length-from, run-fits}
+use Rattle.fragments.proofs.Laws.{length-from, all-among}
 
 -- ---- the points 0 to m - 1
 all-from : {P : ℕ → Type 0} (a n : ℕ) → ((k : ℕ) → a ≤ k → k < a + n → P k) → All P (from a n)
@@ -45,22 +45,12 @@ distinct-from a (suc n) = (all-from (suc a) n (λ k l u e. omega arith), distinc
 bytes-from : (n : ℕ) → n ≤ 256 → Bytes (from 0 n)
 bytes-from n h = all-from 0 n (λ k l u. omega arith)
 
--- what holds of all holds of one among them
-all-among : (P : ℕ → Type 0) (x : ℕ) (qs : List ℕ) → All P qs → among x qs ≡ true → P x
-unfolding among
-all-among P x [] h t = let z : _≡_ {A = ℕ} 0 1 = cc in absurd (omega arith)
-all-among P x (q ∷ qs) h t = go (eqb q x) refl t (all-among P x qs (h .1))
-  where
-    go : (b : Bool) → eqb q x ≡ b → cond b true (among x qs) ≡ true → (among x qs ≡ true → P x) → P x
-    go true e u more = let f : q ≡ x = eqb-true q x e in subst P f (h .0)
-    go false e u more = more u
-
 -- every element a byte, by index and one by one
-octets-bytes : (l : List ℕ) → Octets l → Bytes l
+pub octets-bytes : (l : List ℕ) → Octets l → Bytes l
 octets-bytes [] h = tt
 octets-bytes (x ∷ l) h = (h 0, octets-bytes l (λ i. h (suc i)))
 
-all-bytes : (l : List ℕ) → Bytes l → Octets l
+pub all-bytes : (l : List ℕ) → Bytes l → Octets l
 all-bytes [] b i = lit< tt
 all-bytes (x ∷ l) b zero = b .0
 all-bytes (x ∷ l) b (suc i) = all-bytes l (b .1) i
@@ -84,17 +74,14 @@ agree : (ps cs ds : List ℕ) (x : ℕ) → Distinct ps → Bytes ps → Octets 
 agree ps cs ds x d b oc od lc ld e h =
     sym (only ps cs x d b (octets-bytes cs oc) lc h) ∙ value-ext ps (eval cs) (eval ds) x e ∙ only ps ds x d b (octets-bytes ds od) ld h
 
-octets-drop : (cs : List ℕ) → Octets cs → Octets (drop 1 cs)
-octets-drop cs o i = rw getD-drop (o (1 + i))
-
 pub coefficients : (k : ℕ) (cs ds : List ℕ) → Octets cs → Octets ds → length cs ≤ 255 → length ds ≤ 255
     → ((x : ℕ) → x < 256 → eval cs x ≡ eval ds x) → getD cs k 0 ≡ getD ds k 0
 coefficients zero cs ds oc od lc ld e = sym (constant cs) ∙ e 0 (lit< tt) ∙ constant ds
 coefficients (suc k) cs ds oc od lc ld e =
     let c0 : getD cs 0 0 ≡ getD ds 0 0 = sym (constant cs) ∙ e 0 (lit< tt) ∙ constant ds in
     sym (later cs k)
-    ∙ coefficients k (drop 1 cs) (drop 1 ds) (octets-drop cs oc) (octets-drop ds od) (omega (arith, length-drop 1 cs)) (omega (arith, length-drop 1 ds))
-    (λ x h. agree (from 1 255) (drop 1 cs) (drop 1 ds) x (distinct-from 1 255) (all-from 1 255 (λ p l u. omega arith)) (octets-drop cs oc) (octets-drop ds od)
+    ∙ coefficients k (drop 1 cs) (drop 1 ds) (octets-drop 1 cs oc) (octets-drop 1 ds od) (omega (arith, length-drop 1 cs)) (omega (arith, length-drop 1 ds))
+    (λ x h. agree (from 1 255) (drop 1 cs) (drop 1 ds) x (distinct-from 1 255) (all-from 1 255 (λ p l u. omega arith)) (octets-drop 1 cs oc) (octets-drop 1 ds od)
     (omega (arith, length-drop 1 cs, length-from 1 255)) (omega (arith, length-drop 1 ds, length-from 1 255))
     (all-from 1 255 (λ p l u. tails cs ds p oc od (omega arith) (omega arith) c0 (e p (omega arith)))) h)
     ∙ later ds k
@@ -112,9 +99,9 @@ coefficients (suc k) cs ds oc od lc ld e =
         let B = eval (drop 1 ds) p in
         let q : bitXor (getD cs 0 0) (mul p A) ≡ bitXor (getD cs 0 0) (mul p B) = sym (eval-step cs p) ∙ e ∙ eval-step ds p ∙ ap (λ (n : ℕ). bitXor n (mul p B)) (sym c0) in
         let r : mul p A ≡ mul p B = sym (xor-cancel (getD cs 0 0) (mul p A)) ∙ ap (bitXor (getD cs 0 0)) q ∙ xor-cancel (getD cs 0 0) (mul p B) in
-        sym (div-mul A p (eval-lt (drop 1 cs) p (octets-bytes (drop 1 cs) (octets-drop cs oc))) pos hp)
+        sym (div-mul A p (eval-lt (drop 1 cs) p (octets-bytes (drop 1 cs) (octets-drop 1 cs oc))) pos hp)
         ∙ ap (λ (n : ℕ). div n p) r
-        ∙ div-mul B p (eval-lt (drop 1 ds) p (octets-bytes (drop 1 ds) (octets-drop ds od))) pos hp
+        ∙ div-mul B p (eval-lt (drop 1 ds) p (octets-bytes (drop 1 ds) (octets-drop 1 ds od))) pos hp
 
 -- FRAGMENTS 0 TO m - 1 ARE THE ITEM'S RUNS
 pub fragment-run : (m F : ℕ) (item : List ℕ) (k : ℕ) → k < m → fragment m F item k ≡ part item (k * F) F
@@ -166,7 +153,7 @@ module _ (m F : ℕ) (item : List ℕ) (few : m ≤ 256) (octets : Octets item) 
         go true e =
             let h = ltb-true k m e in
             to-tabulate (part item (k * F) F) F (λ i. value (from 0 m) (byte F item i) k)
-            (length-part item (k * F) F (omega (arith, run-fits m F k h)))
+            (length-part item (k * F) F (omega (arith, slot-fits k m F h)))
             (λ i l. getD-part item (k * F) F i l ∙ sym (own i k h))
         go false e = refl
 
@@ -197,16 +184,17 @@ module _ (m F : ℕ) (item : List ℕ) (few : m ≤ 256) (octets : Octets item) 
             ∙ again (from 0 m) (byte F item i) (distinct-from 0 m) (bytes-from m few) (points-bytes i) zs d b (omega (arith, length-from 0 m)) k h)
             ∙ sym (fragment-values k)
 
+-- a fragment has F bytes
+pub length-fragment : (m F : ℕ) (item : List ℕ) → length item ≡ m * F → (k : ℕ) → length (fragment m F item k) ≡ F
+length-fragment m F item whole k = unfold fragment in go (ltb k m) refl
+  where
+    go : (b : Bool) → ltb k m ≡ b → length (cond b (part item (k * F) F) (tabulate F (λ i. value (from 0 m) (byte F item i) k))) ≡ F
+    go true e = let h = ltb-true k m e in length-part item (k * F) F (omega (arith, slot-fits k m F h))
+    go false e = length-tabulate F (λ i. value (from 0 m) (byte F item i) k)
+
 -- ---- a buffer that holds fragments
 -- how long it stays, and what a place that was written holds afterwards
 module _ (m F : ℕ) (item : List ℕ) (whole : length item ≡ m * F) (first stride : ℕ) (wide : F ≤ stride) where
-  length-fragment : (k : ℕ) → length (fragment m F item k) ≡ F
-  length-fragment k = unfold fragment in go (ltb k m) refl
-    where
-      go : (b : Bool) → ltb k m ≡ b → length (cond b (part item (k * F) F) (tabulate F (λ i. value (from 0 m) (byte F item i) k))) ≡ F
-      go true e = let h = ltb-true k m e in length-part item (k * F) F (omega (arith, run-fits m F k h))
-      go false e = length-tabulate F (λ i. value (from 0 m) (byte F item i) k)
-
   length-encoded : (n : ℕ) (desk : List ℕ) → ((k : ℕ) → k < n → first + k * stride + F ≤ length desk)
       → length (encoded m F item first stride n desk) ≡ length desk
   unfolding encoded
@@ -214,7 +202,7 @@ module _ (m F : ℕ) (item : List ℕ) (whole : length item ≡ m * F) (first st
   length-encoded (suc n) desk fit =
       let e : length (encoded m F item first stride n desk) ≡ length desk = length-encoded n desk (λ k h. fit k (omega arith)) in
       length-put (encoded m F item first stride n desk) (first + n * stride) (fragment m F item n)
-      (omega (arith, length-fragment n, fit n (omega arith)))
+      (omega (arith, length-fragment m F item whole n, fit n (omega arith)))
       ∙ e
 
   -- an encoding holds fragment k at its place
@@ -231,11 +219,11 @@ module _ (m F : ℕ) (item : List ℕ) (whole : length item ≡ m * F) (first st
           → length (encoded m F item first stride n desk) ≡ length desk → first + n * stride + F ≤ length desk
           → part (put (encoded m F item first stride n desk) (first + n * stride) (fragment m F item n)) (first + k * stride) F ≡ fragment m F item k
       go (yes q) more e room =
-          rw q (part-put-same (encoded m F item first stride n desk) (first + n * stride) (fragment m F item n) F (length-fragment n) (omega arith))
+          rw q (part-put-same (encoded m F item first stride n desk) (first + n * stride) (fragment m F item n) F (length-fragment m F item whole n) (omega arith))
       go (no q) more e room =
           let l : k < n = omega arith in
           part-put-before (encoded m F item first stride n desk) (first + n * stride) (fragment m F item n) (first + k * stride) F
-          (omega (arith, run-fits n stride k l)) (omega arith)
+          (omega (arith, slot-fits k n stride l)) (omega arith)
           ∙ more l
 
 -- runs one after the other fill a buffer that is as long as they are

@@ -1,4 +1,4 @@
--- What refusal 4 asks of a frame, as plain facts: `FrameIs`, `RequestIs`, `ReplyIs`, each with its laws `is`, `back`, `no` and `last`
+-- What refusal 4 asks of a frame, as plain facts: `FrameIs`, `RequestIs`, `ReplyIs`, each with its laws `is`, `back` and `last`
 -- (the last rule decides); the length of a frame by its kind; the kinds of a party. Assumes nothing.
 use mathlib.Core.Path.{_≡_, refl, sym, ap, _∙_}
 use mathlib.Core.Bool.{Bool, true, false, cond}
@@ -16,14 +16,11 @@ use Rattle.terms.specs.Terms.{recordLength}
 use Rattle.terms.specs.declared.Plan.{Plan}
 use Rattle.terms.proofs.Rungs.{both, clash}
 use Rattle.terms.proofs.Plans.{not-ok}
+use Rattle.terms.proofs.Picks.{itself}
 use Rattle.frame.specs.Frame.{restOf, versionOf, kindOf, frameNode, shaped, bodyFits, oneOf, kindsFor, forParty, goodFrame, goodRequest, goodReply, cutAt}
 use Rattle.frame.specs.declared.Cut.the-variants.{EndsAt, NoFrame}
 use Rattle.frame.specs.declared.Party.{Party}
 use Rattle.frame.specs.declared.Party.the-variants.{Node, Client}
-
-last : (t : Bool) → t ≡ cond t true false
-last true = refl
-last false = refl
 
 -- ---- the shape
 pub record ShapedIs (f : List ℕ) : Type 0 where
@@ -41,7 +38,7 @@ shaped-is f e =
 
 pub shaped-last : (f : List ℕ) (x : ℕ) → 15 ≤ length f → restOf f ≡ length f - 4 → x ≡ versionOf f → eqb x 1 ≡ shaped f
 unfolding shaped all
-shaped-last f x a b e = rw (le-leb 15 (length f) a, eq-eqb (restOf f) (length f - 4) b, e) (last (eqb (versionOf f) 1))
+shaped-last f x a b e = rw (le-leb 15 (length f) a, eq-eqb (restOf f) (length f - 4) b, e) (itself (eqb (versionOf f) 1))
 
 pub shaped-back : (f : List ℕ) → ShapedIs f → shaped f ≡ true
 shaped-back f q = sym (shaped-last f (versionOf f) (q .low) (q .whole) refl) ∙ eq-eqb _ _ (q .version)
@@ -69,7 +66,7 @@ frame-is party p f e =
 pub frame-last : (party : Party) (p : Plan) (f : List ℕ) (r : Bool) → shaped f ≡ true → forParty party (kindOf f) ≡ true
     → r ≡ bodyFits p (kindOf f) (length f - 15) → r ≡ goodFrame party p f
 unfolding goodFrame all
-frame-last party p f r s k e = rw (s, k) (e ∙ last (bodyFits p (kindOf f) (length f - 15)))
+frame-last party p f r s k e = rw (s, k) (e ∙ itself (bodyFits p (kindOf f) (length f - 15)))
 
 pub frame-back : (party : Party) (p : Plan) (f : List ℕ) → FrameIs party p f → goodFrame party p f ≡ true
 frame-back party p f q =
@@ -83,9 +80,6 @@ frame-unshaped party p f e = rw e
 pub frame-stray : (party : Party) (p : Plan) (f : List ℕ) → shaped f ≡ true → forParty party (kindOf f) ≡ false → false ≡ goodFrame party p f
 unfolding goodFrame all
 frame-stray party p f s e = rw (s, e)
-
-pub frame-no : (party : Party) (p : Plan) (f : List ℕ) → (FrameIs party p f → ⊥) → false ≡ goodFrame party p f
-frame-no party p f h = not-ok _ (λ e. h (frame-is party p f e))
 
 -- ---- a request at a node
 pub record RequestIs (p : Plan) (node : ℕ) (f : List ℕ) : Type 0 where
@@ -109,9 +103,6 @@ request-ill p node f e = rw e
 pub request-back : (p : Plan) (node : ℕ) (f : List ℕ) → RequestIs p node f → goodRequest p node f ≡ true
 request-back p node f q = sym (request-last p node f _ (frame-back Node p f (q .frame-is)) refl) ∙ eq-eqb _ _ (q .node-is)
 
-pub request-no : (p : Plan) (node : ℕ) (f : List ℕ) → (RequestIs p node f → ⊥) → false ≡ goodRequest p node f
-request-no p node f h = not-ok _ (λ e. h (request-is p node f e))
-
 -- ---- a reply at a client
 pub record ReplyIs (p : Plan) (f : List ℕ) : Type 0 where
   pub frame-is : FrameIs Client p f
@@ -133,9 +124,6 @@ reply-ill p f e = rw e
 
 pub reply-back : (p : Plan) (f : List ℕ) → ReplyIs p f → goodReply p f ≡ true
 reply-back p f q = sym (reply-last p f _ (frame-back Client p f (q .frame-is)) refl) ∙ lt-ltb _ _ (q .node-low)
-
-pub reply-no : (p : Plan) (f : List ℕ) → (ReplyIs p f → ⊥) → false ≡ goodReply p f
-reply-no p f h = not-ok _ (λ e. h (reply-is p f e))
 
 -- ---- the table of kinds, at one kind and at none
 pub fits-at : (p : Plan) (kind k n : ℕ) (z : Bool) → kind ≡ k → z ≡ bodyFits p k n → z ≡ bodyFits p kind n
@@ -198,13 +186,10 @@ side-by-side kind a b = go (eqb kind 5) refl
     go true e = inr (inr (inl (eqb-true kind 5 e)))
     go false e = let n = eqb-false kind 5 e in inr (inr (inr (inl (omega arith))))
 
--- a node's kind that is none of the others is 6, a client's is 7
+-- a node's kind that is none of the others is 6
 pub last-request : (kind : ℕ) → forParty Node kind ≡ true → (kind ≡ 1 → ⊥) → (kind ≡ 3 → ⊥) → (kind ≡ 5 → ⊥) → kind ≡ 6
 last-request kind e a b c =
     ⊎-elim (λ h. absurd (a h)) (⊎-elim (λ h. absurd (b h)) (⊎-elim (λ h. absurd (c h)) (⊎-elim (λ h. h) (λ h. absurd h)))) (party-is Node kind e)
-
-pub last-reply : (kind : ℕ) → forParty Client kind ≡ true → (kind ≡ 2 → ⊥) → (kind ≡ 4 → ⊥) → kind ≡ 7
-last-reply kind e a b = ⊎-elim (λ h. absurd (a h)) (⊎-elim (λ h. absurd (b h)) (⊎-elim (λ h. h) (λ h. absurd h))) (party-is Client kind e)
 
 -- ---- the length of a frame, by its kind
 module _ {party : Party} {p : Plan} {f : List ℕ} (q : FrameIs party p f) where
@@ -213,10 +198,6 @@ module _ {party : Party} {p : Plan} {f : List ℕ} (q : FrameIs party p f) where
   length-by k n h e =
       let low = q .low in
       omega (arith, eqb-true (length f - 15) n (sym h ∙ ap (λ (x : ℕ). bodyFits p x (length f - 15)) (sym e) ∙ q .fits))
-
-  pub length-1 : kindOf f ≡ 1 → length f ≡ 15
-  unfolding bodyFits
-  length-1 = length-by 1 0 refl
 
   pub length-2 : kindOf f ≡ 2 → length f ≡ 23
   unfolding bodyFits
@@ -230,20 +211,9 @@ module _ {party : Party} {p : Plan} {f : List ℕ} (q : FrameIs party p f) where
   unfolding bodyFits
   length-4 = length-by 4 40 refl
 
-  pub length-5 : kindOf f ≡ 5 → length f ≡ 15
-  unfolding bodyFits
-  length-5 = length-by 5 0 refl
-
   pub length-6 : kindOf f ≡ 6 → length f ≡ 55
   unfolding bodyFits
   length-6 = length-by 6 40 refl
-
-  -- a read reply that has a body has a record
-  pub length-7 : kindOf f ≡ 7 → (length f ≡ 15 → ⊥) → length f ≡ 15 + recordLength p
-  unfolding bodyFits
-  length-7 k h =
-      let low = q .low in
-      length-by 7 (recordLength p) (rw (ne-eqb (length f - 15) 0 (λ z. h (omega arith))) (sym (last (eqb (length f - 15) (recordLength p))))) k
 
 -- ---- a body, after a head of h bytes
 pub body-part : (h : ℕ) (f : List ℕ) (at n : ℕ) → part (drop h f) at n ≡ part f (h + at) n

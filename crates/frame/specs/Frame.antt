@@ -94,13 +94,9 @@ answersTo f ask kind = eqb (askOf f) ask and eqb (kindOf f) kind
 
 -- ---- cutting, apart from checking
 -- no frame where fewer than 4 bytes remain, or a length is below 11 or larger than the rest
-abbrev pub pickCut : Bool → Cut → Cut → Cut
-pickCut true x y = x
-pickCut false x y = y
-
 unfoldable pub cutAt : List ℕ → ℕ → Cut
 cutAt s at =
-    pickCut (ltb (length s - at) 4) NoFrame
-    (pickCut (ltb (num (part s at 4)) 11) NoFrame
-    (pickCut (ltb (length s - at - 4) (num (part s at 4))) NoFrame
+    cond (ltb (length s - at) 4) NoFrame
+    (cond (ltb (num (part s at 4)) 11) NoFrame
+    (cond (ltb (length s - at - 4) (num (part s at 4))) NoFrame
     (EndsAt (at + 4 + num (part s at 4)))))

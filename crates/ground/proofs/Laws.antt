@@ -1,21 +1,20 @@
 -- What the lengths of a call give, and how a call answers. Assumes nothing.
 use Prim.Native.Nat.{ℕ, zero, suc, _+_, _-_, _*_, _^_, _<_, _≤_}
 use mathlib.Core.Path.{_≡_, refl, sym, _∙_}
-use mathlib.Core.List.{List, [], _∷_, append-nil}
+use mathlib.Core.List.{List, [], _∷_}
 use mathlib.Core.Bool.{Bool, true, false, not}
-use native.Mathlib.Nat.{zero-add, mul-le-mul, not-suc-le-zero}
+use native.Mathlib.Nat.{mul-le-mul, not-suc-le-zero}
 use native.Mathlib.Numerals.{add-one}
 use native.Mathlib.Omega.{arith}
 use lib.ListN.{length, getD, take, drop, drop-of-length-le, length-drop}
-use lib.Seq.{drop-length, drop-cons, take-length}
+use lib.Seq.{drop-cons, take-length}
 use lib.Dec.{eqb}
 use borrow.Author.Tests.{lt-ltb, ltb-true, le-leb, leb-true, eq-eqb, eqb-true}
-use Rattle.octets.specs.Bytes.{put}
+use Rattle.octets.proofs.Laws.{slot-fits}
 use Rattle.terms.specs.Ladder.{all}
 use Rattle.terms.proofs.Rungs.{both}
 use Rattle.terms.proofs.Plans.{not-ok}
 use Rattle.fragments.specs.Fragments.{among, Sources}
-use Rattle.fragments.proofs.Laws.{run-fits}
 use Rattle.ground.specs.Calls.{Told, hashFits, runsFit, encodeFits, apart, named, decodeFits}
 
 module _ (fits : Bool) (new before : List ℕ) where
@@ -28,11 +27,6 @@ module _ (fits : Bool) (new before : List ℕ) where
   -- two outcomes that the contract allows are equal
   pub told-unique : (r r′ : ℕ) (after after′ : List ℕ) → Told fits new r before after → Told fits new r′ before after′ → (r ≡ r′) × (after ≡ after′)
   told-unique r r′ after after′ t t′ = (t .number ∙ sym (t′ .number), t .bytes ∙ sym (t′ .bytes))
-
--- what is put over the whole of a list
-pub put-all : (l s : List ℕ) → length s ≡ length l → put l 0 s ≡ s
-unfolding put
-put-all l s h = rw (h, zero-add, drop-length) (append-nil s)
 
 -- a list of rules: the last, one that holds, and what it gives
 last : (b : Bool) → all (b ∷ []) ≡ b
@@ -112,7 +106,7 @@ module _ (n m F item desk : ℕ) where
   encode-yes a b = sym (on _ (le-leb _ _ a) ∙ on _ b ∙ last _)
 
   pub encode-room : encodeFits n m F item desk ≡ true → (k : ℕ) → k < n → 0 + k * F + F ≤ desk
-  encode-room e k h = let r = encode-is e .2 in omega (arith, run-fits n F k h, r .length-is)
+  encode-room e k h = let r = encode-is e .2 in omega (arith, slot-fits k n F h, r .length-is)
 
 -- ---- decoding
 -- no product of a fragment's number, or of the number of fragments, with F leaves a machine number

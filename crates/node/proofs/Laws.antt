@@ -1,6 +1,6 @@
 -- What the node's functions ensure, each need a law. Assumes nothing.
 use mathlib.Core.Path.{_≡_, refl, sym, ap, _∙_}
-use mathlib.Core.Bool.{Bool, true, false, cond, not}
+use mathlib.Core.Bool.{Bool, true, false, not}
 use mathlib.Core.List.{List, [], _∷_}
 use mathlib.Core.Logic.{_⊎_, ⊎-elim}
 use Prim.Native.Nat.{ℕ, _+_, _≤_, _<_}
@@ -10,7 +10,7 @@ use lib.ListN.{length}
 use lib.Dec.{leb}
 use Rattle.octets.specs.Bytes.{part, be, over, num}
 use Rattle.octets.proofs.Laws.{length-be, length-part}
-use Rattle.terms.specs.Ladder.{on, first, all}
+use Rattle.terms.specs.Ladder.{on, first}
 use Rattle.terms.specs.Stamp.{stamp, time}
 use Rattle.terms.specs.Terms.{planOk, recordLength}
 use Rattle.terms.specs.declared.Plan.{Plan}
@@ -23,17 +23,13 @@ use Rattle.record.specs.Record.{hashesOk, timeZero}
 use Rattle.book.specs.declared.Fate.{Fate}
 use Rattle.book.specs.declared.Fate.the-variants as fates
 use Rattle.book.specs.Records.{lastOf, lastBelow, holds, holdsOther, fateOf}
-use Rattle.book.specs.Book.{nodeOf, recordsOf, usedOf, grown, Checked, Placed}
+use Rattle.book.specs.Book.{nodeOf, recordsOf, usedOf, grown, Checked, Placed, bookLent}
 use Rattle.book.proofs.Lists as lists
 use Rattle.book.proofs.Laws as books
 use Rattle.book.proofs.Back.{long}
 use Rattle.node.specs.declared.Answer.{Answer}
 use Rattle.node.specs.declared.Answer.the-variants.{Refused, Replied}
-use Rattle.node.specs.Node.{lengthsOk, zeroTime, hashFails, otherHeld, noRoom, said, refused, replied, Outcome, outcome, replyTo, replyOf, sends, bookAfter, answered, served, finished, Admitted, Sent, Reply}
-
-last : (t : Bool) → t ≡ cond t true false
-last true = refl
-last false = refl
+use Rattle.node.specs.Node.{lengthsOk, zeroTime, hashFails, otherHeld, noRoom, said, refused, replied, Outcome, outcome, replyTo, replyOf, sends, bookAfter, answered, served, finished, Admitted, Sent, Reply, writes}
 
 -- a test that a negated `if` passed, and what it says of the definition that the test is of
 pub so : {r s : Bool} → r ≡ s → not r ≡ false → s ≡ true
@@ -44,16 +40,16 @@ so-not e f = ap not (sym e) ∙ f
 
 -- ---- 2
 pub lengths-low : (p : Plan) (book reply : ℕ) → book < 11 → false ≡ lengthsOk p book reply
-unfolding lengthsOk all
+unfolding lengthsOk
 lengths-low p book reply h = rw (lt-leb 11 book h)
 
 pub lengths-high : (p : Plan) (book reply : ℕ) → 11 ≤ book → 65536 < book → false ≡ lengthsOk p book reply
-unfolding lengthsOk all
+unfolding lengthsOk
 lengths-high p book reply h k = rw (le-leb 11 book h, lt-leb book 65536 k)
 
 pub lengths-last : (p : Plan) (book reply r : ℕ) → 11 ≤ book → book ≤ 65536 → r ≡ recordLength p → leb (r + 15) reply ≡ lengthsOk p book reply
-unfolding lengthsOk all
-lengths-last p book reply r h k e = rw (le-leb 11 book h, le-leb book 65536 k, ← e) (last (leb (r + 15) reply))
+unfolding lengthsOk
+lengths-last p book reply r h k e = rw (le-leb 11 book h, le-leb book 65536 k, ← e)
 
 pub record LengthsAre (p : Plan) (book reply : ℕ) : Type 0 where
   pub low : 11 ≤ book
@@ -61,12 +57,11 @@ pub record LengthsAre (p : Plan) (book reply : ℕ) : Type 0 where
   pub room : recordLength p + 15 ≤ reply
 
 pub lengths-are : (p : Plan) (book reply : ℕ) → lengthsOk p book reply ≡ true → LengthsAre p book reply
-unfolding lengthsOk all
+unfolding lengthsOk
 lengths-are p book reply e =
-    let e1 = both (leb 11 book) _ e in
-    let e2 = both (leb book 65536) _ (e1 .1) in
-    let e3 = both (leb (recordLength p + 15) reply) _ (e2 .1) in
-    record { low = leb-true _ _ (e1 .0); high = leb-true _ _ (e2 .0); room = leb-true _ _ (e3 .0) }
+    let e1 = both (bookLent book) _ e in
+    let e2 = both (leb 11 book) _ (e1 .0) in
+    record { low = leb-true _ _ (e2 .0); high = leb-true _ _ (e2 .1); room = leb-true _ _ (e1 .1) }
 
 -- ---- 5 and 6
 pub zero-yes : (f : List ℕ) (r : Bool) → (kindOf f ≡ 3) ⊎ (kindOf f ≡ 6) → r ≡ timeZero (bodyOf f) → r ≡ zeroTime f
@@ -264,11 +259,16 @@ module _ (p : Plan) (f b y : List ℕ) where
     }
 
 -- ---- a fresh book: its length as the document's condition
-pub book-low : (n : ℕ) → n < 11 → not (cond (leb 11 n) (leb n 65536) false) ≡ true
+pub book-low : (n : ℕ) → n < 11 → not (bookLent n) ≡ true
 book-low n h = rw (lt-leb 11 n h)
 
-pub book-high : (n : ℕ) → 11 ≤ n → 65536 < n → not (cond (leb 11 n) (leb n 65536) false) ≡ true
+pub book-high : (n : ℕ) → 11 ≤ n → 65536 < n → not (bookLent n) ≡ true
 book-high n h k = rw (le-leb 11 n h, lt-leb n 65536 k)
 
-pub book-fine : (n : ℕ) → 11 ≤ n → n ≤ 65536 → not (cond (leb 11 n) (leb n 65536) false) ≡ false
+pub book-fine : (n : ℕ) → 11 ≤ n → n ≤ 65536 → not (bookLent n) ≡ false
 book-fine n h k = rw (le-leb 11 n h, le-leb n 65536 k)
+
+-- a request that is no write leaves the book
+pub after-other : (p : Plan) (f b : List ℕ) → writes f ≡ false → bookAfter p f b ≡ b
+unfolding bookAfter
+after-other p f b e = rw e

@@ -11,24 +11,24 @@ use Prim.Native.Nat.{ℕ, _+_}
 use mathlib.Core.Path.{_≡_}
 use mathlib.Core.Bool.{Bool, true, cond, not}
 use mathlib.Core.List.{List, [], _∷_}
-use lib.ListN.{length}
+use lib.ListN.{length, drop}
 use lib.Dec.{ltb, leb, eqb}
-use Rattle.octets.specs.Bytes.{part, be, over}
-use Rattle.terms.specs.Ladder.{Rung, on, first, all, _and_, _or_}
+use Rattle.octets.specs.Bytes.{be, over}
+use Rattle.terms.specs.Ladder.{Rung, on, first, _and_, _or_}
 use Rattle.terms.specs.Stamp.{stamp, time}
 use Rattle.terms.specs.Terms.{planOk, recordLength, refusalNumber}
 use Rattle.terms.specs.declared.Plan.{Plan}
 use Rattle.frame.specs.Frame.{kindOf, frameNode, askOf, bodyOf, frame, goodRequest}
-use Rattle.record.specs.Record.{hashesOk, timeZero}
+use Rattle.record.specs.Record.{hashesOk, timeZero, stampOf}
 use Rattle.book.specs.Records.{lastOf, lastBelow, holds, holdsOther}
-use Rattle.book.specs.Book.{goodBook, nodeOf, recordsOf, usedOf, grown, Itself}
+use Rattle.book.specs.Book.{goodBook, nodeOf, recordsOf, usedOf, grown, Itself, bookLent}
 use Rattle.node.specs.declared.Answer.{Answer}
 use Rattle.node.specs.declared.Answer.the-variants.{Refused, Replied}
 
 -- ---- the conditions of the refusals
 -- 2: "Lent book: 11 to 65,536 bytes", "a reply buffer of at least R+15 bytes"
 unfoldable pub lengthsOk : Plan → ℕ → ℕ → Bool
-lengthsOk p book reply = all (leb 11 book ∷ leb book 65536 ∷ leb (recordLength p + 15) reply ∷ [])
+lengthsOk p book reply = bookLent book and leb (recordLength p + 15) reply
 
 abbrev pub writes : List ℕ → Bool
 writes f = eqb (kindOf f) 3
@@ -91,7 +91,7 @@ replyOf kind body = record { kind = kind; body = body }
 unfoldable pub replyTo : ℕ → List ℕ → List (List ℕ) → Reply
 replyTo kind body rs =
     cond (eqb kind 1) (replyOf 2 (be 8 (time (lastOf rs))))
-    (cond (eqb kind 3) (replyOf 4 (part body 0 40))
+    (cond (eqb kind 3) (replyOf 4 (stampOf body))
     (cond (eqb kind 5) (replyOf 7 (lastOf rs))
     (replyOf 7 (lastBelow (stamp body) rs))))
 
@@ -127,7 +127,7 @@ pub record Admitted (p : Plan) (f b y : List ℕ) : Type 0 where
 
 -- the last two refusals, and the answer
 unfoldable pub finished : Plan → List ℕ → List ℕ → List ℕ → Outcome
-finished p f b y = first (on 7 (otherHeld p f b) ∷ on 8 (noRoom p f b) ∷ []) (λ (k : ℕ). outcome (refused k) b y) (answered p f b y)
+finished p f b y = first (drop 6 (nodeLadder p f b y)) (λ (k : ℕ). outcome (refused k) b y) (answered p f b y)
 
 -- a reply to f was written
 pub record Sent (f : List ℕ) (kind : ℕ) (body y : List ℕ) (a : Answer) (y₂ : List ℕ) : Type 0 where

@@ -2,11 +2,11 @@
 use mathlib.Core.Path.{_≡_, refl, sym, ap, _∙_, subst}
 use mathlib.Core.List.{List, [], _∷_, _++_, append-assoc}
 use Prim.Native.Nat.{ℕ, zero, suc, _+_, _-_, _*_, _≤_, _<_, _^_, _/_, _%_}
-use native.Mathlib.Nat.{zero-add, add-zero, add-suc, suc-add, add-assoc, pow-suc, pow-le-pow-right, mul-le-mul-right}
+use native.Mathlib.Nat.{zero-add, add-zero, add-suc, suc-add, add-assoc, pow-suc, pow-le-pow-right, mul-le-mul-right, suc-mul}
 use native.Mathlib.Numerals.{add-one}
 use native.Mathlib.Omega.{arith}
 use lib.ListN.{length, take, drop, getD, set, length-append, length-take, length-drop, take-append-drop, List·getD-append}
-use lib.Seq.{take-suc, drop-cons, set-at, length-take-le, getD-take, getD-drop, take-at, drop-at, getD-append-add, take-length, take-append-le, drop-append-le, take-take, drop-drop, take-add, take-nil, sets-eq, drop-append-add}
+use lib.Seq.{take-suc, drop-cons, set-at, length-take-le, getD-take, getD-drop, take-at, drop-at, getD-append-add, take-length, take-append-le, drop-append-le, take-take, drop-drop, take-nil, sets-eq, drop-append-add, take-all}
 use Rattle.octets.specs.Bytes.{part, put, num, numFrom, be, beOnto}
 use lib.Dec.{lit<}
 
@@ -164,18 +164,7 @@ put-put l at s t h =
     )
     (simp (length-append, append-assoc, ← add-assoc))
 
--- ---- a part that was lent and came back
-pub part-back : (l : List ℕ) (a k p : ℕ) (s : List ℕ) → a + k ≤ length l → p + length s ≤ k
-    → take a l ++ (put (part l a k) p s ++ drop k (drop a l)) ≡ put l (a + p) s
-unfolding put part
-part-back l a k p s h m =
-    let d : List ℕ = drop a l in
-    let ld : length (take k d) ≡ k = length-take-le k d (simp length-drop (omega arith)) in
-    let e : drop (p + length s) (take k d) ++ drop k d ≡ drop (p + length s) d =
-    sym (drop-append-le (p + length s) (take k d) (drop k d) (omega arith)) ∙ ap (λ (r : List ℕ). drop (p + length s) r) (take-append-drop k d) in
-    rw (take-take p k d (omega arith), take-add a p l, add-assoc a p (length s), ← drop-drop (p + length s) a l)
-    (simp (append-assoc, e))
-
+-- ---- a part of a part
 drop-take : (p k : ℕ) (m : List ℕ) → drop p (take (p + k) m) ≡ take k (drop p m)
 drop-take zero k m = rw zero-add
 drop-take (suc p) k [] = rw suc-add (sym (take-nil k))
@@ -186,12 +175,6 @@ unfolding part
 part-part l a k p n h =
     let e : k ≡ p + (k - p) = omega arith in
     rw (e, drop-take p (k - p) (drop a l), take-take n (k - p) (drop p (drop a l)) (omega arith), drop-drop p a l)
-
--- what a callee that was lent the part from a on, of k elements, put at its place p, said of the whole
-pub lent-put : (l x : List ℕ) (a k p q : ℕ) (s : List ℕ) → a + p ≡ q → a + k ≤ length l → p + length s ≤ k → x ≡ put (take k (drop a l)) p s
-    → take a l ++ (x ++ drop k (drop a l)) ≡ put l q s
-unfolding part
-lent-put l x a k p q s z h m e = rw (e, part-back l a k p s h m, z)
 
 -- what lies past it is as it was
 pub put-after : (l : List ℕ) (at : ℕ) (s : List ℕ) (i : ℕ) → at + length s ≤ i → at + length s ≤ length l → getD (put l at s) i 0 ≡ getD l i 0
@@ -256,3 +239,28 @@ put-then l at q s t z h =
 pub part-middle : (l x y z : List ℕ) (at n : ℕ) → l ≡ x ++ (y ++ z) → length x ≡ at → length y ≡ n → part l at n ≡ y
 unfolding part
 part-middle l x y z at n e a b = rw (e, drop-at x (y ++ z) at a) (take-at y z n b)
+
+-- ---- parts of two lists, one after the other
+pub part-left : (x y : List ℕ) (at n : ℕ) → at + n ≤ length x → part (x ++ y) at n ≡ part x at n
+unfolding part
+part-left x y at n h = rw (drop-append-le at x y (omega arith), take-append-le n (drop at x) y (simp length-drop (omega arith)))
+
+pub part-past : (x y : List ℕ) (at k n : ℕ) → length x ≡ at → part (x ++ y) (at + k) n ≡ part y k n
+unfolding part
+part-past x y at k n a = rw (← a, drop-append-add x y k)
+
+pub part-first : (x y : List ℕ) (n : ℕ) → length x ≡ n → part (x ++ y) 0 n ≡ x
+unfolding part
+part-first x y n e = take-at x y n e
+
+pub part-last : (x y : List ℕ) (at n : ℕ) → length x ≡ at → length y ≡ n → part (x ++ y) at n ≡ y
+unfolding part
+part-last x y at n a b = rw (drop-at x y at a) (take-all n y (omega arith))
+
+-- ---- slots
+-- slot k of n slots of r bytes lies within them, and within what holds them
+pub slot-fits : (k n r : ℕ) → k < n → k * r + r ≤ n * r
+slot-fits k n r h = rw (← suc-mul k r) (mul-le-mul-right r h)
+
+pub slot-room : (k n r e : ℕ) → k < n → n * r ≤ e → k * r + r ≤ e
+slot-room k n r e h l = omega (arith, slot-fits k n r h)

@@ -12,7 +12,7 @@ use lib.ListN.{length, take, drop, getD, length-append, length-drop, drop-of-len
 use lib.Seq.{drop-append-add, take-at, drop-drop, getD-drop, getD-take, take-add}
 use native.Mathlib.Numerals.{add-one}
 use Rattle.octets.proofs.Laws.{part-snoc, num-snoc, length-part, part-cons}
-use lib.Dec.{eqb}
+use lib.Dec.{eqb, lit<}
 use Rattle.octets.specs.Bytes.{part, num, numFrom, be, beOnto, alike, over, put, Octets}
 
 -- every element is a byte
@@ -90,9 +90,35 @@ pub bytes-part : (l : List ℕ) (at n : ℕ) → Bytes l → Bytes (part l at n)
 unfolding part
 bytes-part l at n p = bytes-take n (drop at l) (bytes-drop at l p)
 
-pub bytes-all : (l : List ℕ) → ((i : ℕ) → getD l i 0 < 256) → Bytes l
+-- ---- every element a byte, by index and one by one
+pub bytes-all : (l : List ℕ) → Octets l → Bytes l
 bytes-all [] h = tt
 bytes-all (x ∷ l) h = (h 0, bytes-all l (λ i. h (suc i)))
+
+pub octets-all : (l : List ℕ) → Bytes l → Octets l
+octets-all [] b i = lit< tt
+octets-all (x ∷ l) b zero = b .0
+octets-all (x ∷ l) b (suc i) = octets-all l (b .1) i
+
+pub octets-append : (a b : List ℕ) → Octets a → Octets b → Octets (a ++ b)
+octets-append [] b h k i = k i
+octets-append (x ∷ a) b h k zero = h 0
+octets-append (x ∷ a) b h k (suc i) = octets-append a b (λ j. h (suc j)) k i
+
+octets-take : (n : ℕ) (l : List ℕ) → Octets l → Octets (take n l)
+octets-take n l h = octets-all (take n l) (bytes-take n l (bytes-all l h))
+
+pub octets-drop : (n : ℕ) (l : List ℕ) → Octets l → Octets (drop n l)
+octets-drop n l h i = rw getD-drop (h (n + i))
+
+pub octets-part : (l : List ℕ) (at n : ℕ) → Octets l → Octets (part l at n)
+unfolding part
+octets-part l at n h = octets-take n (drop at l) (octets-drop at l h)
+
+pub octets-put : (l : List ℕ) (at : ℕ) (s : List ℕ) → Octets l → Octets s → Octets (put l at s)
+unfolding put
+octets-put l at s h k =
+    octets-append (take at l) (s ++ drop (at + length s) l) (octets-take at l h) (octets-append s (drop (at + length s) l) k (octets-drop (at + length s) l h))
 
 -- two lists with an equal start, and the first bytes after it
 pub less-split : (a b : List ℕ) (i j n k : ℕ) → k < n → i + n ≤ length a → j + n ≤ length b → Bytes a → num (part a i k) ≡ num (part b j k)
@@ -142,11 +168,6 @@ not-alike a b h = go (alike a b) refl
     go : (t : Bool) → alike a b ≡ t → t ≡ false
     go true e = absurd (h (alike-is a b e))
     go false e = refl
-
--- what a test that goes by equality says
-pub decides : (r : Bool) (a b : List ℕ) → (r ≡ true → a ≡ b) → (a ≡ b → r ≡ true) → r ≡ alike a b
-decides true a b f g = sym (is-alike a b (f refl))
-decides false a b f g = sym (not-alike a b (λ e. let z : _≡_ {A = ℕ} 0 1 = let w = g e in cc in omega arith))
 
 -- ---- over
 drop-over : (x old : List ℕ) (n : ℕ) → drop (length x + n) (x ++ drop (length x) old) ≡ drop (length x + n) old
@@ -242,6 +263,9 @@ unfolding put
 put-whole old new e =
     let d : drop (0 + length new) old ≡ [] = drop-of-length-le old (le-of-eq (e ∙ sym (zero-add (length new)))) in
     rw d (append-nil new)
+
+pub over-whole : (new old : List ℕ) → length old ≡ length new → over new old ≡ new
+over-whole new old e = sym (over-start old new) ∙ put-whole old new e
 
 pub alike-append : (a b c d : List ℕ) → length a ≡ length c → alike (a ++ b) (c ++ d) ≡ cond (alike a c) (alike b d) false
 unfolding alike

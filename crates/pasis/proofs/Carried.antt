@@ -9,7 +9,7 @@ use borrow.Author.Tests.{leb-false}
 use lib.ListN.{length}
 use lib.Dec.{ltb, leb, eqb}
 use Rattle.terms.specs.Terms.{planOk}
-use Rattle.terms.specs.Stamp.{time}
+use Rattle.terms.specs.Stamp.{time, top}
 use Rattle.terms.specs.declared.Plan.{Plan}
 use Rattle.terms.specs.declared.Timestamp.{Timestamp}
 use Rattle.terms.specs.declared.Verdict.{Verdict}
@@ -44,7 +44,7 @@ module _ (p : Plan) where
 
   time-end-same : (s : Session) (d i : List ℕ) → Same (s .round) (timeEnd p s d i)
   unfolding timeEnd
-  time-end-same s d i = either (Same (s .round)) (eqb (s .greatest .0) 18446744073709551615) (record { same = refl }) (record { same = refl })
+  time-end-same s d i = either (Same (s .round)) (eqb (s .greatest .0) top) (record { same = refl }) (record { same = refl })
 
   time-turn-same : (s : Session) (d i : List ℕ) → Same (s .round) (timeTurn p s d i)
   unfolding timeTurn

@@ -3,15 +3,15 @@ use mathlib.Core.Path.{_≡_, refl, sym, ap, _∙_}
 use mathlib.Core.List.{List, [], _++_, append-assoc, append-nil}
 use mathlib.Core.Bool.{Bool, true, false}
 use Prim.Native.Nat.{ℕ, zero, suc, _+_, _-_, _*_, _^_, _≤_, _<_}
-use native.Mathlib.Nat.{zero-mul, suc-mul, mul-le-mul-right}
+use native.Mathlib.Nat.{zero-mul, suc-mul}
 use native.Mathlib.Numerals.{add-one}
 use native.Mathlib.Omega.{arith}
 use borrow.Author.Tests.{ltb-true, ltb-false}
 use lib.Dec.{ltb}
-use lib.ListN.{length, take, drop, length-append, length-drop, take-append-drop}
-use lib.Seq.{drop-drop, drop-append-add, drop-append-le, take-append-le, drop-at, drop-length, take-at, take-all}
+use lib.ListN.{length, take, drop, length-append, take-append-drop}
+use lib.Seq.{drop-drop, drop-append-add, drop-length, take-at}
 use Rattle.octets.specs.Bytes.{part, put, num, be}
-use Rattle.octets.proofs.Laws.{length-part, length-put, put-nil, put-then, part-put-same, part-put-before, part-put-after, part-middle, length-be}
+use Rattle.octets.proofs.Laws.{length-part, length-put, put-nil, put-then, part-put-same, part-put-before, part-put-after, part-middle, length-be, part-left, part-past, part-last, slot-fits}
 use Rattle.octets.proofs.Meaning.{part-add, alike-refl, num-be}
 use Rattle.sha256.specs.Sha256.{sha256}
 use Rattle.sha256.proofs.Laws.{sha256-length, whole}
@@ -25,10 +25,6 @@ use Rattle.record.specs.Record.{stampOf, verifierOf, crossOf, fragmentOf
 use Rattle.record.specs.Desk.{slotOf, fragmentIn, row, crossMade, deskOf, stampMade}
 use Rattle.record.proofs.Records.{record-length, taken, fragment-at, cross-at, start-of}
 
--- slot k of n slots of r bytes lies within them
-pub slot-fits : (k n r : ℕ) → k < n → k * r + r ≤ n * r
-slot-fits k n r h = rw (← suc-mul k r) (mul-le-mul-right r h)
-
 -- ---- blocks of r bytes, one after the other
 length-row : (block : ℕ → List ℕ) (r k : ℕ) → ((j : ℕ) → j < k → length (block j) ≡ r) → length (row block k) ≡ k * r
 unfolding row
@@ -37,18 +33,6 @@ length-row block r (suc k) h =
     let ih = length-row block r k (λ j i. h j (omega arith)) in
     let l = h k (omega arith) in
     simp (length-append, suc-mul) (omega arith)
-
-part-left : (x y : List ℕ) (at n : ℕ) → at + n ≤ length x → part (x ++ y) at n ≡ part x at n
-unfolding part
-part-left x y at n h = rw (drop-append-le at x y (omega arith), take-append-le n (drop at x) y (simp length-drop (omega arith)))
-
-part-right : (x y : List ℕ) (at n : ℕ) → length x ≡ at → length y ≡ n → part (x ++ y) at n ≡ y
-unfolding part
-part-right x y at n a b = rw (drop-at x y at a) (take-all n y (omega arith))
-
-part-past : (x y : List ℕ) (at k n : ℕ) → length x ≡ at → part (x ++ y) (at + k) n ≡ part y k n
-unfolding part
-part-past x y at k n a = rw (← a, drop-append-add x y k)
 
 -- block k stands at k * r
 pub part-row : (block : ℕ → List ℕ) (r k n : ℕ) → ((j : ℕ) → j < n → length (block j) ≡ r) → k < n → part (row block n) (k * r) r ≡ block k
@@ -63,7 +47,7 @@ part-row block r k (suc n) h i = go (ltb k n) refl (λ z. part-row block r k n (
     go true e ih = let z = ltb-true k n e in part-left (row block n) (block n) (k * r) r (omega (arith, slot-fits k n r z, l)) ∙ ih z
     go false e ih =
         let z : k ≡ n = omega (arith, ltb-false k n e) in
-        rw z (part-right (row block n) (block n) (n * r) r l (h n (omega arith)))
+        rw z (part-last (row block n) (block n) (n * r) r l (h n (omega arith)))
 
 -- blocks that are the same one by one
 row-same : (a b : ℕ → List ℕ) (n : ℕ) → ((k : ℕ) → k < n → a k ≡ b k) → row a n ≡ row b n
@@ -253,12 +237,6 @@ unfolding deskOf
 length-desk p s c fragment ls lc lf =
     length-row (λ j. s ++ (c ++ fragment j)) (recordLength p) (p .n) (λ j y. let l = lf j y in simp length-append (omega (arith, record-length p)))
 
--- a desk's fragments have F bytes
-pub length-in : (p : Plan) (d : List ℕ) → length d ≡ p .n * recordLength p → (k : ℕ) → k < p .n → length (fragmentIn p d k) ≡ p .f
-length-in p d ld k h =
-    ap length (fragment-at p d (k * recordLength p))
-    ∙ length-part d (k * recordLength p + 40 + 32 * p .n) (p .f) (omega (arith, slot-fits k (p .n) (recordLength p) h, record-length p))
-
 -- entry k of a cross checksum is the hash of fragment k
 pub entry-of : (fragment : ℕ → List ℕ) (k n : ℕ) → k < n → entryOf k (crossMade fragment n) ≡ fragmentHash [] (fragment k)
 unfolding crossMade fragmentHash
@@ -280,5 +258,5 @@ made-ok p time fragment k h lf =
     let x : crossOf p rec ≡ c = part-middle rec (stampMade time c) c (fragment k) 40 (32 * p .n) refl (simp (length-append, length-be) (omega arith)) lc in
     let f : fragmentOf p rec ≡ fragment k =
     ap (λ (l : List ℕ). part l (40 + 32 * p .n) (p .f)) (sym (append-assoc (stampMade time c) c (fragment k)))
-    ∙ part-right (stampMade time c ++ c) (fragment k) (40 + 32 * p .n) (p .f) (simp (length-append, length-be) (omega arith)) lf in
+    ∙ part-last (stampMade time c ++ c) (fragment k) (40 + 32 * p .n) (p .f) (simp (length-append, length-be) (omega arith)) lf in
     rw (x, v, f, entry-of fragment k (p .n) h, alike-refl (sha256 c)) (alike-refl (fragmentHash [] (fragment k)))

@@ -11,7 +11,7 @@ use Rattle.octets.specs.Bytes.{part, num, alike}
 use Rattle.octets.proofs.Laws.{part-part}
 use Rattle.sha256.specs.Sha256.{sha256}
 use Rattle.terms.specs.Terms.{planOk, recordLength}
-use Rattle.terms.specs.Stamp.{time, stamp}
+use Rattle.terms.specs.Stamp.{stamp}
 use Rattle.terms.specs.declared.Plan.{Plan}
 use Rattle.terms.proofs.Plans.{plan-is}
 use Rattle.record.specs.Record.{verifierOf, crossOf, fragmentOf, entryOf, fragmentHash, hashesOk, timeZero}
@@ -55,9 +55,6 @@ module _ (p : Plan) (s : List ℕ) (at : ℕ) where
   pub stamp-at : stamp (part s at (recordLength p)) ≡ num (part s at 40)
   stamp-at = ap num (start-of 40 (omega (arith, record-length p)))
 
-  pub time-at : time (part s at (recordLength p)) ≡ num (part s at 8)
-  time-at = ap num (start-of 8 (omega (arith, record-length p)))
-
   -- ---- the two checks, the first and then the second, each on a part that was lent
   abbrev pub from : ℕ
   from = at + 40 + 32 * p .n
@@ -86,11 +83,3 @@ module _ (p : Plan) (s : List ℕ) (at : ℕ) where
 pub zero-at : (s : List ℕ) (at x : ℕ) → x ≡ num (part s at 8) → eqb x 0 ≡ timeZero (drop at s)
 unfolding timeZero part
 zero-at s at x e = rw e
-
-start-at : (s : List ℕ) (at n : ℕ) → part s (at + 0) n ≡ part (drop at s) 0 n
-unfolding part
-start-at s at n = rw add-zero
-
-pub zero-part : (s : List ℕ) (at n : ℕ) → 8 ≤ n → timeZero (part s at n) ≡ timeZero (drop at s)
-unfolding timeZero
-zero-part s at n h = ap (λ (l : List ℕ). eqb (num l) 0) (part-part s at n 0 8 h ∙ start-at s at 8)

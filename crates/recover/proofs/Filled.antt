@@ -1,6 +1,6 @@
 -- The desk after it was filled in place. Slots are written one after the other, each from the desk so far; a source's slot is never
 -- written, and a record is made of sources alone: so each record is the one of the desk as it was.
---   all-at each-source   what holds of all of a list holds of the one at an index; of each among it, of all
+--   each-source          what holds of each that is among a list holds of all of it
 --   slot-stays           a record put into one slot leaves every other slot
 --   length-filled        the desk keeps its length
 --   filled-slot          slot k is as it was where k is a source, and else record k of the desk as it was
@@ -17,21 +17,15 @@ use borrow.Author.Tests.{ltb-true, ltb-false, eq-eqb}
 use lib.Dec.{eqb, ltb}
 use lib.ListN.{length, getD, length-append}
 use Rattle.octets.specs.Bytes.{part, put}
-use Rattle.octets.proofs.Laws.{length-part, length-put, part-part, part-put-same, part-put-before, part-put-after}
+use Rattle.octets.proofs.Laws.{length-part, length-put, part-part, part-put-same, part-put-before, part-put-after, slot-room}
 use Rattle.octets.proofs.Meaning.{getD-part, part-add}
 use Rattle.fragments.specs.Fragments.{All, among, tabulate, value, regenerated, Sources}
-use Rattle.fragments.proofs.Lists.{tabulate-ext}
+use Rattle.fragments.proofs.Lists.{tabulate-ext, all-at}
 use Rattle.fragments.proofs.Interp.{all-map, value-ext}
 use Rattle.fragments.proofs.Laws.{among-all, length-regenerated}
 use Rattle.recover.specs.Recover.{recordFrom, slotFilled, refilled}
-use Rattle.recover.proofs.Laws.{slot-room}
 
 -- ---- lists
-pub all-at : (P : ℕ → Type 0) (l : List ℕ) → All P l → (k : ℕ) → k < length l → P (getD l k 0)
-all-at P [] h k u = absurd (omega arith)
-all-at P (x ∷ l) h zero u = h .0
-all-at P (x ∷ l) h (suc k) u = all-at P l (h .1) k (omega arith)
-
 pub each-source : (P : ℕ → Type 0) (qs : List ℕ) → ((q : ℕ) → among q qs ≡ true → P q) → All P qs
 unfolding among
 each-source P [] g = tt

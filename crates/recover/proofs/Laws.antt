@@ -2,7 +2,7 @@
 use mathlib.Core.Path.{_≡_, refl, sym, ap, ap₂, _∙_}
 use mathlib.Core.Bool.{Bool, true, false, cond}
 use mathlib.Core.List.{List, [], _++_}
-use Prim.Native.Nat.{ℕ, zero, suc, _+_, _-_, _*_, _≤_, _<_}
+use Prim.Native.Nat.{ℕ, zero, suc, _+_, _*_, _≤_, _<_}
 use native.Mathlib.Nat.{mul-le-mul-right, suc-mul}
 use native.Mathlib.Numerals.{add-one}
 use native.Mathlib.Decide.{ℕ-discrete}
@@ -15,6 +15,7 @@ use Rattle.octets.specs.Bytes.{part, put, alike}
 use Rattle.octets.proofs.Laws.{length-part, put-put, part-put-before, part-put-after, part-all}
 use Rattle.octets.proofs.Meaning.{put-whole, alike-append, part-add}
 use Rattle.sha256.specs.Sha256.{sha256}
+use Rattle.terms.proofs.Picks.{neither}
 use Rattle.fragments.specs.Fragments.{among, regenerated, Sources}
 use Rattle.fragments.proofs.Laws.{length-regenerated}
 use Rattle.record.specs.Record.{fragmentHash}
@@ -45,10 +46,6 @@ agrees-suc g d at n h =
     rw (m, part-add d at (32 * n) 32)
     (alike-append (crossMade g n) (fragmentHash [] (g n)) (part d at (32 * n)) (part d (at + 32 * n) 32) (length-cross g n ∙ sym (length-part d at (32 * n) (omega arith))))
 
-never : (t : Bool) → cond t false false ≡ false
-never true = refl
-never false = refl
-
 agrees-not : (g : ℕ → List ℕ) (d : List ℕ) (at i n : ℕ) → i < n → at + 32 * n ≤ length d
     → alike (fragmentHash [] (g i)) (part d (at + 32 * i) 32) ≡ false → agrees g d at n ≡ false
 agrees-not g d at i zero h k e = absurd (omega arith)
@@ -56,7 +53,7 @@ agrees-not g d at i (suc n) h k e =
     agrees-suc g d at n k ∙ go (ℕ-discrete i n) (λ l. agrees-not g d at i n l (omega arith) e)
   where
     go : Dec (i ≡ n) → (i < n → agrees g d at n ≡ false) → cond (agrees g d at n) (alike (fragmentHash [] (g n)) (part d (at + 32 * n) 32)) false ≡ false
-    go (yes q) more = let z : alike (fragmentHash [] (g n)) (part d (at + 32 * n) 32) ≡ false = rw q at e in rw z (never (agrees g d at n))
+    go (yes q) more = let z : alike (fragmentHash [] (g n)) (part d (at + 32 * n) 32) ≡ false = rw q at e in rw z (neither (agrees g d at n))
     go (no q) more = rw (more (omega arith))
 
 module _ (d : List ℕ) (h r f : ℕ) (qs : List ℕ) (a : ℕ) where
@@ -121,9 +118,6 @@ pub refill-more : (d d₀ x : List ℕ) (h r f : ℕ) (qs : List ℕ) (a k : ℕ
     → x ≡ refilled d₀ h r f qs a (k + 1)
 unfolding refilled
 refill-more d d₀ x h r f qs a k e g = g ∙ rw (add-one, e)
-
-pub slot-room : (i n r e : ℕ) → i < n → n * r ≤ e → i * r + r ≤ e
-slot-room i n r e h k = let q : suc i * r ≤ n * r = mul-le-mul-right r h in omega (arith, suc-mul i r)
 
 -- the first f bytes of the room for one fragment
 pub scratch-length : (f : ℕ) → f ≤ 1024 → length (take {A = ℕ} f (replicate 1024 0)) ≡ f

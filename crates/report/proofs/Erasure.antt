@@ -3,15 +3,15 @@
 use Prim.Native.Nat.{ℕ, zero, suc, _+_, _*_, _≤_, _<_}
 use mathlib.Core.Path.{_≡_, refl, sym, ap, _∙_}
 use mathlib.Core.Bool.{Bool, true, false, cond}
-use mathlib.Core.List.{List, [], _∷_, _++_, append-nil}
+use mathlib.Core.List.{List, [], _∷_, _++_}
 use native.Mathlib.Nat.{zero-mul, suc-mul, zero-add}
 use native.Mathlib.Decide.{ℕ-discrete}
 use native.Mathlib.Omega.{arith}
 use borrow.Author.Tests.{eq-eqb, ne-eqb, eqb-true}
 use lib.Dec.{eqb}
-use lib.ListN.{length, getD, length-append, drop-of-length-le}
+use lib.ListN.{length, getD, length-append}
 use Rattle.octets.specs.Bytes.{part, over}
-use Rattle.octets.proofs.Meaning.{over-more, getD-part}
+use Rattle.octets.proofs.Meaning.{over-more, getD-part, over-whole}
 use Rattle.terms.proofs.Rungs.{clash}
 use Rattle.terms.specs.Terms.{recordLength}
 use Rattle.terms.specs.declared.Plan.{Plan}
@@ -20,11 +20,11 @@ use Rattle.fragments.proofs.Lists.{tabulate-ext}
 use Rattle.fragments.proofs.Interp.{all-map, value-ext}
 use Rattle.record.specs.Desk.{fragmentIn}
 use Rattle.record.proofs.Records.{fragment-at}
+use Rattle.recover.proofs.Filled.{each-source}
 use Rattle.report.specs.Triple.{Message, each, listed, strung}
 use Rattle.report.specs.Figure3.{of-first-triple}
 use Rattle.report.specs.Ours.{numbers, fragmentFrom, generatedBy, generated, decodedFrom, bearing}
 use Rattle.report.proofs.Lists.{each-append, take-listed, strung-same}
-use Rattle.report.proofs.Refilled.{all-among}
 
 -- ---- from the slots
 module _ (p : Plan) (d : List ℕ) where
@@ -67,19 +67,13 @@ module _ (p : Plan) (d : List ℕ) where
           tabulate-ext (p .f) (λ i. value qs (λ q. getD (fragmentFrom (each (bearing p d) qs) q) i 0) k)
           (λ i. value qs (λ q. getD d (40 + 32 * p .n + q * recordLength p + i) 0) k)
           (λ i hi. value-ext qs (λ q. getD (fragmentFrom (each (bearing p d) qs) q) i 0) (λ q. getD d (40 + 32 * p .n + q * recordLength p + i) 0) k
-          (all-map (λ q m. byte i hi q m) qs (all-among qs)))
+          (all-map (λ q m. byte i hi q m) qs (each-source (λ (q : ℕ). among q qs ≡ true) qs (λ q e. e))))
 
 -- ---- runs laid one after the other are the runs strung together
 length-strung : (g : ℕ → List ℕ) (f n : ℕ) → ((k : ℕ) → length (g k) ≡ f) → length (strung g n) ≡ n * f
 unfolding strung
 length-strung g f zero h = sym (zero-mul f)
 length-strung g f (suc n) h = length-append (strung g n) (g n) ∙ omega (arith, length-strung g f n h, h n, suc-mul n f)
-
-over-all : (x i : List ℕ) → length x ≡ length i → over x i ≡ x
-unfolding over
-over-all x i e =
-    let q : length i ≤ length x = omega (arith, e) in
-    ap (λ (l : List ℕ). x ++ l) (drop-of-length-le i q) ∙ append-nil x
 
 module _ (d : List ℕ) (h r f : ℕ) (qs : List ℕ) (size : (k : ℕ) → length (regenerated d h r f qs k) ≡ f) where
   laid-over : (n : ℕ) (i : List ℕ) → laid d h r f qs 0 f n i ≡ over (strung (regenerated d h r f qs) n) i
@@ -92,7 +86,7 @@ module _ (d : List ℕ) (h r f : ℕ) (qs : List ℕ) (size : (k : ℕ) → leng
 
   pub laid-is : (m : ℕ) (i : List ℕ) → length i ≡ m * f → laid d h r f qs 0 f m i ≡ strung (regenerated d h r f qs) m
   laid-is m i l =
-      laid-over m i ∙ over-all (strung (regenerated d h r f qs) m) i (length-strung (regenerated d h r f qs) f m size ∙ sym l)
+      laid-over m i ∙ over-whole (strung (regenerated d h r f qs) m) i (l ∙ sym (length-strung (regenerated d h r f qs) f m size))
 
 -- ---- N requests of one timestamp
 module _ (D : ℕ → List ℕ) (T : ℕ) (C : List ℕ) where

@@ -2,7 +2,7 @@
 -- refusal 12 (in-time-is), and S is in the set exactly where refusal 11 finds the node heard (heard-has, unheard-has). What fails one of them
 -- is left out (heard-hears, hash-hears, late-hears); what passes all is put in (puts), and a node that is marked then is in the set
 -- (record-after, first-after). DO_READ goes by the set, and not by its list (receives-same, gathers-more). Assumes nothing.
-use Prim.Native.Nat.{ℕ, zero, suc, _+_, _*_, _≤_, _<_}
+use Prim.Native.Nat.{ℕ, zero, suc, _*_, _≤_, _<_}
 use mathlib.Core.Path.{_≡_, refl, sym, ap, _∙_, subst}
 use mathlib.Core.Bool.{Bool, true, false, cond}
 use mathlib.Core.List.{List, [], _∷_, _++_}
@@ -17,6 +17,7 @@ use Rattle.terms.specs.Stamp.{stamp, time, then, stampNumber}
 use Rattle.terms.specs.Terms.{recordLength}
 use Rattle.terms.specs.declared.Plan.{Plan}
 use Rattle.terms.proofs.Rungs.{both, clash}
+use Rattle.terms.proofs.Picks.{either}
 use Rattle.record.specs.Record.{hashesOk}
 use Rattle.record.specs.Desk.{slotOf}
 use Rattle.rounds.specs.declared.Heard.{Heard}
@@ -25,6 +26,7 @@ use Rattle.rounds.specs.declared.Mark.{Mark}
 use Rattle.rounds.specs.declared.Bound.{Bound}
 use Rattle.rounds.specs.declared.Bound.the-variants.{Free, Under}
 use Rattle.rounds.specs.Rounds.{bitOf, markOf, underOf}
+use Rattle.rounds.proofs.Laws.{mark-set, mark-other}
 use Rattle.session.specs.Ranges.{boundOk}
 use Rattle.report.specs.Triple.{Message, In, Same}
 use Rattle.report.specs.Figure1.{initial}
@@ -33,7 +35,7 @@ use Rattle.report.specs.Ours.{family, tripleOf, responseOf, responses, c
 use Rattle.report.specs.Run.{Gathers}
 use Rattle.report.proofs.Lists.{in-append, in-split, same-more, same-trans}
 use Rattle.report.proofs.Triples.{stamp-low, validate-is}
-use Rattle.report.proofs.Marks.{mark-set, mark-other, slot-own, slot-other}
+use Rattle.report.proofs.Marks.{slot-own, slot-other}
 
 -- ---- the four tests
 module _ (p : Plan) (command : Command) (R : List Message) (x : Message) where
@@ -168,14 +170,10 @@ module _ (p : Plan) (ms : List Mark) (d : List ℕ) where
   heard-has k zero h e = absurd (omega arith)
   heard-has k (suc n) h e = has-append k (responses p ms d n) (responseOf p d n (markOf ms n)) ∙ go (ℕ-discrete k n) (λ l. heard-has k n l e)
     where
-      or-true : (t : Bool) → cond t true true ≡ true
-      or-true true = refl
-      or-true false = refl
-
       go : Dec (k ≡ n) → (k < n → has k (responses p ms d n) ≡ true) → cond (has k (responses p ms d n)) true (has k (responseOf p d n (markOf ms n))) ≡ true
       go (yes q) more =
           let w : has k (responseOf p d n (markOf ms n)) ≡ true = subst (λ (j : ℕ). has k (responseOf p d j (markOf ms j)) ≡ true) q (one-has k (markOf ms k) e) in
-          rw w (or-true (has k (responses p ms d n)))
+          rw w (either (λ (b : Bool). b ≡ true) (has k (responses p ms d n)) refl refl)
       go (no q) more = rw (more (omega arith))
 
 -- a mark is set and a desk handed back, in which the other nodes are as they were

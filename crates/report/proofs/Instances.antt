@@ -2,15 +2,13 @@
 -- time 1, whose hashes antt computes. A fresh book takes it (executed); a read that hears it is done with its timestamp in one round (read-so); a
 -- write that hears a time goes on to its write round (write-so). Assumes nothing.
 use Prim.{tt}
-use Prim.Native.Nat.{ℕ, zero, suc}
+use Prim.Native.Nat.{ℕ}
 use mathlib.Core.Path.{_≡_, refl, sym, ap, _∙_, subst}
-use mathlib.Core.Bool.{Bool, true, false, cond}
+use mathlib.Core.Bool.{true}
 use mathlib.Core.List.{List, [], _∷_}
 use mathlib.Core.Logic.{inl, inr}
-use borrow.Author.Tests.{ltb-true}
-use lib.Dec.{ltb, lit<}
 use lib.ListN.{replicate}
-use Rattle.octets.specs.Bytes.{part, put, over, num, numFrom, be, beOnto, alike, Octets}
+use Rattle.octets.specs.Bytes.{part, put, over, num, numFrom, be, beOnto, alike}
 use Rattle.sha256.specs.Sha256.{sha256, after, compressOf, addedOf, roundsOf, roundOf, T1, T2, scheduleOf, words, padding, bigEndian, K}
 use Rattle.terms.specs.Ladder.{first, all}
 use Rattle.terms.specs.Stamp.{stampAt, stampNumber, then}
@@ -19,7 +17,6 @@ use Rattle.terms.specs.declared.Ask.{Ask}
 use Rattle.terms.specs.declared.Plan.{Plan}
 use Rattle.terms.specs.declared.Member.the-variants.{Repairable}
 use Rattle.terms.specs.declared.Clients.the-variants.{Byzantine}
-use Rattle.terms.proofs.Rungs.{both}
 use Rattle.fragments.specs.Fragments.{among, regenerated}
 use Rattle.frame.specs.Frame.{kindOf, frame, goodRequest, shaped, bodyFits, forParty, oneOf, goodFrame, goodReply}
 use Rattle.record.specs.Record.{fragmentHash, hashesOk, timeZero}
@@ -52,6 +49,7 @@ use Rattle.report.specs.Triple.{Message, Same}
 use Rattle.report.specs.Figure1.{INITIALIZE}
 use Rattle.report.specs.Ours.{history, bearing, responseOf, responses}
 use Rattle.conduct.specs.Turns as turns
+use Rattle.conduct.proofs.Instances.{small, small-octets}
 use Rattle.report.specs.Run.{received, Reads, closing, closedOver, EachTells, AllClose, Apart, AllApart}
 use Rattle.report.specs.WriteRun.{Writes, untimed, EachWrites}
 use Rattle.report.proofs.Node.{Executes, write-acts, Added, fresh-run}
@@ -71,16 +69,6 @@ start-to-write = freshOf Write 1 Free ask
 rec : List ℕ
 rec =
     0 ∷ 0 ∷ 0 ∷ 0 ∷ 0 ∷ 0 ∷ 0 ∷ 1 ∷ 182 ∷ 213 ∷ 141 ∷ 250 ∷ 101 ∷ 71 ∷ 193 ∷ 235 ∷ 127 ∷ 13 ∷ 79 ∷ 253 ∷ 62 ∷ 59 ∷ 214 ∷ 69 ∷ 34 ∷ 19 ∷ 33 ∷ 14 ∷ 165 ∷ 27 ∷ 170 ∷ 112 ∷ 185 ∷ 124 ∷ 49 ∷ 240 ∷ 17 ∷ 24 ∷ 114 ∷ 21 ∷ 202 ∷ 53 ∷ 135 ∷ 88 ∷ 246 ∷ 210 ∷ 126 ∷ 108 ∷ 244 ∷ 82 ∷ 114 ∷ 147 ∷ 121 ∷ 119 ∷ 167 ∷ 72 ∷ 253 ∷ 136 ∷ 57 ∷ 29 ∷ 182 ∷ 121 ∷ 206 ∷ 218 ∷ 125 ∷ 199 ∷ 191 ∷ 31 ∷ 0 ∷ 94 ∷ 232 ∷ 121 ∷ 7 ∷ []
-
-small : List ℕ → Bool
-small [] = true
-small (x ∷ l) = cond (ltb x 256) (small l) false
-
-small-octets : (l : List ℕ) → small l ≡ true → Octets l
-unfolding small
-small-octets [] e i = lit< tt
-small-octets (x ∷ l) e zero = ltb-true _ _ (both (ltb x 256) _ e .0)
-small-octets (x ∷ l) e (suc i) = small-octets l (both (ltb x 256) _ e .1) i
 
 -- ---- a read
 opened : Opened

@@ -4,7 +4,6 @@ pub mod Triples
 pub mod Latest
 pub mod Node
 pub mod Sets
-pub mod Refilled
 pub mod Erasure
 pub mod Round
 pub mod Marks

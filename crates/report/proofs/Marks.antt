@@ -1,17 +1,15 @@
--- A mark that is set and a slot that is put: what the others keep (mark-other, slot-put); and that in a response set of records that passed
+-- Marks of which none is set, and a slot that is put: what the others keep (slot-own, slot-other); and that in a response set of records that passed
 -- their checks, and no two cross checksums with one hash, one timestamp is one cross checksum (one-cross). Assumes nothing.
 use Prim.Native.Nat.{ℕ, zero, suc, _+_, _*_, _≤_, _<_}
 use mathlib.Core.Path.{_≡_, refl, sym, ap, _∙_}
-use mathlib.Core.Bool.{Bool, true, false}
-use mathlib.Core.List.{List, [], _∷_}
+use mathlib.Core.Bool.{true}
+use mathlib.Core.List.{List, []}
 use mathlib.Core.Logic.{_⊎_, inl, inr}
 use native.Mathlib.Omega.{arith}
-use borrow.Author.Tests.{ltb-true, ltb-false, eqb-false}
-use lib.Dec.{ltb, eqb}
-use lib.ListN.{length, set, replicate}
+use lib.ListN.{length, replicate}
 use Rattle.octets.specs.Bytes.{part, put, alike, Octets}
-use Rattle.octets.proofs.Laws.{length-part, part-put-same, part-put-before, part-put-after}
-use Rattle.octets.proofs.Meaning.{alike-is}
+use Rattle.octets.proofs.Laws.{length-part, part-put-same, slot-fits}
+use Rattle.octets.proofs.Meaning.{alike-is, octets-part}
 use Rattle.sha256.specs.Sha256.{sha256}
 use Rattle.terms.proofs.Rungs.{both}
 use Rattle.terms.specs.Stamp.{stamp, time}
@@ -20,18 +18,18 @@ use Rattle.terms.specs.declared.Plan.{Plan}
 use Rattle.record.specs.Record.{crossOf, verifierOf, hashesOk}
 use Rattle.record.specs.Desk.{slotOf}
 use Rattle.record.proofs.Records.{record-length}
-use Rattle.record.proofs.Desks.{slot-fits}
 use Rattle.rounds.specs.declared.Heard.{Heard}
 use Rattle.rounds.specs.declared.Heard.the-variants.{Unheard, First, Record}
 use Rattle.rounds.specs.declared.Mark.{Mark}
-use Rattle.rounds.specs.Rounds.{bitOf, heardCount, markOf, unheard}
+use Rattle.rounds.specs.Rounds.{markOf, unheard}
+use Rattle.recover.proofs.Filled.{slot-stays}
 use Rattle.report.specs.Triple.{Message, In}
 use Rattle.report.specs.Figure1.{initial}
 use Rattle.report.specs.Ours.{verifierIn, bearing, responseOf, responses}
 use Rattle.report.specs.Decides.{OneCross}
 use Rattle.report.specs.Run.{Apart}
 use Rattle.report.proofs.Lists.{in-split}
-use Rattle.report.proofs.Triples.{octets-part, stamp-low, verifier-in}
+use Rattle.report.proofs.Triples.{stamp-low, verifier-in}
 
 -- ---- marks
 -- unheard marks
@@ -43,36 +41,6 @@ mark-none (suc n) (suc j) = mark-none n j
 pub no-mark : (n j : ℕ) → markOf (replicate n unheard) j ≡ Record → ⊥
 no-mark n j e = let u = mark-none n j in let z : _≡_ {A = ℕ} 0 1 = cc in omega arith
 
-pub mark-own : (ms : List Mark) (i : ℕ) (m : Mark) → markOf (set ms i m) i ≡ Record → m .is ≡ Record
-mark-own [] i m e = absurd (let z : _≡_ {A = ℕ} 0 1 = cc in omega arith)
-mark-own (x ∷ ms) zero m e = e
-mark-own (x ∷ ms) (suc i) m e = mark-own ms i m e
-
-pub mark-other : (ms : List Mark) (i k : ℕ) (m : Mark) → (k ≡ i → ⊥) → markOf (set ms i m) k ≡ markOf ms k
-mark-other [] i k m h = refl
-mark-other (x ∷ ms) zero zero m h = absurd (h refl)
-mark-other (x ∷ ms) zero (suc k) m h = refl
-mark-other (x ∷ ms) (suc i) zero m h = refl
-mark-other (x ∷ ms) (suc i) (suc k) m h = mark-other ms i k m (λ e. h (ap suc e))
-
-pub mark-set : (ms : List Mark) (i : ℕ) (m : Mark) → i < length ms → markOf (set ms i m) i ≡ m .is
-mark-set [] i m h = absurd (omega arith)
-mark-set (x ∷ ms) zero m h = refl
-mark-set (x ∷ ms) (suc i) m h = mark-set ms i m (omega arith)
-
--- one more is heard
-pub count-set : (ms : List Mark) (i : ℕ) (m : Mark) → i < length ms → markOf ms i ≡ Unheard → bitOf (m .is) ≡ 1 → heardCount (set ms i m) ≡ suc (heardCount ms)
-unfolding heardCount
-count-set [] i m h u e = absurd (omega arith)
-count-set (x ∷ ms) zero m h u e = let z : bitOf (x .is) ≡ 0 = ap bitOf u in omega (arith, z, e)
-count-set (x ∷ ms) (suc i) m h u e = ap (λ (n : ℕ). bitOf (x .is) + n) (count-set ms i m (omega arith) u e) ∙ omega arith
-
--- what refusal 11 leaves
-pub not-heard : (h : Heard) → eqb (bitOf h) 1 ≡ false → h ≡ Unheard
-not-heard Unheard e = refl
-not-heard First e = absurd (eqb-false 1 1 e refl)
-not-heard Record e = absurd (eqb-false 1 1 e refl)
-
 -- ---- slots of r bytes
 module _ (d x : List ℕ) (r n i : ℕ) (ld : length d ≡ n * r) (lx : length x ≡ r) (hi : i < n) where
   fits : i * r + r ≤ length d
@@ -82,13 +50,9 @@ module _ (d x : List ℕ) (r n i : ℕ) (ld : length d ≡ n * r) (lx : length x
   slot-own = part-put-same d (i * r) x r lx (omega (arith, fits))
 
   pub slot-other : (k : ℕ) → (k ≡ i → ⊥) → part (put d (i * r) x) (k * r) r ≡ part d (k * r) r
-  slot-other k h = go (ltb k i) refl
-    where
-      go : (t : Bool) → ltb k i ≡ t → part (put d (i * r) x) (k * r) r ≡ part d (k * r) r
-      go true e = part-put-before d (i * r) x (k * r) r (slot-fits k i r (ltb-true k i e)) (omega (arith, fits))
-      go false e =
-          let l : i < k = omega (arith, ltb-false k i e) in
-          part-put-after d (i * r) x (k * r) r (omega (arith, lx, slot-fits i k r l)) (omega (arith, lx, fits))
+  slot-other k h =
+      let z : k * r ≡ k * r + 0 = omega arith in
+      ap (λ (y : ℕ). part (put d (i * r) x) y r) z ∙ slot-stays d x r i k lx fits h 0 r (omega arith) ∙ ap (λ (y : ℕ). part d y r) (sym z)
 
 -- ---- the members of a response set
 -- a record that passed the checks of an accepted reply

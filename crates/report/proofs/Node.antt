@@ -16,9 +16,10 @@ use lib.Dec.{leb, eqb}
 use lib.ListN.{length, length-drop}
 use Rattle.octets.specs.Bytes.{part, be, over, Octets}
 use Rattle.octets.proofs.Laws.{length-part}
+use Rattle.octets.proofs.Meaning.{octets-part, octets-drop}
 use Rattle.terms.proofs.Rungs as rungs
 use Rattle.terms.proofs.Rungs.{both, clash}
-use Rattle.terms.specs.Ladder.{first, _and_}
+use Rattle.terms.specs.Ladder.{_and_}
 use Rattle.terms.specs.Stamp.{stamp, time}
 use Rattle.terms.specs.Terms.{planOk, recordLength}
 use Rattle.terms.specs.declared.Plan.{Plan}
@@ -44,12 +45,12 @@ use Rattle.conduct.proofs.Order as order
 use Rattle.conduct.proofs.One as one
 use Rattle.conduct.proofs.Node as calls
 use Rattle.conduct.proofs.Kept as keeps
-use Rattle.conduct.proofs.Ladders as ladders
+use Rattle.terms.proofs.Ladders as ladders
 use Rattle.report.specs.Triple.{Triple, each, In, Same}
 use Rattle.report.specs.Figure1.{initial, INITIALIZE, RECEIVE-TIME-REQUEST, VALIDATE, with-it, Written, RECEIVE-WRITE-REQUEST, RECEIVE-READ-LATEST, RECEIVE-READ-PREVIOUS}
 use Rattle.report.specs.Ours.{family, tripleOf, history, timeIn}
 use Rattle.report.specs.Run.{OfPlan, replies-to, received}
-use Rattle.report.proofs.Triples.{octets-part, octets-drop, stamp-low, time-in, time-none, validate-is}
+use Rattle.report.proofs.Triples.{stamp-low, time-in, time-none, validate-is}
 use Rattle.report.proofs.Lists.{same-more, same-trans}
 use Rattle.report.proofs.Latest.{time-of, latest-of, previous-of}
 
@@ -130,7 +131,7 @@ module _ (p : Plan) (f b y : List ℕ) (ob : Octets b) (of : Octets f) where
   unfolding hashFails
   validates r k =
       let n : frameNode f ≡ nodeOf b = request-is p (nodeOf b) f r .node-is in
-      ap not (validate-is p (nodeOf b) (bodyOf f) (write-body r k) (octets-drop f 15 of) ∙ ap (λ (S : ℕ). hashesOk p S (bodyOf f)) (sym n))
+      ap not (validate-is p (nodeOf b) (bodyOf f) (write-body r k) (octets-drop 15 f of) ∙ ap (λ (S : ℕ). hashesOk p S (bodyOf f)) (sym n))
       ∙ rw (eq-eqb (kindOf f) 3 k)
 
   module _ (n : ℕ) (b₂ y₂ : List ℕ) (c : NodeCall p f b y (Replied n) b₂ y₂) where
@@ -148,7 +149,7 @@ module _ (p : Plan) (f b y : List ℕ) (ob : Octets b) (of : Octets f) where
     bytes = ap (λ (o : Outcome). o .reply) (told .1)
 
     left : writes f ≡ false → b₂ ≡ b
-    left w = ap (λ (o : Outcome). o .book) (told .1) ∙ one.answered-book p f b y ∙ one.after-other p f b w
+    left w = ap (λ (o : Outcome). o .book) (told .1) ∙ one.answered-book p f b y ∙ nodes.after-other p f b w
 
     read-only : (k : ℕ) → kindOf f ≡ k → eqb k 3 ≡ false → b₂ ≡ b
     read-only k e h = left (ap (λ (j : ℕ). eqb j 3) e ∙ h)
@@ -324,7 +325,7 @@ module _ (p : Plan) (f b y : List ℕ) (ob : Octets b) (of : Octets f) (g : good
           }
       go false w =
           follows-still p b b₂ H g
-          (ap (λ (o : Outcome). o .book) (calls.replied-is p f b y n b₂ y₂ c .1) ∙ one.answered-book p f b y ∙ one.after-other p f b w) same
+          (ap (λ (o : Outcome). o .book) (calls.replied-is p f b y n b₂ y₂ c .1) ∙ one.answered-book p f b y ∙ nodes.after-other p f b w) same
 
 -- OVER ANY CALLS A NODE'S HISTORY IS THE ONE THAT FIGURE 1 HOLDS after the write requests that were answered
 pub node-run : (p : Plan) (b : List ℕ) (H : List Triple) (cs : List Call) → goodBook p b ≡ true → Same (history p b) H → History b cs → OfPlan p cs

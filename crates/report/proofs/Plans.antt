@@ -1,6 +1,6 @@
 -- Table 2 and equations (2) and (3): a plan is accepted exactly when it is within document 01's ranges and Table 2 holds of it
 -- (accepted-is, accepted-back), and the two thresholds are the report's (equation-2, equation-3). Assumes nothing.
-use Prim.Native.Nat.{ℕ, _-_, _≤_, _<_}
+use Prim.Native.Nat.{ℕ, _≤_, _<_}
 use mathlib.Core.Path.{_≡_, sym}
 use mathlib.Core.Bool.{true}
 use native.Mathlib.Omega.{arith}

@@ -1,7 +1,6 @@
 -- ONE CLOSED READ ROUND DECIDES AS FIGURE 3 (round-decides): candidate, classification, validation, repair, abort, next round, cut at W.
 -- Assumes nothing.
-use Prim.{tt}
-use Prim.Native.Nat.{ℕ, zero, suc, _+_, _-_, _*_, _≤_, _<_}
+use Prim.Native.Nat.{ℕ, _+_, _*_, _≤_, _<_}
 use mathlib.Core.Path.{_≡_, refl, sym, ap, ap₂, _∙_, subst}
 use mathlib.Core.Bool.{Bool, true, false, cond}
 use mathlib.Core.List.{List, [], _∷_}
@@ -11,8 +10,7 @@ use borrow.Author.Tests.{le-leb, lt-leb, leb-true, leb-false, ne-eqb}
 use lib.Dec.{leb}
 use lib.ListN.{length, getD, take}
 use Rattle.octets.specs.Bytes.{part, num, alike, Octets}
-use Rattle.octets.proofs.Laws.{part-part}
-use Rattle.octets.proofs.Meaning.{alike-is}
+use Rattle.octets.proofs.Laws.{part-part, slot-room, length-part, part-first, part-last}
 use Rattle.sha256.specs.Sha256.{sha256}
 use Rattle.terms.specs.Stamp.{stamp, time, stampAt, stampNumber}
 use Rattle.terms.specs.Terms.{planOk, recordLength, complete, incomplete, classOf, verdictOf, unsure, decided}
@@ -25,26 +23,27 @@ use Rattle.terms.specs.declared.Class.{Class}
 use Rattle.terms.specs.declared.Class.the-variants as class
 use Rattle.terms.specs.declared.Verdict.{Verdict}
 use Rattle.terms.specs.declared.Verdict.the-variants as verdict
-use Rattle.terms.proofs.Rungs.{clash}
 use Rattle.terms.proofs.Facts.{facts, is-complete, is-incomplete, is-unclassifiable, decided-is}
 use Rattle.terms.proofs.Stamps.{stamp-at-number}
+use Rattle.terms.proofs.Picks.{either}
 use Rattle.fragments.specs.Fragments.{All, regenerated, Sources}
-use Rattle.fragments.proofs.Interp.{all-map}
+use Rattle.fragments.proofs.Lists.{all-take, all-at}
 use Rattle.fragments.proofs.Laws.{length-regenerated}
 use Rattle.record.specs.Record.{crossOf, fragmentOf, fragmentHash}
 use Rattle.record.specs.Desk.{slotOf, fragmentIn, crossMade, row}
 use Rattle.record.proofs.Records.{record-length, cross-at}
-use Rattle.rounds.specs.declared.Heard.{Heard}
-use Rattle.rounds.specs.declared.Heard.the-variants.{Unheard, First, Record}
+use Rattle.rounds.specs.declared.Heard.the-variants.{Record}
 use Rattle.rounds.specs.declared.Lead.{Lead}
 use Rattle.rounds.specs.declared.Lead.the-variants.{Nobody, Node}
-use Rattle.rounds.specs.Rounds.{heardCount, markOf, restUnheard, slotStamp, leadOf, joinsOf, setOf, Closed, closeWith}
-use Rattle.rounds.proofs.Laws.{slot-room, lead-room}
+use Rattle.rounds.specs.Rounds.{heardCount, markOf, restUnheard, slotStamp, leadOf, setOf, Closed, closeWith}
+use Rattle.rounds.proofs.Laws.{lead-room}
 use Rattle.rounds.proofs.Closes.{candidate, no-candidate, members-are}
 use Rattle.recover.specs.Recover.{validates, recordFrom, refilled}
+use Rattle.recover.proofs.Filled.{length-filled, filled-record}
 use Rattle.session.specs.declared.Session.{Session}
 use Rattle.session.specs.Session.{replies, endedOf, storingOf, stillOpen, done, neverWritten}
 use Rattle.session.specs.Reader.{Outcome, outcome, headLength, trusted, sound, decoded, repaired as refill, failing, actOn, actFor, acted, closed}
+use Rattle.session.proofs.Closings.{Led, led, Lowest, lowest-are, heads-alike}
 use Rattle.report.specs.Triple.{Triple, Message, null, each, strung}
 use Rattle.report.specs.Figure2.{MAKE-CROSS-CHECKSUM, DO-WRITE}
 use Rattle.report.specs.Figure3.{READ-PREVIOUS, Decision, returned, repaired, ABORT, reading, ts-candidate, CandidateSet, CC-of, of-first-triple, VALIDATE-CANDIDATE-SET, repairs, choose, LOOP}
@@ -53,18 +52,7 @@ use Rattle.report.specs.Decides.{Repairs, Reads, Decides, OneCross}
 use Rattle.report.proofs.Lists.{take-each, length-each, strung-row, strung-same, listed-same}
 use Rattle.report.proofs.Triples.{stamp-low}
 use Rattle.report.proofs.Sets.{size-is, slot-stamp, max-is, all-first, heads-first, in-responses, set-is}
-use Rattle.report.proofs.Refilled as repair
 use Rattle.report.proofs.Erasure.{generated-is, laid-is, request, requests-decode}
-
-all-take : (P : ℕ → Type 0) (n : ℕ) (l : List ℕ) → All P l → All P (take n l)
-all-take P zero l a = tt
-all-take P (suc n) [] a = tt
-all-take P (suc n) (x ∷ l) a = (a .0, all-take P n l (a .1))
-
-all-at : (P : ℕ → Type 0) (l : List ℕ) → All P l → (k : ℕ) → k < length l → P (getD l k 0)
-all-at P [] a k h = absurd (omega arith)
-all-at P (x ∷ l) a zero h = a .0
-all-at P (x ∷ l) a (suc k) h = all-at P l (a .1) k (omega arith)
 
 abbrev message : ℕ → Triple → Message
 message k x = record { S = k; Response = x }
@@ -116,11 +104,7 @@ module _ (p : Plan) (s : Session) (d i : List ℕ) (u : Full p s d i) where
 
     valid-so : VALIDATE-CANDIDATE-SET (family p) set ≡ true
     unfolding VALIDATE-CANDIDATE-SET
-    valid-so = rw first-so (go (lies (p .clients)))
-      where
-        go : (t : Bool) → cond t true true ≡ true
-        go true = refl
-        go false = refl
+    valid-so = rw first-so (either (λ (b : Bool). b ≡ true) (lies (p .clients)) refl refl)
 
     first-decides : LOOP (family p) set ≡ returned 0 null
     unfolding decodedFrom
@@ -172,14 +156,11 @@ module _ (p : Plan) (s : Session) (d i : List ℕ) (u : Full p s d i) where
         (p .n) (omega arith)
 
     -- ---- what the set is known to be
-    joins-head : (y : ℕ) (m : Heard) → joinsOf d r h a y m ≡ true → part d (y * r) h ≡ part d (a * r) h
-    unfolding joinsOf
-    joins-head y Record j = alike-is _ _ j
-    joins-head y First j = absurd (clash (sym j))
-    joins-head y Unheard j = absurd (clash (sym j))
+    led-so : Led p s d a
+    led-so = led p s d a (unfold closeWith in ap (λ (l : Lead). close l .lead) e)
 
     heads : All (λ (q : ℕ). part d (q * r) h ≡ part d (a * r) h) Z
-    heads = all-map (λ y j. joins-head y (markOf (s .marks) y) j) Z (members-are (s .marks) d r h a (p .n) .joined)
+    heads = subst (λ (l : List ℕ). All (λ (q : ℕ). part d (q * r) h ≡ part d (a * r) h) l) (led-so .nodes-are) (heads-alike p s d a led-so)
 
     below : All (λ (q : ℕ). q < p .n) qs
     below = all-take (λ (q : ℕ). q < p .n) (p .m) Z (members-are (s .marks) d r h a (p .n) .below)
@@ -256,19 +237,31 @@ module _ (p : Plan) (s : Session) (d i : List ℕ) (u : Full p s d i) where
     source-heads : All (λ (q : ℕ). part d (q * r) h ≡ part d (a * r) h) qs
     source-heads = all-take (λ (q : ℕ). part d (q * r) h ≡ part d (a * r) h) (p .m) Z heads
 
-    up-to : repair.Upto d h r (p .f) (p .n) qs a (u .desk) parts ha src below source-heads (p .n) filled
-    up-to = repair.upto d h r (p .f) (p .n) qs a (u .desk) parts ha src below source-heads (p .n) (omega arith)
+    some : p .m ≤ length Z → 1 ≤ length Z
+    some z = omega (arith, facts p (u .plan) .some-needed, z)
+
+    -- the m lowest, where there are as many
+    lowest-so : p .m ≤ length Z → Lowest p s d a qs
+    lowest-so z =
+        subst (λ (l : List ℕ). Lowest p s d a (take (p .m) l)) (led-so .nodes-are)
+        (lowest-are p s d a led-so (u .plan) (omega (arith, ap length (led-so .nodes-are), z)))
+
+    long-head : length (part d (a * r) h) ≡ h
+    long-head = length-part d (a * r) h (omega (arith, slot-room a (p .n) r (length d) ha (omega (arith, u .desk)), record-length p))
 
     rec-head : (k : ℕ) → part (rec k) 0 h ≡ part d (a * r) h
-    rec-head = repair.rec-head d h r (p .f) (p .n) qs a (u .desk) parts ha src below source-heads
+    rec-head k = part-first (part d (a * r) h) (regenerated d h r (p .f) qs k) h long-head
 
     rec-rest : (k : ℕ) → part (rec k) h (p .f) ≡ regenerated d h r (p .f) qs k
-    rec-rest = repair.rec-rest d h r (p .f) (p .n) qs a (u .desk) parts ha src below source-heads
+    rec-rest k = part-last (part d (a * r) h) (regenerated d h r (p .f) qs k) h (p .f) long-head (length-regenerated d h r (p .f) qs k src)
 
     -- slot k is the request to node k
-    sends-one : 1 ≤ length Z → (k : ℕ) → k < p .n → bearing p filled k ≡ request (generated p cs) T (CC-of cs) k
+    sends-one : p .m ≤ length Z → (k : ℕ) → k < p .n → bearing p filled k ≡ request (generated p cs) T (CC-of cs) k
     unfolding slotStamp
-    sends-one z k hk = ap (λ (x : List ℕ). message k (tripleOf p x)) (up-to .done k hk) ∙ (λ j. message k (record { ts = stamped j; D = body j; CC = crossed j }))
+    sends-one z k hk =
+        ap (λ (x : List ℕ). message k (tripleOf p x))
+        (filled-record d h r (p .f) qs a (p .n) parts (omega (arith, u .desk)) below (lowest-so z .leader) source-heads k hk)
+        ∙ (λ j. message k (record { ts = stamped j; D = body j; CC = crossed j }))
       where
         stamped : stamp (rec k) ≡ T
         stamped = ap num (sym (head-stamp (rec k) 0) ∙ ap (λ (x : List ℕ). part x 0 40) (rec-head k) ∙ head-stamp d (a * r))
@@ -277,9 +270,9 @@ module _ (p : Plan) (s : Session) (d i : List ℕ) (u : Full p s d i) where
         body = rec-rest k ∙ sym (generated-so k)
 
         crossed : crossOf p (rec k) ≡ CC-of cs
-        crossed = sym (head-cross (rec k) 0) ∙ ap (λ (x : List ℕ). part x 40 (32 * p .n)) (rec-head k) ∙ sym cross-a ∙ sym (cross-so Z z heads)
+        crossed = sym (head-cross (rec k) 0) ∙ ap (λ (x : List ℕ). part x 40 (32 * p .n)) (rec-head k) ∙ sym cross-a ∙ sym (cross-so Z (some z) heads)
 
-    repair-is : 1 ≤ length Z → Repairs p s i (outcome stillOpen (storingOf s (stampAt d (a * r))) filled i)
+    repair-is : p .m ≤ length Z → Repairs p s i (outcome stillOpen (storingOf s (stampAt d (a * r))) filled i)
         (repairs (family p) cs T) T (decodedFrom p (repairs (family p) cs T))
     unfolding DO-WRITE
     repair-is z =
@@ -293,7 +286,7 @@ module _ (p : Plan) (s : Session) (d i : List ℕ) (u : Full p s d i) where
           holds =
               strung-same (fragmentIn p filled) (generated p cs) (p .m) (λ k hk. ap (λ (x : Message). x .Response .D) (sends-one z k (omega arith)))
               ∙ sym (requests-decode (generated p cs) T (CC-of cs) p low (f .needed-nodes));
-          size = up-to .size ∙ u .desk;
+          size = length-filled d h r (p .f) qs a (p .n) parts (omega (arith, u .desk)) below (lowest-so z .leader) ∙ u .desk;
         }
 
     -- ---- the next round, or the cut
@@ -331,10 +324,10 @@ module _ (p : Plan) (s : Session) (d i : List ℕ) (u : Full p s d i) where
             })
         go false v = rw v fails
 
-    half : 1 ≤ length Z → Goal verdict.Repair
+    half : p .m ≤ length Z → Goal verdict.Repair
         (cond valid (repaired (repairs (family p) cs T) T (decodedFrom p (repairs (family p) cs T))) (reading (READ-PREVIOUS T)))
     unfolding actOn closeWith refill
-    half z = go (sound p (close (Node a)) a d) (valid-is z)
+    half z = go (sound p (close (Node a)) a d) (valid-is (some z))
       where
         go : (t : Bool) → valid ≡ t → Decides p s d i
             (cond t (outcome stillOpen (storingOf s (stampAt d (a * r))) filled i) (failing p s (stampAt d (a * r)) d i))
@@ -351,10 +344,10 @@ module _ (p : Plan) (s : Session) (d i : List ℕ) (u : Full p s d i) where
     verdict-is : (x : Class) → x ≡ classOf (complete p) (incomplete p) size → verdictOf (p .member) x ≡ decided (p .member) (complete p) (incomplete p) size
     verdict-is x c = decided-is (p .member) (p .member) (complete p) (incomplete p) size x x c refl refl
 
-    unsure-goal : (m : Member) → 1 ≤ size → Goal (unsure m)
+    unsure-goal : (m : Member) → (m ≡ Repairable → p .m ≤ size) → Goal (unsure m)
         (cond (repairable m) (cond valid (repaired (repairs (family p) cs T) T (decodedFrom p (repairs (family p) cs T))) (reading (READ-PREVIOUS T))) ABORT)
     unfolding actOn
-    unsure-goal Repairable z = half z
+    unsure-goal Repairable z = half (z refl)
     unsure-goal NonRepair z = refl
 
     by-size : Goal (decided (p .member) (complete p) (incomplete p) size) chosen
@@ -374,7 +367,7 @@ module _ (p : Plan) (s : Session) (d i : List ℕ) (u : Full p s d i) where
             let f = facts p (u .plan) in
             let l = leb-true (incomplete p) size b in
             subst (λ (x : Verdict). Goal x (cond (repairable (p .member)) (cond valid (repaired (repairs (family p) cs T) T (decodedFrom p (repairs (family p) cs T))) (reading (READ-PREVIOUS T))) ABORT))
-            (verdict-is class.Unclassifiable (is-unclassifiable (complete p) (incomplete p) size (leb-false (complete p) size c) l)) (unsure-goal (p .member) (omega arith))
+            (verdict-is class.Unclassifiable (is-unclassifiable (complete p) (incomplete p) size (leb-false (complete p) size c) l)) (unsure-goal (p .member) (λ q. omega (arith, f .low-decodes q, l)))
         go false c false b =
             subst (λ (x : Verdict). Goal x (reading (READ-PREVIOUS T)))
             (verdict-is class.Incomplete (is-incomplete (complete p) (incomplete p) size (leb-false (complete p) size c) (leb-false (incomplete p) size b)))

@@ -1,7 +1,7 @@
 -- A WHOLE READ IS FIGURE 3'S. Over any calls from opening, each answer is what READ says of the response sets of the rounds closed so far
 -- (read-run, opened-read), and each accepted reply is a turn of DO_READ's loop (record-hears, first-hears). Assumes nothing.
 use Prim.{Unit, tt}
-use Prim.Native.Nat.{ℕ, zero, suc, _+_, _-_, _*_, _≤_, _<_}
+use Prim.Native.Nat.{ℕ, zero, suc, _+_, _*_, _≤_, _<_}
 use mathlib.Core.Path.{_≡_, refl, sym, ap, _∙_, subst}
 use mathlib.Core.Bool.{Bool, true, false, cond}
 use mathlib.Core.List.{List, [], _∷_}
@@ -10,9 +10,10 @@ use native.Mathlib.Decide.{ℕ-discrete}
 use native.Mathlib.Omega.{arith}
 use borrow.Author.Tests.{ltb-true, ltb-false, leb-true, leb-false, eqb-true, eqb-false, lt-ltb, not-false}
 use lib.Dec.{ltb, leb, eqb}
-use lib.ListN.{length, set, length-drop, length-set}
+use lib.ListN.{length, set, length-set}
 use Rattle.octets.specs.Bytes.{part, put, Octets}
-use Rattle.octets.proofs.Laws.{length-put}
+use Rattle.octets.proofs.Laws.{length-put, slot-fits}
+use Rattle.octets.proofs.Meaning.{octets-drop, octets-put}
 use Rattle.terms.specs.Ladder.{first, _and_}
 use Rattle.terms.specs.Stamp.{stamp, time, stampNumber}
 use Rattle.terms.specs.Terms.{planOk, recordLength}
@@ -28,11 +29,11 @@ use Rattle.frame.proofs.Frames.{reply-is}
 use Rattle.record.specs.Record.{hashesOk, timeZero}
 use Rattle.record.specs.Desk.{slotOf, fragmentIn}
 use Rattle.record.proofs.Records.{record-length}
-use Rattle.record.proofs.Desks.{slot-fits}
 use Rattle.rounds.specs.declared.Heard.the-variants.{Unheard, First, Record}
 use Rattle.rounds.specs.declared.Mark.{Mark}
 use Rattle.rounds.specs.declared.Bound.the-variants.{Free}
 use Rattle.rounds.specs.Rounds.{bitOf, heardCount, unheards, markOf, restUnheard, underOf}
+use Rattle.rounds.proofs.Laws.{not-heard, count-set, mark-own, mark-other}
 use Rattle.session.specs.declared.Session.{Session}
 use Rattle.session.specs.declared.Stage.{Stage}
 use Rattle.session.specs.declared.Stage.the-variants.{Asking, Storing, Ended}
@@ -42,13 +43,13 @@ use Rattle.session.specs.Ranges.{inRange}
 use Rattle.session.specs.Reply.{bears, lengthsOk, isHeard, replyLadder, recordLadder}
 use Rattle.session.specs.Reader.{Outcome, outcome, collected, acted, closed, settled, heard, stored, accepted, readReply}
 use Rattle.session.proofs.Checks.{none-applies, outcome-all, first-map}
-use Rattle.session.proofs.Made.{StandingIs, OpenIs, in-range-facts, rest-set}
-use Rattle.session.proofs.Rules.{Lengths, lengths-are}
+use Rattle.session.proofs.Made.{OpenIs, in-range-facts, rest-set}
+use Rattle.session.proofs.Rules.{Lengths, lengths-are, StandingIs}
 use Rattle.session.proofs.Openings.{accepted-session}
 use Rattle.session.specs.declared.opening.Opened.{Opened}
 use Rattle.session.specs.declared.opening.Opening.the-variants.{Accepted}
 use Rattle.session.specs.Opening.{OpenCall, freshOf}
-use Rattle.session.proofs.Readers.{bears-is}
+use Rattle.session.proofs.Slots.{long-body}
 use Rattle.report.specs.Triple.{Message, Same, strung}
 use Rattle.report.specs.Figure3.{READ-LATEST, READ-PREVIOUS, Decision, returned, repaired, ABORT, reading, receives, LOOP, READ, goes-on}
 use Rattle.report.specs.Ours.{family, responses, sending, commandOf}
@@ -57,12 +58,11 @@ use Rattle.report.specs.Run as run
 use Rattle.conduct.specs.Turns as turns
 use Rattle.report.specs.Run.{closedBy, closing, closedOver, Tells, Repairing, EachTells, Gathers, AllClose, AllApart}
 use Rattle.report.proofs.Lists.{strung-same}
-use Rattle.report.proofs.Triples.{octets-drop, octets-put}
 use Rattle.report.proofs.Sets.{size-is}
 use Rattle.report.proofs.Hears.{puts, said-by, said-first, valid-record, valid-first, in-time-is, first-in-time, unheard-has, record-after, first-after, gathers-more, gathers-none}
 use Rattle.report.proofs.Erasure.{fragment-place, laid-is}
 use Rattle.report.proofs.Round.{Full, round-decides}
-use Rattle.report.proofs.Marks.{no-mark, mark-none, none-heard, not-heard, count-set, mark-own, mark-other, slot-own, slot-other, Passed, one-cross}
+use Rattle.report.proofs.Marks.{no-mark, mark-none, none-heard, slot-own, slot-other, Passed, one-cross}
 
 -- ---- what is known between two calls: by the stage, of the session, its desk and the rounds closed so far
 -- in a read round: READ is to send what the bound says
@@ -310,10 +310,6 @@ module _ (p : Plan) (s : Session) (f d i : List ℕ) (sets : List (List Message)
       let w = ltb-true (heardCount (s .marks)) (replies p) (ranges .1 .few) in
       omega (arith, c, w)
 
-  -- the body of a record
-  body-length : bears p f ≡ true → length (bodyOf f) ≡ recordLength p
-  body-length b = let l = bears-is p f true (sym b) refl .1 in simp length-drop (omega arith)
-
   body-passed : bears p f ≡ true → Passed p node (bodyOf f)
   unfolding timeZero
   body-passed b =
@@ -336,10 +332,10 @@ module _ (p : Plan) (s : Session) (f d i : List ℕ) (sets : List (List Message)
     record-hears b =
         subst (Same (responses p (set (s .marks) node (record { is = Record })) (put d (node * recordLength p) (bodyOf f)) (p .n)))
         (sym (puts p (commandOf (s .bound)) before (said-by p node (bodyOf f))
-        (valid-record p node (bodyOf f) (omega (arith, body-length b, record-length p)) (octets-drop f 15 of) (body-passed b .timed) ∙ body-passed b .hashes)
+        (valid-record p node (bodyOf f) (omega (arith, long-body p f b, record-length p)) (octets-drop 15 f of) (body-passed b .timed) ∙ body-passed b .hashes)
         (in-time-is (s .bound) (stamp (bodyOf f)) ∙ not-false (underOf (s .bound) (stamp (bodyOf f))) (rw b at (n₂ .1 .1 .0)))
         (unheard-has p (s .marks) d node (p .n) unmarked)))
-        (record-after p (s .marks) d node node-low inside unmarked (bodyOf f) (k .desk) (body-length b))
+        (record-after p (s .marks) d node node-low inside unmarked (bodyOf f) (k .desk) (long-body p f b))
 
     pub first-hears : Same (responses p (set (s .marks) node (record { is = First })) d (p .n))
         (receives (family p) (commandOf (s .bound)) before (said-first node))
@@ -379,8 +375,8 @@ module _ (p : Plan) (s : Session) (f d i : List ℕ) (sets : List (List Message)
         record {
           decision = k .decision;
           rounds = k .rounds;
-          desk = length-put d (node * recordLength p) (bodyOf f) (omega (arith, body-length b, slot-fits node (p .n) (recordLength p) node-low, k .desk)) ∙ k .desk;
-          octets = octets-put d (node * recordLength p) (bodyOf f) (k .octets) (octets-drop f 15 of);
+          desk = length-put d (node * recordLength p) (bodyOf f) (omega (arith, long-body p f b, slot-fits node (p .n) (recordLength p) node-low, k .desk)) ∙ k .desk;
+          octets = octets-put d (node * recordLength p) (bodyOf f) (k .octets) (octets-drop 15 f of);
           size = length-set (s .marks) node (record { is = Record }) ∙ k .size;
           gathered = gathers-more p (commandOf (s .bound)) (said-by p node (bodyOf f)) (responses p (s .marks) d (p .n)) _ (k .gathered) (record-hears k b);
           passed = λ j h m. go j h m (ℕ-discrete j node);
@@ -389,9 +385,9 @@ module _ (p : Plan) (s : Session) (f d i : List ℕ) (sets : List (List Message)
         go : (j : ℕ) → j < p .n → markOf (set (s .marks) node (record { is = Record })) j ≡ Record → Dec (j ≡ node) → Passed p j (slotOf p desk-after j)
         go j h m (yes q) =
             subst (λ (x : ℕ). Passed p x (slotOf p desk-after x)) (sym q)
-            (subst (Passed p node) (sym (slot-own d (bodyOf f) (recordLength p) (p .n) node (k .desk) (body-length b) node-low)) (body-passed b))
+            (subst (Passed p node) (sym (slot-own d (bodyOf f) (recordLength p) (p .n) node (k .desk) (long-body p f b) node-low)) (body-passed b))
         go j h m (no q) =
-            subst (Passed p j) (sym (slot-other d (bodyOf f) (recordLength p) (p .n) node (k .desk) (body-length b) node-low j q))
+            subst (Passed p j) (sym (slot-other d (bodyOf f) (recordLength p) (p .n) node (k .desk) (long-body p f b) node-low j q))
             (k .passed j h (sym (mark-other (s .marks) node j (record { is = Record }) q) ∙ m))
 
   round-high : s .round ≤ p .w

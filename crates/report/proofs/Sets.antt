@@ -12,7 +12,7 @@ use borrow.Author.Tests.{ne-eqb, eqb-true, eqb-false}
 use lib.Dec.{ltb, eqb}
 use lib.ListN.{length, take, drop, length-append}
 use Rattle.octets.specs.Bytes.{part, num, be, alike, Octets}
-use Rattle.octets.proofs.Laws.{part-part}
+use Rattle.octets.proofs.Laws.{part-part, slot-room}
 use Rattle.octets.proofs.Meaning.{part-add, be-part, is-alike, not-alike}
 use Rattle.terms.proofs.Rungs.{clash}
 use Rattle.terms.specs.Stamp.{stamp}
@@ -27,7 +27,6 @@ use Rattle.rounds.specs.declared.Mark.{Mark}
 use Rattle.rounds.specs.declared.Lead.{Lead}
 use Rattle.rounds.specs.declared.Lead.the-variants.{Nobody, Node}
 use Rattle.rounds.specs.Rounds.{bitOf, heardCount, markOf, slotStamp, aheadOf, stepOf, leadOf, joinsOf, setOf, every, isUnheard}
-use Rattle.rounds.proofs.Laws.{slot-room}
 use Rattle.report.specs.Triple.{Message, those, each, larger, MAX, In}
 use Rattle.report.specs.Figure3.{of-first-triple}
 use Rattle.report.specs.Ours.{bearing, responseOf, responses}

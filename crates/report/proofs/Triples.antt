@@ -1,17 +1,15 @@
 -- A record as a triple: its bytes, the first triple, its timestamp's parts, its validation. Assumes nothing.
-use Prim.{tt}
-use Prim.Native.Nat.{ℕ, zero, suc, _+_, _*_, _^_, _≤_, _<_}
+use Prim.Native.Nat.{ℕ, _+_, _*_, _^_, _≤_}
 use mathlib.Core.Path.{_≡_, refl, ap, _∙_}
 use mathlib.Core.Bool.{Bool, true, false, cond, not}
-use mathlib.Core.List.{List, [], _∷_, _++_}
+use mathlib.Core.List.{List, []}
 use native.Mathlib.Nat.{mul-le-mul-right, one-le-pow}
 use native.Mathlib.Omega.{arith}
-use lib.Dec.{lit<}
 use lib.ListN.{length, take, drop}
-use lib.Seq.{take-nil, drop-nil, take-take, getD-drop}
-use Rattle.octets.specs.Bytes.{part, put, num, numFrom, be, beOnto, alike, Octets}
+use lib.Seq.{take-nil, drop-nil, take-take}
+use Rattle.octets.specs.Bytes.{part, num, numFrom, be, beOnto, alike, Octets}
 use Rattle.octets.proofs.Laws.{length-part, part-part}
-use Rattle.octets.proofs.Meaning.{Bytes, bytes-part, bytes-all, num-append, part-add, be-part}
+use Rattle.octets.proofs.Meaning.{num-append, part-add, be-part}
 use Rattle.sha256.specs.Sha256.{sha256}
 use Rattle.terms.specs.Ladder.{_and_, _or_}
 use Rattle.terms.specs.Stamp.{stamp, time}
@@ -20,34 +18,6 @@ use Rattle.frame.proofs.Frames.{body-is}
 use Rattle.record.specs.Record.{crossOf, fragmentOf, verifierOf, entryOf, fragmentHash, hashesOk}
 use Rattle.report.specs.Figure1.{initial, VALIDATE}
 use Rattle.report.specs.Ours.{family, tripleOf, timeIn, verifierIn}
-
--- ---- a part of bytes is bytes
-bytes-octets : (l : List ℕ) → Bytes l → Octets l
-bytes-octets [] b i = lit< tt
-bytes-octets (x ∷ l) b zero = b .0
-bytes-octets (x ∷ l) b (suc i) = bytes-octets l (b .1) i
-
-pub octets-part : (l : List ℕ) (at n : ℕ) → Octets l → Octets (part l at n)
-octets-part l at n o = bytes-octets (part l at n) (bytes-part l at n (bytes-all l o))
-
-pub octets-drop : (l : List ℕ) (at : ℕ) → Octets l → Octets (drop at l)
-octets-drop l at o i = rw getD-drop (o (at + i))
-
-octets-take : (n : ℕ) (l : List ℕ) → Octets l → Octets (take n l)
-octets-take zero l o i = lit< tt
-octets-take (suc n) [] o i = lit< tt
-octets-take (suc n) (x ∷ l) o zero = o 0
-octets-take (suc n) (x ∷ l) o (suc i) = octets-take n l (λ j. o (suc j)) i
-
-octets-append : (l m : List ℕ) → Octets l → Octets m → Octets (l ++ m)
-octets-append [] m o q i = q i
-octets-append (x ∷ l) m o q zero = o 0
-octets-append (x ∷ l) m o q (suc i) = octets-append l m (λ j. o (suc j)) q i
-
-pub octets-put : (l : List ℕ) (at : ℕ) (x : List ℕ) → Octets l → Octets x → Octets (put l at x)
-unfolding put
-octets-put l at x o q =
-    octets-append (take at l) (x ++ drop (at + length x) l) (octets-take at l o) (octets-append x (drop (at + length x) l) q (octets-drop l (at + length x) o))
 
 -- ---- the first triple is the record of no bytes
 part-none : (at n : ℕ) → part [] at n ≡ []

@@ -1,7 +1,7 @@
 -- A WHOLE WRITE IS FIGURE 2'S. Over any calls from opening, the write round sends what WRITE sends for the times of the time round and the
 -- item, and done bears WRITE's timestamp (write-run, opened-write). Assumes nothing.
 use Prim.{Unit, tt}
-use Prim.Native.Nat.{ℕ, suc, _+_, _-_, _*_, _≤_, _<_}
+use Prim.Native.Nat.{ℕ, suc, _+_, _*_, _≤_, _<_}
 use mathlib.Core.Path.{_≡_, refl, sym, ap, _∙_, subst}
 use mathlib.Core.Bool.{Bool, true, false, cond, not}
 use mathlib.Core.List.{List, [], _∷_, _++_, append-nil, append-assoc}
@@ -14,14 +14,14 @@ use Rattle.octets.proofs.Laws.{length-be, part-all, part-middle}
 use Rattle.sha256.specs.Sha256.{sha256}
 use Rattle.sha256.proofs.Laws.{sha256-length}
 use Rattle.terms.specs.Ladder.{first, _and_}
-use Rattle.terms.specs.Stamp.{stamp, time, stampNumber}
+use Rattle.terms.specs.Stamp.{stamp, time, stampNumber, top}
 use Rattle.terms.specs.declared.Plan.{Plan}
 use Rattle.terms.specs.declared.Ask.{Ask}
 use Rattle.terms.proofs.Rungs.{None, both, clash}
 use Rattle.terms.proofs.Plans.{plan-is}
 use Rattle.terms.proofs.Stamps.{stamp-at-number}
-use Rattle.fragments.specs.Fragments.{fragment, from, Sources}
-use Rattle.fragments.proofs.Laws.{fragment-is, length-regenerated, length-from, getD-from, run-fits}
+use Rattle.fragments.specs.Fragments.{fragment}
+use Rattle.fragments.proofs.Theorems.{length-fragment}
 use Rattle.record.specs.Record.{crossOf, fragmentOf, fragmentHash}
 use Rattle.record.specs.Desk.{slotOf, crossMade, stampMade}
 use Rattle.record.proofs.Desks.{length-cross}
@@ -29,6 +29,7 @@ use Rattle.frame.specs.Frame.{frameNode, bodyOf}
 use Rattle.rounds.specs.declared.Heard.the-variants.{Unheard, Record}
 use Rattle.rounds.specs.declared.Bound.the-variants.{Free}
 use Rattle.rounds.specs.Rounds.{heardCount, markOf}
+use Rattle.rounds.proofs.Laws.{not-heard, count-set}
 use Rattle.session.specs.declared.Session.{Session}
 use Rattle.session.specs.declared.Stage.{Stage}
 use Rattle.session.specs.declared.Stage.the-variants.{Asking, Storing, Ended}
@@ -50,7 +51,6 @@ use Rattle.report.specs.Ours.{family, stampedAs, bearing, sending}
 use Rattle.conduct.specs.Turns as turns
 use Rattle.report.specs.WriteRun.{Writes, Timed, untimed, timing, Wrote, Sending, EachWrites}
 use Rattle.report.proofs.Lists.{strung-row, listed-same}
-use Rattle.report.proofs.Marks.{not-heard, count-set}
 
 -- ---- the records of an item at a time are what DO_WRITE sends
 module _ (p : Plan) (t : ℕ) (i : List ℕ) (l : length i ≡ p .m * p .f) where
@@ -80,14 +80,6 @@ module _ (p : Plan) (t : ℕ) (i : List ℕ) (l : length i ≡ p .m * p .f) wher
       stamp-at-number bytes 0 (omega (arith, length-bytes))
       ∙ ap num (ap (part bytes 0) (sym length-bytes) ∙ part-all bytes) ∙ bytes-are
 
-  length-run : (k : ℕ) → length (fragment (p .m) (p .f) i k) ≡ p .f
-  length-run k = ap length (fragment-is (p .m) (p .f) i k) ∙ length-regenerated i 0 (p .f) (p .f) (from 0 (p .m)) k runs
-    where
-      runs : Sources i 0 (p .f) (p .f) (from 0 (p .m))
-      runs j h =
-          let z : j < p .m = omega (arith, length-from 0 (p .m)) in
-          rw (getD-from 0 (p .m) j z) (omega (arith, run-fits (p .m) (p .f) j z))
-
   length-crossed : length (crossFor p i) ≡ 32 * p .n
   unfolding crossFor
   length-crossed = length-cross (fragment (p .m) (p .f) i) (p .n)
@@ -114,7 +106,7 @@ module _ (p : Plan) (t : ℕ) (i : List ℕ) (l : length i ≡ p .m * p .f) wher
       body =
           part-middle (slotOf p (recordsFor p t i) k) (bytes ++ crossFor p i) (fragment (p .m) (p .f) i k) [] (40 + 32 * p .n) (p .f)
           (is ∙ sym (append-assoc bytes (crossFor p i) (fragment (p .m) (p .f) i k)) ∙ ap (λ (y : List ℕ). (bytes ++ crossFor p i) ++ y) (sym (append-nil (fragment (p .m) (p .f) i k))))
-          (length-append bytes (crossFor p i) ∙ omega (arith, length-bytes, length-crossed)) (length-run k)
+          (length-append bytes (crossFor p i) ∙ omega (arith, length-bytes, length-crossed)) (length-fragment (p .m) (p .f) i l k)
 
   pub sends-are : sending p (recordsFor p t i) ≡ DO-WRITE (family p) (fragment (p .m) (p .f) i) ts CC
   unfolding DO-WRITE
@@ -160,12 +152,12 @@ module _ (p : Plan) (s : Session) (d i : List ℕ) (ts : List ℕ) (st : s .stag
 
     time-ends : replies p ≤ heardCount (s .marks) → Right p (timeEnd p s d i) with-item
     unfolding timeEnd
-    time-ends l = go (eqb (s .greatest .0) 18446744073709551615) refl
+    time-ends l = go (eqb (s .greatest .0) top) refl
       where
-        go : (t : Bool) → eqb (s .greatest .0) 18446744073709551615 ≡ t
+        go : (t : Bool) → eqb (s .greatest .0) top ≡ t
             → Right p (cond t (leaves clockSpent (endedOf s) d)
             (leaves stillOpen (storingOf s (stampFor p (newTime (s .greatest .0)) i)) (recordsFor p (newTime (s .greatest .0)) i))) with-item
-        go true e = record { keeps = tt; wrote = sym (k .greatest) ∙ eqb-true (s .greatest .0) 18446744073709551615 e }
+        go true e = record { keeps = tt; wrote = sym (k .greatest) ∙ eqb-true (s .greatest .0) top e }
         go false e = record { keeps = (sending-so l, refl); wrote = tt }
 
     times-on : Right p (timeTurn p s d i) with-item

@@ -24,7 +24,6 @@ use Rattle.frame.specs.Frame.{frameNode, bodyOf}
 use Rattle.rounds.specs.declared.Heard.the-variants.{First, Record}
 use Rattle.rounds.specs.Rounds.{heardCount}
 use Rattle.session.specs.declared.Session.{Session}
-use Rattle.session.specs.declared.Took.{Took}
 use Rattle.session.specs.declared.Stage.the-variants.{Storing}
 use Rattle.session.specs.declared.Operation.the-variants.{Read}
 use Rattle.session.specs.Session.{isStoring, replies, markedOf, Said, refused, stillOpen, done, neverWritten, aborted, roundsSpent, clockSpent, saidOf}

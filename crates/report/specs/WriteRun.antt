@@ -12,7 +12,7 @@ use mathlib.Core.List.{List, [], _∷_}
 use lib.ListN.{length}
 use Rattle.octets.specs.Bytes.{Octets}
 use Rattle.terms.specs.Ladder.{first}
-use Rattle.terms.specs.Stamp.{time, stampNumber}
+use Rattle.terms.specs.Stamp.{time, stampNumber, top}
 use Rattle.terms.specs.declared.Plan.{Plan}
 use Rattle.frame.specs.Frame.{bodyOf}
 use Rattle.rounds.specs.Rounds.{heardCount}
@@ -55,7 +55,7 @@ Wrote p s (done ts rounds) w = (ts ≡ ts-written (family p) (w .Data) (w .Times
 Wrote p s (neverWritten rounds) w = ⊥
 Wrote p s (aborted rounds) w = ⊥
 Wrote p s (roundsSpent rounds) w = ⊥
-Wrote p s clockSpent w = MAX (w .Times) ≡ 18446744073709551615
+Wrote p s clockSpent w = MAX (w .Times) ≡ top
 
 -- in a write round: the time round had N-t replies, and the desk holds what DO_WRITE sends
 pub record Sending (p : Plan) (s : Session) (d : List ℕ) (w : Timed) : Type 0 where

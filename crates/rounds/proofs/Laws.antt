@@ -2,12 +2,12 @@
 use mathlib.Core.Path.{_≡_, refl, sym, ap, _∙_, subst}
 use mathlib.Core.Bool.{Bool, true, false, cond}
 use mathlib.Core.List.{List, [], _∷_, _++_}
-use Prim.Native.Nat.{ℕ, zero, suc, _+_, _-_, _*_, _≤_, _<_}
-use native.Mathlib.Nat.{mul-le-mul-right, suc-mul}
+use Prim.Native.Nat.{ℕ, zero, suc, _+_, _*_, _≤_, _<_}
 use native.Mathlib.Numerals.{add-one}
 use native.Mathlib.Decide.{ℕ-discrete}
 use native.Mathlib.Omega.{arith}
-use lib.ListN.{drop, drop-of-length-le, length, getD, take, length-set}
+use borrow.Author.Tests.{eqb-false}
+use lib.ListN.{drop, drop-of-length-le, length, getD, take, length-set, set}
 use lib.Seq.{drop-cons, take-suc, take-all, take-suc-set, length-take-le}
 use Rattle.rounds.specs.declared.Heard.{Heard}
 use Rattle.rounds.specs.declared.Heard.the-variants.{Unheard, First, Record}
@@ -23,8 +23,9 @@ use Rattle.terms.specs.declared.Verdict.{Verdict}
 use Rattle.terms.specs.declared.Verdict.the-variants.{Complete}
 use Rattle.terms.specs.Stamp.{stampAt, zeroStamp, stampNumber}
 use Rattle.terms.specs.Terms.{decided}
-use lib.Dec.{ltb}
+use lib.Dec.{ltb, eqb}
 use Rattle.terms.specs.declared.Timestamp.{Timestamp}
+use Rattle.terms.proofs.Picks.{neither}
 
 pub bit-small : (h : Heard) → bitOf h ≤ 1
 bit-small Unheard = omega arith
@@ -41,10 +42,6 @@ count-turn l i n v d h e f = rw (add-one, take-suc l i d h, count-snoc, e, f)
 
 pub count-all : (l : List Mark) (i n : ℕ) → length l ≤ i → n ≡ heardCount (take i l) → n ≡ heardCount l
 count-all l i n h e = e ∙ ap heardCount (take-all i l h)
-
--- slot i of n is within
-pub slot-room : (i n r e : ℕ) → i < n → n * r ≤ e → i * r + r ≤ e
-slot-room i n r e h k = let q : suc i * r ≤ n * r = mul-le-mul-right r h in omega (arith, suc-mul i r)
 
 -- ---- the lead
 pub lead-told : (l : Lead) (b n : ℕ) → l ≡ Node b → leadIn l n → b < n
@@ -73,7 +70,7 @@ lead-more (Node b) i n h k = omega arith
 
 pub lead-in : (ms : List Mark) (d : List ℕ) (r n : ℕ) → leadIn (leadOf ms d r n) n
 unfolding leadOf
-lead-in ms d r zero = unfold leadIn in omega arith
+lead-in ms d r zero = unfold leadIn in tt
 lead-in ms d r (suc n) = step-in d r (leadOf ms d r n) n (markOf ms n) (suc n) (omega arith) (lead-more (leadOf ms d r n) n (suc n) (omega arith) (lead-in ms d r n))
 
 pub lead-turn : (ms : List Mark) (d : List ℕ) (r i : ℕ) (best x : Lead) → best ≡ leadOf ms d r i → x ≡ stepOf d r best i (markOf ms i) → x ≡ leadOf ms d r (i + 1)
@@ -161,12 +158,8 @@ unfolding slotsFit
 fits-off ms d r b i zero h e = absurd (omega arith)
 fits-off ms d r b i (suc n) h e = go (ℕ-discrete i n) (λ l. fits-off ms d r b i n l e)
   where
-    off : (t : Bool) → cond t false false ≡ false
-    off true = refl
-    off false = refl
-
     go : Dec (i ≡ n) → (i < n → slotsFit ms d r b n ≡ false) → cond (slotsFit ms d r b n) (slotFits d r b n (markOf ms n)) false ≡ false
-    go (yes q) more = let z : slotFits d r b n (markOf ms n) ≡ false = rw q at e in rw z (off (slotsFit ms d r b n))
+    go (yes q) more = let z : slotFits d r b n (markOf ms n) ≡ false = rw q at e in rw z (neither (slotsFit ms d r b n))
     go (no q) more = rw (more (omega arith))
 
 pub fits-stop : (ms : List Mark) (d : List ℕ) (r : ℕ) (b : Bound) (i n : ℕ) (x : Bool) → i < n → x ≡ slotFits d r b i (markOf ms i) → x ≡ false → false ≡ slotsFit ms d r b n
@@ -187,3 +180,34 @@ under-free b x e = rw e
 pub under-is : (b : Bound) (u t : Timestamp) (x : ℕ) (w : Bool) → b ≡ Under u → stampNumber t ≡ x → w ≡ ltb (stampNumber t) (stampNumber u) → w ≡ underOf b x
 unfolding underOf
 under-is b u t x w e f g = g ∙ rw (e, f)
+
+-- ---- a mark that is set: its own, another
+pub mark-own : (ms : List Mark) (i : ℕ) (m : Mark) → markOf (set ms i m) i ≡ Record → m .is ≡ Record
+mark-own [] i m e = absurd (let z : _≡_ {A = ℕ} 0 1 = cc in omega arith)
+mark-own (x ∷ ms) zero m e = e
+mark-own (x ∷ ms) (suc i) m e = mark-own ms i m e
+
+pub mark-other : (ms : List Mark) (i k : ℕ) (m : Mark) → (k ≡ i → ⊥) → markOf (set ms i m) k ≡ markOf ms k
+mark-other [] i k m h = refl
+mark-other (x ∷ ms) zero zero m h = absurd (h refl)
+mark-other (x ∷ ms) zero (suc k) m h = refl
+mark-other (x ∷ ms) (suc i) zero m h = refl
+mark-other (x ∷ ms) (suc i) (suc k) m h = mark-other ms i k m (λ e. h (ap suc e))
+
+pub mark-set : (ms : List Mark) (i : ℕ) (m : Mark) → i < length ms → markOf (set ms i m) i ≡ m .is
+mark-set [] i m h = absurd (omega arith)
+mark-set (x ∷ ms) zero m h = refl
+mark-set (x ∷ ms) (suc i) m h = mark-set ms i m (omega arith)
+
+-- one more is heard
+pub count-set : (ms : List Mark) (i : ℕ) (m : Mark) → i < length ms → markOf ms i ≡ Unheard → bitOf (m .is) ≡ 1 → heardCount (set ms i m) ≡ suc (heardCount ms)
+unfolding heardCount
+count-set [] i m h u e = absurd (omega arith)
+count-set (x ∷ ms) zero m h u e = let z : bitOf (x .is) ≡ 0 = ap bitOf u in omega (arith, z, e)
+count-set (x ∷ ms) (suc i) m h u e = ap (λ (n : ℕ). bitOf (x .is) + n) (count-set ms i m (omega arith) u e) ∙ omega arith
+
+-- what refusal 11 leaves
+pub not-heard : (h : Heard) → eqb (bitOf h) 1 ≡ false → h ≡ Unheard
+not-heard Unheard e = refl
+not-heard First e = absurd (eqb-false 1 1 e refl)
+not-heard Record e = absurd (eqb-false 1 1 e refl)

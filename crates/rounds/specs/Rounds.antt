@@ -8,12 +8,14 @@
 --   restUnheard noneFirst slotsFit   the ranges of marks and slots that refusal 9 asks for
 -- The laws that the candidate is the greatest, that the set is rising and below n, and that the verdict tells its size, are in
 -- proofs/Closes.antt. Assumes nothing.
+use Prim.{Unit}
 use Prim.Native.Nat.{ℕ, zero, suc, _+_, _*_, _<_}
 use mathlib.Core.Bool.{Bool, true, false, cond}
 use mathlib.Core.List.{List, [], _∷_, _++_}
 use lib.ListN.{length, getD, set, take, drop, replicate}
-use lib.Dec.{ltb, eqb}
+use lib.Dec.{ltb, eqb, leb}
 use Rattle.octets.specs.Bytes.{part, num, alike}
+use Rattle.terms.specs.Ladder.{_and_}
 use Rattle.terms.specs.Terms.{decided}
 use Rattle.terms.specs.Stamp.{stampAt, zeroStamp, stampNumber}
 use Rattle.terms.specs.declared.Member.{Member}
@@ -72,7 +74,7 @@ leadOf ms d r zero = Nobody
 leadOf ms d r (suc i) = stepOf d r (leadOf ms d r i) i (markOf ms i)
 
 unfoldable pub leadIn : Lead → ℕ → Type 0
-leadIn Nobody n = 0 < 1
+leadIn Nobody n = Unit {0}
 leadIn (Node b) n = b < n
 
 -- ---- its set
@@ -104,12 +106,12 @@ told c = record { lead = c .lead; stamp = c .stamp; nodes = listed (c .set); ver
 
 -- "First triple: never written. (It always has COMPLETE replies.)"
 unfoldable pub closeWith : List Mark → List ℕ → ℕ → ℕ → ℕ → Member → ℕ → ℕ → Lead → Closed
-closeWith ms d n h r member c i Nobody = record { lead = Nobody; stamp = zeroStamp; nodes = []; verdict = Complete }
-closeWith ms d n h r member c i (Node a) =
-    record { lead = Node a; stamp = stampAt d (a * r); nodes = setOf ms d r h a n; verdict = decided member c i (length (setOf ms d r h a n)) }
+closeWith ms d n h r member high low Nobody = record { lead = Nobody; stamp = zeroStamp; nodes = []; verdict = Complete }
+closeWith ms d n h r member high low (Node a) =
+    record { lead = Node a; stamp = stampAt d (a * r); nodes = setOf ms d r h a n; verdict = decided member high low (length (setOf ms d r h a n)) }
 
 abbrev pub closeOf : List Mark → List ℕ → ℕ → ℕ → ℕ → Member → ℕ → ℕ → Closed
-closeOf ms d n h r member c i = closeWith ms d n h r member c i (leadOf ms d r n)
+closeOf ms d n h r member high low = closeWith ms d n h r member high low (leadOf ms d r n)
 
 -- ---- the ranges of marks and slots, as refusal 9 has them
 abbrev pub isUnheard : Heard → Bool
@@ -125,7 +127,7 @@ isNotFirst Record = true
 -- every mark of a list meets a test
 unfoldable pub every : (Heard → Bool) → List Mark → Bool
 every t [] = true
-every t (m ∷ ms) = cond (t (m .is)) (every t ms) false
+every t (m ∷ ms) = t (m .is) and every t ms
 
 -- "marks from N on unheard"; "no first triple mark"
 abbrev pub restUnheard : List Mark → ℕ → Bool
@@ -141,10 +143,10 @@ underOf (Under u) x = ltb x (stampNumber u)
 
 -- "each slot marked record must hold a time of 1 or more and a timestamp below the bound"
 unfoldable pub slotFits : List ℕ → ℕ → Bound → ℕ → Heard → Bool
-slotFits d r b i Record = cond (ltb (num (part d (i * r) 8)) 1) false (underOf b (slotStamp d r i))
+slotFits d r b i Record = leb 1 (num (part d (i * r) 8)) and underOf b (slotStamp d r i)
 slotFits d r b i First = true
 slotFits d r b i Unheard = true
 
 unfoldable pub slotsFit : List Mark → List ℕ → ℕ → Bound → ℕ → Bool
 slotsFit ms d r b zero = true
-slotsFit ms d r b (suc i) = cond (slotsFit ms d r b i) (slotFits d r b i (markOf ms i)) false
+slotsFit ms d r b (suc i) = slotsFit ms d r b i and slotFits d r b i (markOf ms i)

@@ -12,6 +12,7 @@ use Rattle.terms.specs.Terms.{refusalNumber}
 use Rattle.terms.specs.declared.Refusal.{Refusal}
 use Rattle.terms.specs.declared.Refusal.the-variants.{OutsidePlan, WrongLength, WrongBook, WrongFrame, TimeZero, HashFails, OtherBytes, NoRoom, OutOfRange, NotAwaited, AlreadyHeard, NotBelow, AskTooHigh, HasEnded}
 use Rattle.terms.proofs.Rungs.{Came, refused, passes, None, both, read, first-read, none-is}
+use Rattle.terms.proofs.Ladders.{by-ladder, is-passed}
 use Rattle.session.specs.declared.Check.{Check}
 use Rattle.session.specs.declared.Check.the-variants.{Passed, Failed}
 use Rattle.session.specs.Reply.{checkNumber}
@@ -46,14 +47,7 @@ first-map {A} {B} f l refuse pass = ap f (first-read l refuse pass) ∙ go (firs
 -- what holds of every refusal, and of the pass where the ladder is passed, holds of the outcome
 pub outcome-all : {A : Type 0} (P : A → Type 0) (l : List Rung) (refuse : ℕ → A) (pass : A) → ((k : ℕ) → P (refuse k))
     → (first l (λ (k : ℕ). k) 0 ≡ 0 → P pass) → P (first l refuse pass)
-unfolding first
-outcome-all P [] refuse pass h g = g refl
-outcome-all {A} P (x ∷ xs) refuse pass h g = go (x .applies) g (outcome-all P xs refuse pass h)
-  where
-    go : (c : Bool) → (cond c (x .number) (first xs (λ (k : ℕ). k) 0) ≡ 0 → P pass) → ((first xs (λ (k : ℕ). k) 0 ≡ 0 → P pass) → P (first xs refuse pass))
-        → P (cond c (refuse (x .number)) (first xs refuse pass))
-    go true f ih = h (x .number)
-    go false f ih = ih f
+outcome-all P l refuse pass h g = by-ladder P l refuse pass (λ k q. h k) (λ n. g (is-passed l (λ (k : ℕ). k) 0 n))
 
 module _ {A : Type 0} (refuse : ℕ → A) (pass : A) where
   pub goes-on : (l : List Rung) → numbered l ≡ true → first l (λ (k : ℕ). k) 0 ≡ 0 → pass ≡ first l refuse pass

@@ -27,7 +27,9 @@ use Rattle.terms.specs.declared.Plan.{Plan}
 use Rattle.terms.specs.declared.Verdict.{Verdict}
 use Rattle.terms.specs.declared.Verdict.the-variants.{Complete, Repair, Aborted, Incomplete}
 use Rattle.terms.proofs.Facts.{facts}
+pub use Rattle.terms.proofs.Picks.{either as pick}
 use Rattle.fragments.specs.Fragments.{All, Distinct, among}
+use Rattle.fragments.proofs.Lists.{all-take}
 use Rattle.fragments.proofs.Interp.{all-map}
 use Rattle.rounds.specs.declared.Heard.{Heard}
 use Rattle.rounds.specs.declared.Heard.the-variants.{Unheard, First, Record}
@@ -180,11 +182,6 @@ module _ (p : Plan) (s : Session) (d : List ℕ) (a : ℕ) where
         } in
         subst (λ (x : List ℕ). Lowest (take (p .m) x)) (sym (k .nodes-are)) go
       where
-        all-take : (P : ℕ → Type 0) (m : ℕ) (l : List ℕ) → All P l → All P (take m l)
-        all-take P zero l h = tt
-        all-take P (suc m) [] h = tt
-        all-take P (suc m) (x ∷ l) h = (h .0, all-take P m l (h .1))
-
         distinct-take : (m : ℕ) (l : List ℕ) → Distinct l → Distinct (take m l)
         distinct-take zero l h = tt
         distinct-take (suc m) [] h = tt
@@ -196,11 +193,6 @@ module _ (p : Plan) (s : Session) (d : List ℕ) (a : ℕ) where
     long-repaired ok l size =
         let q = lowest-are ok size in
         length-filled d (headLength p) (recordLength p) (p .f) (lowest p (closed p s d)) a (p .n) refl (omega arith) (q .below) (q .leader)
-
--- one of two
-pub pick : (P : Outcome → Type 0) (b : Bool) {x y : Outcome} → P x → P y → P (cond b x y)
-pick P true h k = h
-pick P false h k = k
 
 -- ---- the ways that a closed round can go: four endings, with the desk as it is; the next round opens; a repair round opens
 pub record Ways (P : Outcome → Type 0) (p : Plan) (s : Session) (c : Closed) (d i : List ℕ) : Type 0 where

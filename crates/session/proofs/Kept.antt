@@ -13,7 +13,7 @@ use Rattle.octets.proofs.Laws.{length-part}
 use Rattle.octets.proofs.Meaning.{num-small, bytes-part, bytes-all}
 use Rattle.terms.specs.Ladder.{first}
 use Rattle.terms.specs.Terms.{recordLength}
-use Rattle.terms.specs.Stamp.{time, stampAt, stampNumber}
+use Rattle.terms.specs.Stamp.{time, stampAt, stampNumber, top}
 use Rattle.terms.specs.declared.Plan.{Plan}
 use Rattle.terms.specs.declared.Ask.{Ask}
 use Rattle.terms.specs.declared.Time.{Time}
@@ -35,9 +35,10 @@ use Rattle.session.specs.Ranges.{inRange}
 use Rattle.session.specs.Reply.{replyLadder}
 use Rattle.session.specs.Writer.{laterOf, timedOf, newTime, crossFor, stampFor, recordsFor, leaves, Leaves, timeEnd, timeTurn, writeTurn, acceptedWrite, writeReply, WriteReplyCall}
 use Rattle.session.proofs.Checks.{none-applies, outcome-all}
-use Rattle.session.proofs.Made.{StandingIs, OpenIs, in-range-facts, ended-in-range, open-in-range, end-stands, storing-in-range, rest-set, none-set}
+use Rattle.session.proofs.Made.{OpenIs, in-range-facts, ended-in-range, open-in-range, end-stands, storing-in-range, rest-set, none-set}
 use Rattle.session.proofs.Openings.{accepted-session, accepted-in-range}
 use Rattle.session.proofs.Writers.{Taking, taking, time-there, length-records}
+use Rattle.session.proofs.Rules.{StandingIs}
 
 -- a session in its ranges with its desk, which is N·R bytes; its greatest time has 8 bytes
 pub record Kept (p : Plan) (s : Session) (d : List ℕ) : Type 0 where
@@ -149,15 +150,15 @@ module _ (p : Plan) (s : Session) (f d i : List ℕ) (o : Octets f) (k : Kept p 
 
       in-time : Good (timeTurn p u d i)
       unfolding timeTurn timeEnd
-      in-time = go (ltb (heardCount (u .marks)) (replies p)) (eqb (g .0) 18446744073709551615) refl refl
+      in-time = go (ltb (heardCount (u .marks)) (replies p)) (eqb (g .0) top) refl refl
         where
-          go : (c m : Bool) → ltb (heardCount (u .marks)) (replies p) ≡ c → eqb (g .0) 18446744073709551615 ≡ m
+          go : (c m : Bool) → ltb (heardCount (u .marks)) (replies p) ≡ c → eqb (g .0) top ≡ m
               → Good (cond c (leaves stillOpen u d)
               (cond m (leaves clockSpent (endedOf u) d) (leaves stillOpen (storingOf u (stampFor p (newTime (g .0)) i)) (recordsFor p (newTime (g .0)) i))))
           go true m c v = still c
           go false true c v = ends
           go false false c v =
-              let z = eqb-false (g .0) 18446744073709551615 v in
+              let z = eqb-false (g .0) top v in
               record {
                 range = storing-in-range p u (stampFor p (newTime (g .0)) i) _ (q .plan-ok) stands (stamp-low p (newTime (g .0)) i (omega arith) (omega arith));
                 desk-is = length-records p (newTime (g .0)) i (q .lengths .item-is);

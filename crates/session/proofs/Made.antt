@@ -6,11 +6,11 @@ use mathlib.Core.Bool.{Bool, true, false, not}
 use mathlib.Core.List.{List, [], _∷_}
 use native.Mathlib.Omega.{arith}
 use borrow.Author.Tests.{le-leb, lt-ltb}
-use lib.Dec.{leb, ltb, eqb}
+use lib.Dec.{leb, ltb}
 use lib.ListN.{getD, set, drop, replicate}
 use lib.Seq.{drop-set-lt}
 use Rattle.terms.specs.Ladder.{all, _and_, _or_}
-use Rattle.terms.specs.Terms.{planOk, recordLength, openingOk}
+use Rattle.terms.specs.Terms.{planOk, recordLength}
 use Rattle.terms.specs.declared.Plan.{Plan}
 use Rattle.terms.specs.declared.Timestamp.{Timestamp}
 use Rattle.terms.proofs.Facts.{facts}
@@ -22,34 +22,15 @@ use Rattle.rounds.specs.declared.Mark.{Mark}
 use Rattle.rounds.specs.Rounds.{heardCount, unheard, unheards, every, isUnheard, isNotFirst, restUnheard, noneFirst, slotFits, slotsFit}
 use Rattle.session.specs.declared.Session.{Session}
 use Rattle.session.specs.Session.{isRead, isStoring, isEnded, readRound, replies, endedOf, storingOf}
-use Rattle.session.specs.Ranges.{boundOk, standingRules, openRules, inRange}
-use Rattle.session.proofs.Rules.{holds, last}
+use Rattle.session.specs.Ranges.{standingRules, openRules, inRange}
+use Rattle.session.proofs.Rules.{holds, last, StandingIs, standing-facts}
 
--- ---- the rules of refusal 9 as plain facts
-pub record StandingIs (p : Plan) (s : Session) : Type 0 where
-  pub low : leb 1 (s .round) ≡ true
-  pub high : leb (s .round) (p .w) ≡ true
-  pub counted : (isRead (s .operation) or eqb (s .round) 1) ≡ true
-  pub bounded : boundOk (s .bound) (s .round) ≡ true
-  pub rest : restUnheard (s .marks) (p .n) ≡ true
-  pub opening : openingOk p (s .opening .0) ≡ true
-
+-- ---- the rules of refusal 9 that an open session meets, as plain facts
 pub record OpenIs (p : Plan) (s : Session) (d : List ℕ) : Type 0 where
   pub stamped : (not (isStoring (s .stage)) or leb 1 (s .stamp .time .0)) ≡ true
   pub firsts : (readRound s or noneFirst (s .marks)) ≡ true
   pub few : ltb (heardCount (s .marks)) (replies p) ≡ true
   pub slots : (not (readRound s) or slotsFit (s .marks) d (recordLength p) (s .bound) (p .n)) ≡ true
-
-pub standing-facts : (p : Plan) (s : Session) → standingRules p s ≡ true → StandingIs p s
-unfolding standingRules all
-standing-facts p s e =
-    let e1 = both (leb 1 (s .round)) _ e in
-    let e2 = both (leb (s .round) (p .w)) _ (e1 .1) in
-    let e3 = both (isRead (s .operation) or eqb (s .round) 1) _ (e2 .1) in
-    let e4 = both (boundOk (s .bound) (s .round)) _ (e3 .1) in
-    let e5 = both (restUnheard (s .marks) (p .n)) _ (e4 .1) in
-    let e6 = both (openingOk p (s .opening .0)) _ (e5 .1) in
-    record { low = e1 .0; high = e2 .0; counted = e3 .0; bounded = e4 .0; rest = e5 .0; opening = e6 .0 }
 
 pub open-facts : (p : Plan) (s : Session) (d : List ℕ) → openRules p s d ≡ true → OpenIs p s d
 unfolding openRules all

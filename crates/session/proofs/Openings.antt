@@ -7,10 +7,9 @@ use mathlib.Core.List.{List}
 use native.Mathlib.Omega.{arith}
 use borrow.Author.Tests.{le-leb, not-false}
 use Rattle.terms.specs.Ladder.{first, all, _and_, _or_}
-use Rattle.terms.specs.Terms.{planOk, recordLength, refusalNumber, openingOk}
+use Rattle.terms.specs.Terms.{planOk, recordLength, openingOk}
 use Rattle.terms.specs.declared.Ask.{Ask}
 use Rattle.terms.specs.declared.Plan.{Plan}
-use Rattle.terms.specs.declared.Refusal.{Refusal}
 use Rattle.terms.proofs.Plans.{plan-is}
 use Rattle.terms.proofs.Rungs.{refusal-one}
 use Rattle.rounds.specs.declared.Bound.the-variants.{Free}
@@ -23,7 +22,7 @@ use Rattle.rounds.specs.Rounds.{unheards, noneFirst}
 use Rattle.session.specs.Session.{isRead}
 use Rattle.session.specs.Ranges.{standingRules, inRange}
 use Rattle.session.specs.Opening.{openingLadder, freshOf, openingNumber, opens, Opens, noSession, openWith, OpenCall}
-use Rattle.session.proofs.Checks.{first-map, none-applies, goes-on, stops, refusal-low}
+use Rattle.session.proofs.Checks.{first-map, none-applies, goes-on, refusal-low}
 use Rattle.session.proofs.Made.{rest-unheards, none-unheards, few-unheards, slots-unheards, open-in-range}
 
 -- the number tells the answer
@@ -79,12 +78,3 @@ module _ (op : Operation) (p : Plan) (a : Ask) (r : Opened) (call : OpenCall op 
     accepted-in-range d =
         let n = none-applies (openingLadder p (a .0)) refl nothing-refuses in
         rw accepted-session (fresh-in-range op p a d (not-false (planOk p) (n .0)) (not-false (openingOk p (a .0)) (n .1 .0)))
-
-  -- a refused opening's session is the one that no call takes
-  pub refused-session : (q : Refusal) → r .answer ≡ Refused q → r .session ≡ noSession op
-  unfolding openWith
-  refused-session q e =
-      ap (λ (o : Opens). o .session)
-      (call .is
-      ∙ sym (stops (λ (k : ℕ). opens k (noSession op)) (opens 0 (freshOf op 1 Free a)) (openingLadder p (a .0)) (refusalNumber q) (refusal-low q)
-      (sym number-is ∙ ap openingNumber e)))

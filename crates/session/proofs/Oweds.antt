@@ -10,7 +10,7 @@ use lib.ListN.{length}
 use Rattle.octets.specs.Bytes.{part, over, be}
 use Rattle.terms.specs.Ladder.{first}
 use Rattle.terms.specs.Terms.{planOk, recordLength, refusalNumber}
-use Rattle.terms.specs.Stamp.{stampNumber}
+use Rattle.terms.specs.Stamp.{stampNumber, top}
 use Rattle.terms.specs.declared.Plan.{Plan}
 use Rattle.terms.specs.declared.Refusal.{Refusal}
 use Rattle.terms.specs.declared.Timestamp.{Timestamp}
@@ -48,7 +48,7 @@ pub record Owing (p : Plan) (s : Session) (node : ℕ) (d : List ℕ) (request :
   pub plan-ok : planOk p ≡ true
   pub room : Room p (length d) request
   pub round-low : 1 ≤ s .round
-  pub ask-high : s .opening .0 + s .round ≤ 18446744073709551615
+  pub ask-high : s .opening .0 + s .round ≤ top
   pub node-low : node < p .n
 
 pub owing : (p : Plan) (s : Session) (node : ℕ) (d : List ℕ) (request : ℕ) → first (owedLadder p s node d request) (λ (k : ℕ). k) 0 ≡ 0

@@ -32,8 +32,8 @@ use Rattle.session.specs.Ranges.{inRange}
 use Rattle.session.specs.Reply.{bears, lengthsOk, replyLadder, recordLadder}
 use Rattle.session.specs.Reader.{Outcome, outcome, collected, acted, closed, settled, heard, stored, accepted, readReply, ReadReplyCall}
 use Rattle.session.proofs.Checks.{none-applies, outcome-all}
-use Rattle.session.proofs.Rules.{lengths-are, in-range-is}
-use Rattle.session.proofs.Made.{StandingIs, OpenIs, in-range-facts, ended-in-range, open-in-range, end-stands, storing-in-range, rest-unheards, few-unheards, slots-unheards}
+use Rattle.session.proofs.Rules.{lengths-are, in-range-is, StandingIs}
+use Rattle.session.proofs.Made.{OpenIs, in-range-facts, ended-in-range, open-in-range, end-stands, storing-in-range, rest-unheards, few-unheards, slots-unheards}
 use Rattle.session.proofs.Slots.{lead-time, long-after, slots-after}
 use Rattle.session.proofs.Kept.{Kept, heard-stands, heard-open}
 use Rattle.session.proofs.Closings.{Led, led, lead-low, sized, long-repaired, goes}
@@ -77,6 +77,11 @@ pub asking : (x : Stage) → isStoring x ≡ false → isEnded x ≡ false → i
 asking Asking a b = refl
 asking Storing a b = sym a
 asking Ended a b = sym b
+
+pub not-asking : (x : Stage) → isStoring x ≡ true → isAsking x ≡ false
+not-asking Asking e = sym e
+not-asking Storing e = refl
+not-asking Ended e = refl
 
 -- ---- the call
 module _ (p : Plan) (s : Session) (f d i : List ℕ) (k : Kept p s d) where

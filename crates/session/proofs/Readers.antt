@@ -9,6 +9,7 @@ use lib.Dec.{eqb}
 use lib.ListN.{length, getD, take}
 use lib.Seq.{length-take-le, take-take, getD-take}
 use Rattle.octets.specs.Bytes.{part, put}
+use Rattle.octets.proofs.Laws.{slot-room}
 use Rattle.terms.specs.Ladder.{first}
 use Rattle.terms.specs.declared.Refusal.{Refusal}
 use Rattle.terms.specs.Terms.{planOk, recordLength, complete, incomplete, refusalNumber}
@@ -22,6 +23,8 @@ use Rattle.terms.proofs.Rungs.{None, both}
 use Rattle.terms.proofs.Plans.{PlanIs, plan-is}
 use Rattle.terms.proofs.Facts.{facts}
 use Rattle.fragments.specs.Fragments.{from, laid, Sources}
+use Rattle.fragments.proofs.Lists.{all-at}
+use Rattle.record.proofs.Records.{record-length}
 use Rattle.frame.specs.Frame.{kindOf, frameNode, bodyOf, goodReply}
 use Rattle.frame.proofs.Frames.{reply-is, body-is}
 use Rattle.rounds.specs.declared.Heard.the-variants.{First, Record}
@@ -29,9 +32,8 @@ use Rattle.rounds.specs.declared.Lead.the-variants.{Nobody, Node}
 use Rattle.rounds.specs.declared.Close.{Close}
 use Rattle.record.specs.Record.{hashesOk, timeZero}
 use Rattle.rounds.specs.Rounds.{underOf, heardCount, listed, told, Closed, closeOf}
-use Rattle.rounds.proofs.Laws.{size-is, slot-room}
+use Rattle.rounds.proofs.Laws.{size-is}
 use Rattle.recover.specs.Recover.{validates, refilled}
-use Rattle.recover.proofs.Filled.{all-at}
 use Rattle.session.specs.declared.Session.{Session}
 use Rattle.session.specs.Session.{isStoring, replies, markedOf, endedOf, nextOf, storingOf, stillOpen, done, neverWritten, aborted, roundsSpent, refused}
 use Rattle.session.specs.declared.Check.{Check}
@@ -43,11 +45,6 @@ use Rattle.session.proofs.Rules.{lengths-are}
 use Rattle.session.proofs.Checks.{none-applies, goes-on as ladder-goes-on, check-passed, check-failed}
 use Rattle.session.proofs.Closings.{Led, led, lead-low, nodes-below, sized, sized-whole}
 use Rattle.session.specs.Reader.{Outcome, outcome, headLength, lowest, sound, decoded, collected, repaired, failing, actOn, actFor, acted, closed, settled, heard, stored, accepted, readReply, Usable, Acting}
-
--- ---- lengths
-record-sum : (p : Plan) → recordLength p ≡ 40 + 32 * p .n + p .f
-unfolding recordLength
-record-sum p = refl
 
 -- ---- a set that can be decoded
 module _ (p : Plan) (c : Close) (a : ℕ) (d : List ℕ) (u : Usable p c a d) where
@@ -61,7 +58,7 @@ module _ (p : Plan) (c : Close) (a : ℕ) (d : List ℕ) (u : Usable p c a d) wh
   few = sym (length-take-le (p .m) (c .set .nodes) (omega (arith, m16, u .nodes)))
 
   pub desk-is : length d ≡ p .n * (40 + 32 * p .n + p .f)
-  desk-is = u .desk ∙ rw (record-sum p)
+  desk-is = u .desk ∙ rw (record-length p)
 
   pub sources : Sources d (40 + 32 * p .n) (40 + 32 * p .n + p .f) (p .f) (take (p .m) (c .set .nodes))
   sources k h =
@@ -85,29 +82,29 @@ module _ (p : Plan) (c : Close) (a : ℕ) (d : List ℕ) (u : Usable p c a d) wh
   unfolding sound
   sound-told x e v =
       let g : validates d (40 + 32 * p .n) (40 + 32 * p .n + p .f) (p .f) (take (p .m) (c .set .nodes)) a (p .n) ≡ validates d (headLength p) (recordLength p) (p .f) (lowest p (told c)) a (p .n) =
-      ap₂ (λ (r : ℕ) (qs : List ℕ). validates d (headLength p) r (p .f) qs a (p .n)) (sym (record-sum p)) (sym lowest-is) in
+      ap₂ (λ (r : ℕ) (qs : List ℕ). validates d (headLength p) r (p .f) qs a (p .n)) (sym (record-length p)) (sym lowest-is) in
       v ∙ g ∙ rw e
 
   pub decoded-is : (i x : List ℕ) → x ≡ laid d (40 + 32 * p .n) (40 + 32 * p .n + p .f) (p .f) (take (p .m) (c .set .nodes)) 0 (p .f) (p .m) i → x ≡ decoded p (told c) d i
   unfolding decoded
-  decoded-is i x v = v ∙ rw (lowest-is, record-sum p)
+  decoded-is i x v = v ∙ rw (lowest-is, record-length p)
 
   pub repaired-is : (x : List ℕ) → x ≡ refilled d (40 + 32 * p .n) (40 + 32 * p .n + p .f) (p .f) (take (p .m) (c .set .nodes)) a (p .n) → x ≡ repaired p (told c) a d
   unfolding repaired
-  repaired-is x v = v ∙ rw (lowest-is, record-sum p)
+  repaired-is x v = v ∙ rw (lowest-is, record-length p)
 
 -- ---- the first m slots
 pub first-slots : (p : Plan) (d : List ℕ) → planOk p ≡ true → length d ≡ p .n * recordLength p
     → (k : ℕ) → k < p .m → 40 + 32 * p .n + k * (40 + 32 * p .n + p .f) + p .f ≤ length d
 first-slots p d ok l k h =
     let f = facts p ok in
-    let e : length d ≡ p .n * (40 + 32 * p .n + p .f) = l ∙ rw (record-sum p) in
+    let e : length d ≡ p .n * (40 + 32 * p .n + p .f) = l ∙ rw (record-length p) in
     let r = slot-room k (p .n) (40 + 32 * p .n + p .f) (length d) (omega arith) (omega arith) in
     omega (arith, r)
 
 pub collected-is : (p : Plan) (d i x : List ℕ) → x ≡ laid d (40 + 32 * p .n) (40 + 32 * p .n + p .f) (p .f) (from 0 (p .m)) 0 (p .f) (p .m) i → x ≡ collected p d i
 unfolding collected
-collected-is p d i x v = v ∙ rw (record-sum p)
+collected-is p d i x v = v ∙ rw (record-length p)
 
 -- ---- each way that a closed round can go
 module _ (p : Plan) (s : Session) (t : Timestamp) (d i : List ℕ) where
@@ -283,13 +280,13 @@ module _ (p : Plan) (s : Session) (f d i : List ℕ) (k : Check) (e : checkNumbe
 
 -- ---- the close, with the lengths and thresholds that the code worked out
 pub desk-sum : (p : Plan) (d : List ℕ) → length d ≡ p .n * recordLength p → length d ≡ p .n * (40 + 32 * p .n + p .f)
-desk-sum p d l = l ∙ rw (record-sum p)
+desk-sum p d l = l ∙ rw (record-length p)
 
 pub closed-is : (p : Plan) (s : Session) (d : List ℕ) (x : Closed) (high low : ℕ) → high ≡ complete p → low ≡ incomplete p
     → x ≡ closeOf (s .marks) d (p .n) (40 + 32 * p .n) (40 + 32 * p .n + p .f) (p .member) high low → x ≡ closed p s d
 closed-is p s d x high low e f q =
     q ∙ ap₂ (λ (a b : ℕ). closeOf (s .marks) d (p .n) (40 + 32 * p .n) (40 + 32 * p .n + p .f) (p .member) a b) e f
-    ∙ ap (λ (r : ℕ). closeOf (s .marks) d (p .n) (headLength p) r (p .member) (complete p) (incomplete p)) (sym (record-sum p))
+    ∙ ap (λ (r : ℕ). closeOf (s .marks) d (p .n) (headLength p) r (p .member) (complete p) (incomplete p)) (sym (record-length p))
 
 -- ---- rungs 5, 6, 12
 module _ (p : Plan) (s : Session) (f : List ℕ) (x : Bool) (b : x ≡ bears p f) where

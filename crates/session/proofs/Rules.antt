@@ -1,6 +1,6 @@
 -- How code goes down a list of rules, and what is known when all hold. Assumes nothing.
 use mathlib.Core.Path.{_≡_, refl, sym, ap, ap₂, _∙_}
-use mathlib.Core.Bool.{Bool, true, false, cond, not}
+use mathlib.Core.Bool.{Bool, true, false}
 use mathlib.Core.List.{List, [], _∷_}
 use Prim.Native.Nat.{ℕ, _+_, _*_, _≤_}
 use native.Mathlib.Nat.{le-trans, mul-le-mul-right, mul-le-mul-left}
@@ -11,9 +11,10 @@ use lib.Dec.{leb, eqb}
 use Rattle.terms.specs.Ladder.{all, _and_, _or_}
 use Rattle.terms.specs.declared.Plan.{Plan}
 use Rattle.terms.specs.declared.Timestamp.{Timestamp}
-use Rattle.terms.specs.Stamp.{stamp, stampNumber, stampAt}
+use Rattle.terms.specs.Stamp.{stamp, stampNumber, stampAt, top}
 use Rattle.terms.proofs.Stamps.{stamp-at-number}
 use Rattle.terms.proofs.Rungs.{both}
+use Rattle.terms.proofs.Picks.{itself}
 use Rattle.octets.specs.Bytes.{part, num}
 use Rattle.frame.specs.Frame.{kindOf, askOf, bodyOf, answersTo}
 use Rattle.frame.proofs.Frames.{ReplyIs, length-4}
@@ -35,11 +36,7 @@ holds xs e p = rw e p
 
 pub last : {b z : Bool} → z ≡ b → z ≡ all (b ∷ [])
 unfolding all
-last {b} e = e ∙ side b
-  where
-    side : (b : Bool) → b ≡ cond b true false
-    side true = refl
-    side false = refl
+last {b} e = e ∙ itself b
 
 -- one condition and another, tested one after the other
 pub and-fails : {a : Bool} (b : Bool) → a ≡ false → false ≡ (a and b)
@@ -54,33 +51,41 @@ or-holds b e = rw e
 pub or-last : {a b z : Bool} → a ≡ false → z ≡ b → z ≡ (a or b)
 or-last e p = rw e p
 
-pub flip : {a b : Bool} → a ≡ b → not a ≡ not b
-flip e = ap not e
-
 -- a product of two bounded numbers
 pub product-low : (a b x y : ℕ) → a ≤ x → b ≤ y → a * b ≤ x * y
 product-low a b x y h k = le-trans (mul-le-mul-right b h) (mul-le-mul-left x k)
 
--- ---- what a session in its ranges is known to be
-pub record Standing (p : Plan) (s : Session) : Type 0 where
-  pub round-low : 1 ≤ s .round
-  pub round-high : s .round ≤ p .w
-  pub ask-high : s .opening .0 + p .w ≤ 18446744073709551615
+-- ---- the rules of refusal 9 that every session meets, as plain facts
+pub record StandingIs (p : Plan) (s : Session) : Type 0 where
+  pub low : leb 1 (s .round) ≡ true
+  pub high : leb (s .round) (p .w) ≡ true
+  pub counted : (isRead (s .operation) or eqb (s .round) 1) ≡ true
+  pub bounded : boundOk (s .bound) (s .round) ≡ true
+  pub rest : restUnheard (s .marks) (p .n) ≡ true
+  pub opening : openingOk p (s .opening .0) ≡ true
 
-pub standing-is : (p : Plan) (s : Session) → standingRules p s ≡ true → Standing p s
+pub standing-facts : (p : Plan) (s : Session) → standingRules p s ≡ true → StandingIs p s
 unfolding standingRules all
-standing-is p s e =
+standing-facts p s e =
     let e1 = both (leb 1 (s .round)) _ e in
     let e2 = both (leb (s .round) (p .w)) _ (e1 .1) in
     let e3 = both (isRead (s .operation) or eqb (s .round) 1) _ (e2 .1) in
     let e4 = both (boundOk (s .bound) (s .round)) _ (e3 .1) in
     let e5 = both (restUnheard (s .marks) (p .n)) _ (e4 .1) in
     let e6 = both (openingOk p (s .opening .0)) _ (e5 .1) in
-    record { round-low = leb-true _ _ (e1 .0); round-high = leb-true _ _ (e2 .0); ask-high = leb-true _ _ (e6 .0) }
+    record { low = e1 .0; high = e2 .0; counted = e3 .0; bounded = e4 .0; rest = e5 .0; opening = e6 .0 }
+
+-- the numbers that they bound
+pub record Standing (p : Plan) (s : Session) : Type 0 where
+  pub round-low : 1 ≤ s .round
+  pub round-high : s .round ≤ p .w
+  pub ask-high : s .opening .0 + p .w ≤ top
 
 pub in-range-is : (p : Plan) (s : Session) (d : List ℕ) (x : Bool) → x ≡ inRange p s d → x ≡ true → Standing p s
 unfolding inRange
-in-range-is p s d x e t = standing-is p s (both (standingRules p s) _ (sym e ∙ t) .0)
+in-range-is p s d x e t =
+    let q = standing-facts p s (both (standingRules p s) _ (sym e ∙ t) .0) in
+    record { round-low = leb-true _ _ (q .low); round-high = leb-true _ _ (q .high); ask-high = leb-true _ _ (q .opening) }
 
 -- a write reply bears a timestamp
 pub reply-stamped : (p : Plan) (f : List ℕ) → ReplyIs p f → kindOf f ≡ 4 → 55 ≤ length f

@@ -11,12 +11,12 @@ use mathlib.Core.Bool.{Bool, true, false, cond}
 use mathlib.Core.List.{List, [], _∷_}
 use native.Mathlib.Decide.{ℕ-discrete}
 use native.Mathlib.Omega.{arith}
-use borrow.Author.Tests.{le-ltb, ltb-false, eqb-false}
-use lib.Dec.{ltb}
+use borrow.Author.Tests.{eqb-false, le-leb, leb-true}
+use lib.Dec.{leb}
 use lib.ListN.{length, set, length-drop}
 use lib.Seq.{getD-set-other}
 use Rattle.octets.specs.Bytes.{part, put, num}
-use Rattle.octets.proofs.Laws.{length-put, part-part, part-put-same}
+use Rattle.octets.proofs.Laws.{length-put, part-part, part-put-same, slot-room}
 use Rattle.terms.specs.Terms.{recordLength}
 use Rattle.terms.specs.Stamp.{time, stamp, stampAt}
 use Rattle.terms.specs.declared.Plan.{Plan}
@@ -28,7 +28,6 @@ use Rattle.rounds.specs.declared.Heard.{Heard}
 use Rattle.rounds.specs.declared.Heard.the-variants.{Unheard, First, Record}
 use Rattle.rounds.specs.declared.Mark.{Mark}
 use Rattle.rounds.specs.Rounds.{unheard, markOf, underOf, slotStamp, slotFits, slotsFit}
-use Rattle.rounds.proofs.Laws.{slot-room}
 use Rattle.recover.proofs.Filled.{slot-stays}
 use Rattle.session.specs.Reply.{bears}
 use Rattle.session.proofs.Readers.{bears-is, record-long}
@@ -92,17 +91,13 @@ record-fits : (d x : List ℕ) (r : ℕ) (b : Bound) (k : ℕ) → length x ≡ 
 unfolding slotFits slotStamp timeZero
 record-fits d x r b k l fits h t u =
     let z = eqb-false (time x) 0 t in
-    rw (put-start d x r k 8 l fits (omega arith), put-start d x r k 40 l fits (omega arith), le-ltb (time x) 1 (omega arith)) u
+    rw (put-start d x r k 8 l fits (omega arith), put-start d x r k 40 l fits (omega arith), le-leb 1 (time x) (omega arith)) u
 
 -- the time of a node marked record
 pub lead-time : (ms : List Mark) (d : List ℕ) (r : ℕ) (b : Bound) (n a : ℕ) → slotsFit ms d r b n ≡ true → a < n → markOf ms a ≡ Record
     → 1 ≤ stampAt d (a * r) .time .0
 unfolding slotFits stampAt
-lead-time ms d r b n a e h m = go (ltb (num (part d (a * r) 8)) 1) refl (rw m at (slots-each ms d r b n e a h))
-  where
-    go : (t : Bool) → ltb (num (part d (a * r) 8)) 1 ≡ t → cond t false (underOf b (slotStamp d r a)) ≡ true → 1 ≤ num (part d (a * r) 8)
-    go true u k = let z : _≡_ {A = ℕ} 0 1 = cc in absurd (omega arith)
-    go false u k = ltb-false (num (part d (a * r) 8)) 1 u
+lead-time ms d r b n a e h m = leb-true 1 _ (both (leb 1 (num (part d (a * r) 8))) _ (rw m at (slots-each ms d r b n e a h)) .0)
 
 -- ---- a reply that was heard
 pub long-body : (p : Plan) (f : List ℕ) → bears p f ≡ true → length (bodyOf f) ≡ recordLength p

@@ -12,15 +12,14 @@ use Rattle.octets.specs.Bytes.{part, put, be}
 use Rattle.octets.proofs.Laws.{part-put-same, length-be}
 use Rattle.terms.specs.Ladder.{first, _and_}
 use Rattle.terms.specs.Terms.{planOk, recordLength, refusalNumber}
-use Rattle.terms.specs.Stamp.{time, stampAt, stampNumber}
+use Rattle.terms.specs.Stamp.{time, stampAt, stampNumber, top}
 use Rattle.terms.specs.declared.Plan.{Plan}
 use Rattle.terms.specs.declared.Refusal.{Refusal}
 use Rattle.terms.specs.declared.Time.{Time}
 use Rattle.terms.specs.declared.Timestamp.{Timestamp}
 use Rattle.terms.proofs.Rungs.{both}
-use Rattle.fragments.specs.Fragments.{fragment, encoded, from, Sources}
-use Rattle.fragments.proofs.Laws.{fragment-is, length-regenerated, length-from, getD-from, run-fits}
-use Rattle.fragments.proofs.Theorems.{encoded-at}
+use Rattle.fragments.specs.Fragments.{fragment, encoded}
+use Rattle.fragments.proofs.Theorems.{encoded-at, length-fragment}
 use Rattle.frame.specs.Frame.{kindOf, askOf, frameNode, bodyOf, goodReply, answersTo}
 use Rattle.frame.proofs.Frames.{ReplyIs, reply-is, length-2}
 use Rattle.record.specs.Record.{hashesOk}
@@ -95,14 +94,6 @@ module _ (p : Plan) (i d₀ d₁ c₀ c₁ : List ℕ) (r : ℕ) (er : r ≡ rec
   )
 
 -- ---- what the records are
-length-fragment : (m F : ℕ) (i : List ℕ) → length i ≡ m * F → (k : ℕ) → length (fragment m F i k) ≡ F
-length-fragment m F i l k = ap length (fragment-is m F i k) ∙ length-regenerated i 0 F F (from 0 m) k runs
-  where
-    runs : Sources i 0 F F (from 0 m)
-    runs j h =
-        let z : j < m = omega (arith, length-from 0 m) in
-        rw (getD-from 0 m j z) (omega (arith, run-fits m F j z))
-
 module _ (p : Plan) (t : ℕ) (i : List ℕ) (l : length i ≡ p .m * p .f) where
   length-stamp : length (stampMade t (crossFor p i)) ≡ 40
   length-stamp = simp (length-append, length-be, sha256-length)
@@ -138,15 +129,15 @@ module _ (p : Plan) (s : Session) (d : List ℕ) (n : ℕ) (c : n ≡ heardCount
     unfolding writeTurn
     write-done x e = rw (← c, le-ltb n (replies p) h, e)
 
-    pub clock-spent : (i : List ℕ) → s .greatest .0 ≡ 18446744073709551615 → (x : Session) → x ≡ endedOf s → leaves clockSpent x d ≡ timeTurn p s d i
+    pub clock-spent : (i : List ℕ) → s .greatest .0 ≡ top → (x : Session) → x ≡ endedOf s → leaves clockSpent x d ≡ timeTurn p s d i
     unfolding timeTurn timeEnd
-    clock-spent i g x e = rw (← c, le-ltb n (replies p) h, eq-eqb (s .greatest .0) 18446744073709551615 g, e)
+    clock-spent i g x e = rw (← c, le-ltb n (replies p) h, eq-eqb (s .greatest .0) top g, e)
 
-    pub write-opens : (i : List ℕ) → (s .greatest .0 ≡ 18446744073709551615 → ⊥) → (x : Session) (t : Timestamp) (d₂ : List ℕ) → x ≡ storingOf s t
+    pub write-opens : (i : List ℕ) → (s .greatest .0 ≡ top → ⊥) → (x : Session) (t : Timestamp) (d₂ : List ℕ) → x ≡ storingOf s t
         → (t ≡ stampFor p (newTime (s .greatest .0)) i) × (d₂ ≡ recordsFor p (newTime (s .greatest .0)) i) → leaves stillOpen x d₂ ≡ timeTurn p s d i
     unfolding timeTurn timeEnd
     write-opens i g x t d₂ e q =
-        rw (← c, le-ltb n (replies p) h, ne-eqb (s .greatest .0) 18446744073709551615 g)
+        rw (← c, le-ltb n (replies p) h, ne-eqb (s .greatest .0) top g)
         (λ j. leaves stillOpen ((e ∙ ap (storingOf s) (q .0)) j) (q .1 j))
 
 -- ---- what is known where nothing refuses

@@ -17,7 +17,7 @@ use mathlib.Core.List.{List}
 use lib.ListN.{length, set}
 use lib.Dec.{ltb, eqb}
 use Rattle.terms.specs.Ladder.{first}
-use Rattle.terms.specs.Stamp.{time, stampAt, stampNumber}
+use Rattle.terms.specs.Stamp.{time, stampAt, stampNumber, top}
 use Rattle.terms.specs.declared.Plan.{Plan}
 use Rattle.terms.specs.declared.Timestamp.{Timestamp}
 use Rattle.fragments.specs.Fragments.{fragment}
@@ -75,7 +75,7 @@ leaves a s d = record { said = a; session = s; desk = d }
 -- "clock spent (the greatest time reply is 2^64-1)"; else the write round opens
 unfoldable pub timeEnd : Plan → Session → List ℕ → List ℕ → Leaves
 timeEnd p s d i =
-    cond (eqb (s .greatest .0) 18446744073709551615) (leaves clockSpent (endedOf s) d)
+    cond (eqb (s .greatest .0) top) (leaves clockSpent (endedOf s) d)
     (leaves stillOpen (storingOf s (stampFor p (newTime (s .greatest .0)) i)) (recordsFor p (newTime (s .greatest .0)) i))
 
 unfoldable pub timeTurn : Plan → Session → List ℕ → List ℕ → Leaves

@@ -238,12 +238,6 @@ module _ (m : List ℕ) (z : length m ≡ 16) (s₀ : State) where
       let e : t + n + 1 ≡ t + suc n = omega arith in
       subst (λ (k : ℕ). Turn m s₀ k v r) e (turn (t + n) h c (p ∙ ap (λ (k : ℕ). set w k (nextWord w k)) d) q)
 
--- ---- the hash
-
-pub sha-length : (m : List ℕ) → length (sha256 m) ≡ 32
-unfolding sha256
-sha-length m = refl
-
 -- ---- the 32 bytes of a hash
 pub sha256-length : (m : List ℕ) → length (sha256 m) ≡ 32
 unfolding sha256

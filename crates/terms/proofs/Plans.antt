@@ -11,6 +11,7 @@ use Rattle.terms.specs.declared.Plan.{Plan}
 use Rattle.terms.specs.declared.Member.{Member}
 use Rattle.terms.specs.declared.Member.the-variants.{Repairable, NonRepair}
 use Rattle.terms.proofs.Rungs.{both, clash}
+use Rattle.terms.proofs.Picks.{itself}
 
 -- what the table says, without subtraction
 abbrev pub Column : Member → (n t b q m : ℕ) → Type 0
@@ -105,11 +106,7 @@ pub plan-last : (p : Plan) (r : Bool) → 1 ≤ p .n → p .n ≤ 16 → p .b �
 unfolding planOk all
 plan-last p r a b c d e f g h =
     rw (le-leb 1 (p .n) a, le-leb (p .n) 16 b, le-leb (p .b) (p .t) c, le-leb 1 (p .f) d, le-leb (p .f) 1024 e, le-leb 1 (p .w) f, le-leb (p .w) 65535 g)
-    (h ∙ last (tableOk p))
-  where
-    last : (t : Bool) → t ≡ cond t true false
-    last true = refl
-    last false = refl
+    (h ∙ itself (tableOk p))
 
 -- ---- the turns of the code
 leb-same : (a b c d : ℕ) → (a ≤ b → c ≤ d) → (c ≤ d → a ≤ b) → leb a b ≡ cond (leb c d) true false

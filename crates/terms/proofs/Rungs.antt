@@ -7,11 +7,7 @@ use Prim.{Unit, tt}
 use native.Mathlib.Omega.{arith}
 use lib.Dec.{eqb}
 use Rattle.terms.specs.Ladder.{Rung, on, first}
-use Rattle.terms.specs.Terms.{refusalNumber, classNumber, verdictNumber}
-use Rattle.terms.specs.declared.Class.{Class}
-use Rattle.terms.specs.declared.Class.the-variants as class
-use Rattle.terms.specs.declared.Verdict.{Verdict}
-use Rattle.terms.specs.declared.Verdict.the-variants as verdict
+use Rattle.terms.specs.Terms.{refusalNumber}
 use Rattle.terms.specs.declared.Refusal.{Refusal}
 use Rattle.terms.specs.declared.Refusal.the-variants.{OutsidePlan, WrongLength, WrongBook, WrongFrame, TimeZero, HashFails, OtherBytes, NoRoom, OutOfRange, NotAwaited, AlreadyHeard, NotBelow, AskTooHigh, HasEnded}
 
@@ -53,25 +49,6 @@ pub record Given (l : List Rung) (k : ℕ) : Type 0 where
 pub data Came : Type 0 where
   refused : ℕ → Came
   passes : Came
-
--- refused k exactly when its condition holds and none before it; passed exactly when none holds
-pub given : (l : List Rung) (k : ℕ) → first l refused passes ≡ refused k → Given l k
-unfolding first
-given [] k e = absurd (let z : _≡_ {A = ℕ} 0 1 = cc in omega arith)
-given (x ∷ xs) k e = go (x .applies) refl e (given xs k)
-  where
-    go : (c : Bool) → x .applies ≡ c → cond c (refused (x .number)) (first xs refused passes) ≡ refused k → (first xs refused passes ≡ refused k → Given xs k) → Given (x ∷ xs) k
-    go true f g ih =
-        let h : x .number ≡ k = cc in
-        record { before = []; after = xs; is = λ i. (record { number = h i; applies = f i }) ∷ xs; none = tt }
-    go false f g ih =
-        let q = ih g in
-        record { before = x ∷ q .before; after = q .after; is = λ i. x ∷ q .is i; none = (f, q .none) }
-
-pub given-back : (b a : List Rung) (k : ℕ) → None b → first (b ++ (on k true ∷ a)) refused passes ≡ refused k
-unfolding first
-given-back [] a k n = refl
-given-back (x ∷ b) a k n = rw (n .0) (given-back b a k (n .1))
 
 -- every other reading of a ladder goes by what it came to
 abbrev pub read : {A : Type 0} → Came → (ℕ → A) → A → A
@@ -127,28 +104,3 @@ refusal-back HasEnded = refl
 
 pub refusal-one : (r s : Refusal) → refusalNumber r ≡ refusalNumber s → r ≡ s
 refusal-one r s e = sym (refusal-back r) ∙ ap refusalOf e ∙ refusal-back s
-
-classBack : ℕ → Class
-classBack k = cond (eqb k 1) class.Complete (cond (eqb k 2) class.Unclassifiable class.Incomplete)
-
-class-back : (x : Class) → classBack (classNumber x) ≡ x
-unfolding classBack
-class-back class.Complete = refl
-class-back class.Unclassifiable = refl
-class-back class.Incomplete = refl
-
-pub class-one : (x y : Class) → classNumber x ≡ classNumber y → x ≡ y
-class-one x y e = sym (class-back x) ∙ ap classBack e ∙ class-back y
-
-verdictBack : ℕ → Verdict
-verdictBack k = cond (eqb k 1) verdict.Complete (cond (eqb k 2) verdict.Repair (cond (eqb k 3) verdict.Aborted verdict.Incomplete))
-
-verdict-back : (x : Verdict) → verdictBack (verdictNumber x) ≡ x
-unfolding verdictBack
-verdict-back verdict.Complete = refl
-verdict-back verdict.Repair = refl
-verdict-back verdict.Aborted = refl
-verdict-back verdict.Incomplete = refl
-
-pub verdict-one : (x y : Verdict) → verdictNumber x ≡ verdictNumber y → x ≡ y
-verdict-one x y e = sym (verdict-back x) ∙ ap verdictBack e ∙ verdict-back y

@@ -2,7 +2,7 @@
 use mathlib.Core.Path.{_≡_, refl, sym, ap, _∙_}
 use mathlib.Core.Bool.{Bool, true, false}
 use mathlib.Core.List.{List, _++_, append-assoc}
-use Prim.Native.Nat.{ℕ, _+_, _-_, _*_, _^_, _≤_, _<_}
+use Prim.Native.Nat.{ℕ, _+_, _*_, _^_, _≤_, _<_}
 use native.Mathlib.Nat.{add-mul, add-assoc}
 use native.Mathlib.Omega.{arith}
 use lib.ListN.{length, length-append}
@@ -32,9 +32,6 @@ stamp-at-number s at h = rw (then-part s at 32 (omega arith), then-part s at 24 
 pub then-yes : (a b x y : ℕ) → a < b → x < 256 ^ 8 → then a x < then b y
 unfolding then
 then-yes a b x y h k = omega arith
-
-pub then-lt : (a b x y : ℕ) → a < b → x < 256 ^ 8 → true ≡ ltb (then a x) (then b y)
-then-lt a b x y h k = sym (lt-ltb (then a x) (then b y) (then-yes a b x y h k))
 
 pub then-right : (a b x y : ℕ) → a ≡ b → x < y → then a x < then b y
 unfolding then

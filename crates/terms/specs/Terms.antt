@@ -5,13 +5,14 @@
 --   complete incomplete       the two thresholds of a plan
 --   classOf                   the class of a candidate set of a size, by two thresholds
 --   unsure verdictOf decided  what a read decides by: the class and the member
---   classNumber verdictNumber refusalNumber   the cases of an enum as numbers; a refusal's is the document's
+--   refusalNumber             the document's number of a refusal
 -- Assumes nothing.
 use Prim.Native.Nat.{ℕ, _+_, _-_, _*_}
-use mathlib.Core.Bool.{Bool, true, false}
+use mathlib.Core.Bool.{Bool, true, false, cond}
 use mathlib.Core.List.{List, [], _∷_}
 use lib.Dec.{ltb, leb}
 use Rattle.terms.specs.Ladder.{all}
+use Rattle.terms.specs.Stamp.{top}
 use Rattle.terms.specs.declared.Plan.{Plan}
 use Rattle.terms.specs.declared.Member.{Member}
 use Rattle.terms.specs.declared.Member.the-variants.{Repairable, NonRepair}
@@ -41,7 +42,7 @@ recordLength p = 40 + 32 * p .n + p .f
 
 -- opening ask number plus W at most 2^64-1
 abbrev pub openingOk : Plan → ℕ → Bool
-openingOk p a = leb (a + p .w) 18446744073709551615
+openingOk p a = leb (a + p .w) top
 
 -- COMPLETE = Q+b and INCOMPLETE = Q-t
 abbrev pub complete : Plan → ℕ
@@ -51,13 +52,9 @@ abbrev pub incomplete : Plan → ℕ
 incomplete p = p .q - p .t
 
 -- ---- a candidate set, by two thresholds
-abbrev pub pickClass : Bool → Class → Class → Class
-pickClass true x y = x
-pickClass false x y = y
-
 -- of COMPLETE or more: complete; below INCOMPLETE: incomplete; any other: unclassifiable
 unfoldable pub classOf : (high low size : ℕ) → Class
-classOf high low size = pickClass (leb high size) class.Complete (pickClass (ltb size low) class.Incomplete class.Unclassifiable)
+classOf high low size = cond (leb high size) class.Complete (cond (ltb size low) class.Incomplete class.Unclassifiable)
 
 -- "Reading": an unclassifiable set is repaired by a repairable member, and ends a non-repair read
 abbrev pub unsure : Member → Verdict
@@ -71,18 +68,6 @@ verdictOf member class.Incomplete = verdict.Incomplete
 
 unfoldable pub decided : Member → (high low size : ℕ) → Verdict
 decided member high low size = verdictOf member (classOf high low size)
-
--- ---- the cases of an enum as numbers
-abbrev pub classNumber : Class → ℕ
-classNumber class.Complete = 1
-classNumber class.Unclassifiable = 2
-classNumber class.Incomplete = 3
-
-abbrev pub verdictNumber : Verdict → ℕ
-verdictNumber verdict.Complete = 1
-verdictNumber verdict.Repair = 2
-verdictNumber verdict.Aborted = 3
-verdictNumber verdict.Incomplete = 4
 
 -- "Refusal numbers"
 abbrev pub refusalNumber : Refusal → ℕ

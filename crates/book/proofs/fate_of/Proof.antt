@@ -2,6 +2,7 @@ use native.Mathlib.Omega.{arith}
 use Rattle.book.proofs.Turns as turns
 use Rattle.book.proofs.Laws as laws
 use borrow.Author.Needs.{needs}
+use Rattle.octets.proofs.Laws.{slot-fits}
 use Rattle.book.proofs.fate_of.Statement.{statement}
 use Rattle.book.proofs.fate_of.Tie as tie
 
@@ -46,7 +47,7 @@ fate-by-requires c κs =
     let count = c .before .before .count in
     let record-length = c .before .before .before .record-length in
     let pre = c .before .before .before .before .before .before .pre in
-    let l = turns.step (place .result) (count .result) (record-length .result) (c .if1 .taken) in
+    let l = slot-fits (place .result) (count .result) (record-length .result) (c .if1 .taken) in
     let e = turns.times (count .ensures .0) (record-length .ensures .0) in
     let i = laws.good-inside _ _ (pre .1) in
     let r = record-length .ensures in

@@ -3,6 +3,7 @@ use Prim.Native.Nat.{_-_}
 use Rattle.book.proofs.Turns as turns
 use Rattle.book.proofs.Laws as laws
 use borrow.Author.Needs.{needs}
+use Rattle.octets.proofs.Laws.{slot-fits}
 use Rattle.book.proofs.last_time.Statement.{statement}
 use Rattle.book.proofs.last_time.Tie as tie
 
@@ -45,7 +46,7 @@ get-requires c κs =
     let pre = c .before .before .before .before .pre in
     let r = record-length .result in
     let m = count .result in
-    let l = turns.step (m - 1) m r (omega arith) in
+    let l = slot-fits (m - 1) m r (omega arith) in
     let e = turns.times (count .ensures .0) (record-length .ensures .0) in
     let i = laws.good-inside _ _ (pre .1) in
     (omega (arith, record-length .ensures), omega arith)

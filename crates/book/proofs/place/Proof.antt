@@ -3,6 +3,7 @@ use Prim.Native.Nat.{_+_, _-_, _*_, _≤_}
 use native.Mathlib.Omega.{arith}
 use borrow.Author.Tests.{not-true, not-false}
 use Rattle.octets.specs.Bytes.{part, num}
+use Rattle.octets.proofs.Laws.{slot-fits}
 use Rattle.book.specs.Records.{below}
 use Rattle.book.specs.Book.{recordsFrom}
 use Rattle.book.proofs.Turns as turns
@@ -30,7 +31,7 @@ is-below-requires c κs =
     let args = c .before .before .before .before .args in
     let loop = c .before .loop in
     let a = args in
-    let l = turns.step (loop .k) (a .left) (a .r) (c .loop-test .taken) in
+    let l = slot-fits (loop .k) (a .left) (a .r) (c .loop-test .taken) in
     (omega arith, omega arith)
 
 returns : tie.Need-returns Inv-loop μ-loop
@@ -46,7 +47,7 @@ add-p c =
     let loop = c .before .before .before .loop in
     let loop-test = c .before .before .loop-test in
     let a = args in
-    let l = turns.step (loop .k) (a .left) (a .r) (loop-test .taken) in
+    let l = slot-fits (loop .k) (a .left) (a .r) (loop-test .taken) in
     omega arith
 
 add-k : tie.Need-add-k Inv-loop μ-loop

@@ -1,8 +1,8 @@
 use Prim.Native.Nat.{_-_}
 use native.Mathlib.Omega.{arith}
-use Rattle.book.proofs.Turns as turns
 use Rattle.book.proofs.Laws as laws
 use borrow.Author.Needs.{needs}
+use Rattle.octets.proofs.Laws.{slot-fits}
 use Rattle.book.proofs.span_of.Statement.{statement}
 use Rattle.book.proofs.span_of.Tie as tie
 
@@ -16,14 +16,14 @@ mul-t8 : tie.Need-mul-t8
 mul-t8 c =
     let args = c .before .args in
     let a = args in
-    let l = turns.step (a .k - 1) (a .m) (a .r) (omega arith) in
+    let l = slot-fits (a .k - 1) (a .m) (a .r) (omega arith) in
     omega arith
 
 add-t9 : tie.Need-add-t9
 add-t9 c =
     let args = c .before .args in
     let a = args in
-    let l = turns.step (a .k - 1) (a .m) (a .r) (omega arith) in
+    let l = slot-fits (a .k - 1) (a .m) (a .r) (omega arith) in
     omega arith
 
 returns-2 : tie.Need-returns-2

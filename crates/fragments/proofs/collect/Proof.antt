@@ -3,7 +3,8 @@ use mathlib.Core.Path.{_∙_}
 use Prim.Native.Nat.{_+_, _*_}
 use native.Mathlib.Omega.{arith}
 use borrow.Author.Needs.{needs}
-use Rattle.fragments.proofs.Laws.{points-length, points-within, points-collect, run-fits}
+use Rattle.octets.proofs.Laws.{slot-fits}
+use Rattle.fragments.proofs.Laws.{points-length, points-within, points-collect}
 use Rattle.fragments.proofs.collect.Statement.{statement}
 use Rattle.fragments.proofs.collect.Tie as tie
 
@@ -19,7 +20,7 @@ lay-requires c κs =
     let a = s .args in (
       points-within (a .desk .now) (a .first) (a .stride) (a .f) (a .m) (s .pre .0) (s .pre .2),
       s .pre .0,
-      λ k h. omega (arith, run-fits (a .m) (a .f) k h, s .pre .1),
+      λ k h. omega (arith, slot-fits k (a .m) (a .f) h, s .pre .1),
     )
 
 same-length : tie.Need-same-length

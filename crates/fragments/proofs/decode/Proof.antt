@@ -1,11 +1,11 @@
 use native.Mathlib.Omega.{arith}
-use Rattle.fragments.proofs.Laws.{run-fits}
 use borrow.Author.Needs.{needs}
+use Rattle.octets.proofs.Laws.{slot-fits}
 use Rattle.fragments.proofs.decode.Statement.{statement}
 use Rattle.fragments.proofs.decode.Tie as tie
 
 lay-requires : tie.Need-lay-requires
-lay-requires c κs = (c .before .before .before .before .pre .0, c .before .before .before .before .pre .1, λ k h. omega (arith, run-fits (c .before .before .before .before .args .m) (c .before .before .before .before .args .f) k h, c .before .before .before .before .pre .2))
+lay-requires c κs = (c .before .before .before .before .pre .0, c .before .before .before .before .pre .1, λ k h. omega (arith, slot-fits k (c .before .before .before .before .args .m) (c .before .before .before .before .args .f) h, c .before .before .before .before .pre .2))
 
 same-length : tie.Need-same-length
 same-length c = search needs

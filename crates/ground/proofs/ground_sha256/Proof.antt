@@ -1,4 +1,5 @@
-use Rattle.ground.proofs.Laws.{done, refused, hash-is, put-all}
+use Rattle.ground.proofs.Laws.{done, refused, hash-is}
+use Rattle.octets.proofs.Meaning.{put-whole}
 use Rattle.sha256.proofs.Laws.{sha256-length}
 use borrow.Author.Tests.{not-true, not-false}
 use mathlib.Core.Path.{sym, _∙_}
@@ -20,7 +21,7 @@ same-length : tie.Need-same-length
 same-length c = search needs
 
 returns-2 : tie.Need-returns-2
-returns-2 c = let e = sym (c .before .before .before .before .before .hash-fits .ensures) ∙ not-false (c .before .before .before .before .before .hash-fits .result) (c .before .before .before .before .if1 .left) in done _ _ _ e (c .before .before .digest-into .ensures ∙ put-all _ _ (sha256-length _ ∙ sym (hash-is _ _ _ e .1)))
+returns-2 c = let e = sym (c .before .before .before .before .before .hash-fits .ensures) ∙ not-false (c .before .before .before .before .before .hash-fits .result) (c .before .before .before .before .if1 .left) in done _ _ _ e (c .before .before .digest-into .ensures ∙ put-whole _ _ (hash-is _ _ _ e .1 ∙ sym (sha256-length _)))
 
 pub ground-sha256-spec : {M : Type 1} → statement M
 ground-sha256-spec =

@@ -5,7 +5,7 @@ use Prim.Native.Nat.{ℕ, _+_, _-_, _*_, _≤_}
 use native.Mathlib.Omega.{arith}
 use lib.ListN.{length, drop}
 use Rattle.octets.specs.Bytes.{part, put}
-use Rattle.octets.proofs.Laws.{length-part}
+use Rattle.octets.proofs.Laws.{length-part, slot-fits}
 use Rattle.record.specs.Desk.{deskOf}
 use Rattle.record.proofs.Desks as laws
 use Rattle.record.proofs.heads.Statement.{statement}
@@ -27,21 +27,21 @@ loop-holds c =
       refl,
       refl,
       laws.start (a .desk .now) (part (a .desk .now) (a .a * a .r) (a .h)) (a .r) (a .h) (a .f) (a .n) (s .pre .1)
-          (length-part _ _ _ (omega (arith, laws.slot-fits _ _ (a .r) (s .pre .2)))) (s .pre .0),
+          (length-part _ _ _ (omega (arith, slot-fits _ _ (a .r) (s .pre .2)))) (s .pre .0),
     )
 
 mul-within : tie.Need-mul-within Inv-loop μ-loop
-mul-within c = let a = c .before .before .before .before .args in omega (arith, laws.slot-fits _ _ (a .r) (c .before .before .before .before .pre .2))
+mul-within c = let a = c .before .before .before .before .args in omega (arith, slot-fits _ _ (a .r) (c .before .before .before .before .pre .2))
 
 mul-within-2 : tie.Need-mul-within-2 Inv-loop μ-loop
-mul-within-2 c = let a = c .before .before .before .before .args in omega (arith, laws.slot-fits _ _ (a .r) (c .before .loop-test .taken))
+mul-within-2 c = let a = c .before .before .before .before .args in omega (arith, slot-fits _ _ (a .r) (c .before .loop-test .taken))
 
 within-requires : tie.Need-within-requires Inv-loop μ-loop
 within-requires c κs =
     let l = c .before .before in
     let s = l .before .before in
-    let x = laws.slot-fits _ _ (s .args .r) (s .pre .2) in
-    let y = laws.slot-fits _ _ (s .args .r) (c .before .loop-test .taken) in
+    let x = slot-fits _ _ (s .args .r) (s .pre .2) in
+    let y = slot-fits _ _ (s .args .r) (c .before .loop-test .taken) in
     let n = l .loop .inv .1 in
     (omega arith, omega arith)
 
@@ -59,7 +59,7 @@ loop-again c =
     let a = s .args in
     let i = l .inv in
     let head : List ℕ = part (a .desk .now) (a .a * a .r) (a .h) in
-    let x = laws.slot-fits _ _ (a .r) (s .pre .2) in
+    let x = slot-fits _ _ (a .r) (s .pre .2) in
     let lh = length-part (a .desk .now) (a .a * a .r) (a .h) (omega arith) in
     let e = c .before .before .within .ensures ∙ ap (λ (z : List ℕ). put (l .desk) (l .k * a .r) z) (i .2) in
     let stays = laws.head-stays (l .desk) head (a .a) (l .k) (a .n) (a .r) (a .h) (omega arith) lh (omega arith) (t .loop-test .taken) (i .2) in (
@@ -77,7 +77,7 @@ returns c =
     let l = c .before .loop in
     let s = c .before .before .before in
     let a = s .args in
-    let x = laws.slot-fits _ _ (a .r) (s .pre .2) in
+    let x = slot-fits _ _ (a .r) (s .pre .2) in
     laws.done (a .desk .now) (part (a .desk .now) (a .a * a .r) (a .h)) (a .r) (a .h) (a .f) (a .n) (s .pre .1) (length-part _ _ _ (omega arith)) (s .pre .0)
     (l .k) (l .desk) (omega arith) (l .inv .3)
 

@@ -3,6 +3,7 @@ use Prim.Native.Nat.{_-_, _≤_}
 use native.Mathlib.Omega.{arith}
 use borrow.Author.Needs.{needs}
 use lib.ListN.{length}
+use Rattle.octets.proofs.Laws.{slot-room}
 use Rattle.recover.specs.Recover.{refilled}
 use Rattle.recover.proofs.Laws as laws
 use Rattle.recover.proofs.refill.Statement.{statement}
@@ -19,7 +20,7 @@ unfolding refilled
 loop-holds c = (omega arith, c .before .before .before .pre .1, refl, refl)
 
 fill-slot-requires : tie.Need-fill-slot-requires Inv-loop μ-loop
-fill-slot-requires c κs = let z = laws.slot-room (c .before .before .before .loop .k) _ _ _ (c .before .before .loop-test .taken) (c .before .before .before .before .before .before .before .pre .4) in let y = laws.slot-room (c .before .before .before .before .before .before .before .args .a) _ _ _ (c .before .before .before .before .before .before .before .pre .5) (c .before .before .before .before .before .before .before .pre .4) in (λ j u. let q = c .before .before .before .before .before .before .before .pre .0 j u in omega arith, omega arith, c .before .before .before .before .before .before .before .pre .2, omega arith, omega arith, omega arith)
+fill-slot-requires c κs = let z = slot-room (c .before .before .before .loop .k) _ _ _ (c .before .before .loop-test .taken) (c .before .before .before .before .before .before .before .pre .4) in let y = slot-room (c .before .before .before .before .before .before .before .args .a) _ _ _ (c .before .before .before .before .before .before .before .pre .5) (c .before .before .before .before .before .before .before .pre .4) in (λ j u. let q = c .before .before .before .before .before .before .before .pre .0 j u in omega arith, omega arith, c .before .before .before .before .before .before .before .pre .2, omega arith, omega arith, omega arith)
 
 add-k : tie.Need-add-k Inv-loop μ-loop
 add-k c = search needs

@@ -1,4 +1,5 @@
 use native.Mathlib.Omega.{arith}
+use Rattle.octets.proofs.Laws.{slot-room}
 use Rattle.rounds.specs.Rounds.{slotStamp}
 use Rattle.rounds.proofs.Laws as laws
 use borrow.Author.Needs.{needs}
@@ -12,13 +13,13 @@ enum-known-best : tie.Need-enum-known-best
 enum-known-best c = search needs
 
 mul-less : tie.Need-mul-less
-mul-less c = let h = laws.slot-room (c .before .best .given .0 .0) _ _ _ (laws.lead-told _ _ _ (c .before .best .given .1) (c .before .before .before .before .pre .3)) (c .before .before .before .before .pre .0) in omega (arith, h, c .before .before .before .before .good)
+mul-less c = let h = slot-room (c .before .best .given .0 .0) _ _ _ (laws.lead-told _ _ _ (c .before .best .given .1) (c .before .before .before .before .pre .3)) (c .before .before .before .before .pre .0) in omega (arith, h, c .before .before .before .before .good)
 
 mul-less-2 : tie.Need-mul-less-2
-mul-less-2 c = let h = laws.slot-room (c .before .before .before .before .args .i) _ _ _ (c .before .before .before .before .pre .2) (c .before .before .before .before .pre .0) in omega (arith, h, c .before .before .before .before .good)
+mul-less-2 c = let h = slot-room (c .before .before .before .before .args .i) _ _ _ (c .before .before .before .before .pre .2) (c .before .before .before .before .pre .0) in omega (arith, h, c .before .before .before .before .good)
 
 less-requires : tie.Need-less-requires
-less-requires c κs = let h = laws.slot-room (c .before .best .given .0 .0) _ _ _ (laws.lead-told _ _ _ (c .before .best .given .1) (c .before .before .before .before .pre .3)) (c .before .before .before .before .pre .0) in let k = laws.slot-room (c .before .before .before .before .args .i) _ _ _ (c .before .before .before .before .pre .2) (c .before .before .before .before .pre .0) in (omega (arith, h), omega (arith, k))
+less-requires c κs = let h = slot-room (c .before .best .given .0 .0) _ _ _ (laws.lead-told _ _ _ (c .before .best .given .1) (c .before .before .before .before .pre .3)) (c .before .before .before .before .pre .0) in let k = slot-room (c .before .before .before .before .args .i) _ _ _ (c .before .before .before .before .pre .2) (c .before .before .before .before .pre .0) in (omega (arith, h), omega (arith, k))
 
 returns : tie.Need-returns
 unfolding slotStamp

@@ -1,5 +1,6 @@
 use mathlib.Core.Path.{refl}
 use native.Mathlib.Omega.{arith}
+use Rattle.octets.proofs.Laws.{slot-room}
 use Rattle.rounds.proofs.Laws as laws
 use borrow.Author.Needs.{needs}
 use Rattle.rounds.proofs.closing.Statement.{statement}
@@ -24,10 +25,10 @@ decide-requires : tie.Need-decide-requires
 decide-requires c κs = search needs
 
 mul-stamp-at : tie.Need-mul-stamp-at
-mul-stamp-at c = let h = laws.slot-room (c .before .before .before .lead .given .0 .0) _ _ _ (laws.lead-room _ _ _ _ _ _ (c .before .before .before .before .before .leading .ensures) (c .before .before .before .lead .given .1)) (c .before .before .before .before .before .before .before .pre .0) in omega (arith, h, c .before .before .before .before .before .before .before .good)
+mul-stamp-at c = let h = slot-room (c .before .before .before .lead .given .0 .0) _ _ _ (laws.lead-room _ _ _ _ _ _ (c .before .before .before .before .before .leading .ensures) (c .before .before .before .lead .given .1)) (c .before .before .before .before .before .before .before .pre .0) in omega (arith, h, c .before .before .before .before .before .before .before .good)
 
 stamp-at-requires : tie.Need-stamp-at-requires
-stamp-at-requires c κs = let h = laws.slot-room (c .before .before .before .lead .given .0 .0) _ _ _ (laws.lead-room _ _ _ _ _ _ (c .before .before .before .before .before .leading .ensures) (c .before .before .before .lead .given .1)) (c .before .before .before .before .before .before .before .pre .0) in omega (arith, h)
+stamp-at-requires c κs = let h = slot-room (c .before .before .before .lead .given .0 .0) _ _ _ (laws.lead-room _ _ _ _ _ _ (c .before .before .before .before .before .leading .ensures) (c .before .before .before .lead .given .1)) (c .before .before .before .before .before .before .before .pre .0) in omega (arith, h)
 
 returns : tie.Need-returns
 returns c = (laws.close-none _ _ _ _ _ _ _ _ _ _ (c .before .before .before .leading .ensures) (c .before .enum-told .given .1) (c .zero-stamp .ensures), refl, omega arith)

@@ -1,7 +1,7 @@
 use mathlib.Core.Path.{refl}
 use Prim.Native.Nat.{_-_}
 use native.Mathlib.Omega.{arith}
-use Rattle.rounds.proofs.Laws as laws
+use Rattle.octets.proofs.Laws.{slot-room}
 use Rattle.rounds.specs.Rounds.{joinsOf}
 use borrow.Author.Needs.{needs}
 use Rattle.rounds.proofs.joins.Statement.{statement}
@@ -11,13 +11,13 @@ enum-told : tie.Need-enum-told
 enum-told c = search needs
 
 mul-same : tie.Need-mul-same
-mul-same c = let h = laws.slot-room (c .before .before .before .args .i) _ _ _ (c .before .before .before .pre .2) (c .before .before .before .pre .0) in omega (arith, c .before .before .before .good)
+mul-same c = let h = slot-room (c .before .before .before .args .i) _ _ _ (c .before .before .before .pre .2) (c .before .before .before .pre .0) in omega (arith, c .before .before .before .good)
 
 mul-same-2 : tie.Need-mul-same-2
-mul-same-2 c = let h = laws.slot-room (c .before .before .before .args .a) _ _ _ (c .before .before .before .pre .3) (c .before .before .before .pre .0) in omega (arith, c .before .before .before .good)
+mul-same-2 c = let h = slot-room (c .before .before .before .args .a) _ _ _ (c .before .before .before .pre .3) (c .before .before .before .pre .0) in omega (arith, c .before .before .before .good)
 
 same-requires : tie.Need-same-requires
-same-requires c κs = let h = laws.slot-room (c .before .before .before .args .i) _ _ _ (c .before .before .before .pre .2) (c .before .before .before .pre .0) in let k = laws.slot-room (c .before .before .before .args .a) _ _ _ (c .before .before .before .pre .3) (c .before .before .before .pre .0) in (omega arith, omega arith)
+same-requires c κs = let h = slot-room (c .before .before .before .args .i) _ _ _ (c .before .before .before .pre .2) (c .before .before .before .pre .0) in let k = slot-room (c .before .before .before .args .a) _ _ _ (c .before .before .before .pre .3) (c .before .before .before .pre .0) in (omega arith, omega arith)
 
 enum-told-2 : tie.Need-enum-told-2
 enum-told-2 c = search needs

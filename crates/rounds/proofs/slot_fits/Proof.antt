@@ -1,7 +1,7 @@
 use native.Mathlib.Omega.{arith}
-use borrow.Author.Tests.{lt-ltb, le-ltb}
+use Rattle.octets.proofs.Laws.{slot-room}
+use borrow.Author.Tests.{lt-leb, le-leb}
 use Rattle.rounds.specs.Rounds.{slotFits, slotStamp}
-use Rattle.rounds.proofs.Laws as laws
 use borrow.Author.Needs.{needs}
 use Rattle.rounds.proofs.slot_fits.Statement.{statement}
 use Rattle.rounds.proofs.slot_fits.Tie as tie
@@ -10,20 +10,20 @@ enum-told : tie.Need-enum-told
 enum-told c = search needs
 
 mul-get : tie.Need-mul-get
-mul-get c = let h = laws.slot-room (c .before .before .before .args .i) _ _ _ (c .before .before .before .pre .2) (c .before .before .before .pre .0) in omega (arith, h, c .before .before .before .good)
+mul-get c = let h = slot-room (c .before .before .before .args .i) _ _ _ (c .before .before .before .pre .2) (c .before .before .before .pre .0) in omega (arith, h, c .before .before .before .good)
 
 get-requires : tie.Need-get-requires
-get-requires c κs = let h = laws.slot-room (c .before .before .before .args .i) _ _ _ (c .before .before .before .pre .2) (c .before .before .before .pre .0) in (omega (arith, h), omega arith)
+get-requires c κs = let h = slot-room (c .before .before .before .args .i) _ _ _ (c .before .before .before .pre .2) (c .before .before .before .pre .0) in (omega (arith, h), omega arith)
 
 returns : tie.Need-returns
 unfolding slotFits
-returns c = rw (c .before .before .enum-told .given .1, ← (c .before .get .ensures .0), lt-ltb _ _ (c .if1 .taken))
+returns c = rw (c .before .before .enum-told .given .1, ← (c .before .get .ensures .0), lt-leb _ _ (c .if1 .taken))
 
 mul-under : tie.Need-mul-under
-mul-under c = let h = laws.slot-room (c .before .before .before .before .before .args .i) _ _ _ (c .before .before .before .before .before .pre .2) (c .before .before .before .before .before .pre .0) in omega (arith, h, c .before .before .before .before .before .good)
+mul-under c = let h = slot-room (c .before .before .before .before .before .args .i) _ _ _ (c .before .before .before .before .before .pre .2) (c .before .before .before .before .before .pre .0) in omega (arith, h, c .before .before .before .before .before .good)
 
 under-requires : tie.Need-under-requires
-under-requires c κs = let h = laws.slot-room (c .before .before .before .before .before .args .i) _ _ _ (c .before .before .before .before .before .pre .2) (c .before .before .before .before .before .pre .0) in omega (arith, h)
+under-requires c κs = let h = slot-room (c .before .before .before .before .before .args .i) _ _ _ (c .before .before .before .before .before .pre .2) (c .before .before .before .before .before .pre .0) in omega (arith, h)
 
 enum-told-2 : tie.Need-enum-told-2
 enum-told-2 c = search needs
@@ -33,7 +33,7 @@ enum-told-3 c = search needs
 
 returns-2 : tie.Need-returns-2
 unfolding slotFits slotStamp
-returns-2 c = rw (c .before .before .before .enum-told .given .1, ← (c .before .before .get .ensures .0), le-ltb _ _ (c .before .if1 .left)) (c .under .ensures)
+returns-2 c = rw (c .before .before .before .enum-told .given .1, ← (c .before .before .get .ensures .0), le-leb _ _ (c .before .if1 .left)) (c .under .ensures)
 
 returns-3 : tie.Need-returns-3
 unfolding slotFits

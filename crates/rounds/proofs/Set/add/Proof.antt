@@ -1,7 +1,7 @@
 use mathlib.Core.Path.{refl}
 use Prim.Native.Nat.{_-_}
 use borrow.Author.Tests.{not-true, not-false}
-use Rattle.rounds.proofs.Decide.{yes, no}
+use Rattle.terms.proofs.Picks.{yes, no}
 use Rattle.rounds.specs.Rounds.{addOf}
 use borrow.Author.Needs.{needs}
 use Rattle.rounds.proofs.Set.add.Statement.{statement}

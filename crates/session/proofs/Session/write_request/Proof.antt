@@ -5,8 +5,7 @@ use mathlib.Core.Path.{refl}
 use mathlib.Core.List.{[]}
 use native.Mathlib.Omega.{arith}
 use Rattle.octets.specs.Bytes.{part}
-use Rattle.octets.proofs.Laws.{length-part}
-use Rattle.record.proofs.Desks.{slot-fits}
+use Rattle.octets.proofs.Laws.{length-part, slot-fits}
 use Rattle.terms.proofs.Plans.{plan-is}
 use Rattle.session.proofs.Oweds as laws
 use Rattle.session.proofs.Rules as rules

@@ -23,3 +23,4 @@ pub mod Repair
 pub mod RepairRound
 pub mod RepairInstance
 pub mod Sessions
+pub mod ComesBack

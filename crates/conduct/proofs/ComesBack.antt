@@ -9,14 +9,14 @@
 --   pair-comes-back        a computed case
 -- Assumes nothing.
 use Prim.{tt}
-use Prim.Native.Nat.{ℕ, zero, suc, _+_, _*_, _≤_, _<_}
+use Prim.Native.Nat.{ℕ, _+_, _*_, _<_}
 use mathlib.Core.Path.{_≡_, refl, sym, ap, _∙_}
 use mathlib.Core.Bool.{true, false}
 use mathlib.Core.List.{List, [], _∷_, _++_, append-assoc, append-nil}
 use mathlib.Core.Logic.{inl, inr}
 use native.Mathlib.Omega.{arith}
 use lib.ListN.{length, length-append}
-use Rattle.octets.specs.Bytes.{part, be, Octets}
+use Rattle.octets.specs.Bytes.{part, Octets}
 use Rattle.octets.proofs.Laws.{length-part, length-be, part-middle}
 use Rattle.sha256.proofs.Laws.{sha256-length}
 use Rattle.terms.specs.Ladder.{all}
@@ -30,7 +30,7 @@ use Rattle.terms.proofs.Rungs.{clash}
 use Rattle.fragments.specs.Fragments.{All, Distinct, from, fragment, laid}
 use Rattle.fragments.proofs.Interp.{all-map, all-map2}
 use Rattle.fragments.proofs.Laws.{length-from}
-use Rattle.fragments.proofs.Theorems.{any-item}
+use Rattle.fragments.proofs.Theorems.{all-from, distinct-from, any-item}
 use Rattle.record.specs.Record.{fragmentOf}
 use Rattle.record.specs.Desk.{slotOf, fragmentIn, stampMade}
 use Rattle.record.proofs.Records.{record-length, fragment-at}
@@ -48,16 +48,6 @@ use Rattle.conduct.specs.Endings.{after, deskAfter, size, WhenDone, Done
 use Rattle.conduct.proofs.Instances.{small, small-octets}
 use Rattle.conduct.proofs.Reading as reading
 use Rattle.conduct.proofs.Endings.{read-done}
-
-all-from : {P : ℕ → Type 0} (a n : ℕ) → ((k : ℕ) → a ≤ k → k < a + n → P k) → All P (from a n)
-unfolding from
-all-from a zero h = tt
-all-from a (suc n) h = (h a (omega arith) (omega arith), all-from (suc a) n (λ k l u. h k (omega arith) (omega arith)))
-
-distinct-from : (a n : ℕ) → Distinct (from a n)
-unfolding from
-distinct-from a zero = tt
-distinct-from a (suc n) = (all-from (suc a) n (λ k l u e. omega arith), distinct-from (suc a) n)
 
 -- an item of m·F bytes, written at time t under an accepted plan, and a buffer of m·F bytes to read it into
 module _ (p : Plan) (t : ℕ) (i : List ℕ) (ok : planOk p ≡ true) (bytes : Octets i) (whole : length i ≡ p .m * p .f)

@@ -24,3 +24,4 @@ pub mod RepairRound
 pub mod RepairInstance
 pub mod Sessions
 pub mod ComesBack
+pub mod Asks

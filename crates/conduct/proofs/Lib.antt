@@ -25,3 +25,4 @@ pub mod RepairInstance
 pub mod Sessions
 pub mod ComesBack
 pub mod Asks
+pub mod ReadInstance

@@ -26,3 +26,4 @@ pub mod Sessions
 pub mod ComesBack
 pub mod Asks
 pub mod ReadInstance
+pub mod WriteInstance

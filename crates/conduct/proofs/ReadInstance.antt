@@ -49,7 +49,7 @@ use Rattle.session.specs.Opening.{freshOf, openWith, OpenCall}
 use Rattle.session.specs.Ranges.{standingRules, openRules, inRange}
 use Rattle.session.specs.Reply.{lengthsOk, awaited, isHeard, bears}
 use Rattle.session.specs.Reader.{sound, failing, actOn, actFor, closed, settled, heard, stored, accepted, repaired, collected, readReply, ReadReplyCall}
-use Rattle.session.specs.Writer.{crossFor, recordsFor}
+use Rattle.session.specs.Writer.{crossFor, stampFor, recordsFor}
 use Rattle.session.proofs.Kept.{Kept}
 use Rattle.conduct.specs.Endings.{after, deskAfter}
 use Rattle.conduct.specs.Turns.{Turn, Turns, closedRounds}
@@ -259,7 +259,7 @@ replies-so = (
   ),
 )
 
-desk-long : length desk ≡ plan .n * recordLength plan
+pub desk-long : length desk ≡ plan .n * recordLength plan
 unfolding plan desk recordLength
 desk-long = refl
 
@@ -323,6 +323,10 @@ unfolding recordsFor plan
 written-so =
     ap (λ (c : List ℕ). deskOf (stampMade 1 c) c (fragment 1 1 (7 ∷ [])) 3) cross-so
     ∙ ap (λ (t : List ℕ). deskOf t cross (fragment 1 1 (7 ∷ [])) 3) stamp-so ∙ full-so
+
+pub stamped-so : stampFor plan 1 (7 ∷ []) ≡ stampAt stamp-bytes 0
+unfolding stampFor
+stamped-so = ap (λ (c : List ℕ). stampAt (stampMade 1 c) 0) cross-so ∙ ap (λ (t : List ℕ). stampAt t 0) stamp-so
 
 plan-ok : planOk plan ≡ true
 unfolding plan planOk tableOk columnOf all

@@ -86,7 +86,7 @@ pub opened-so : OpenCall Write plan ask opened
 unfolding openWith first planOk tableOk columnOf all plan
 opened-so = record { is = refl }
 
-met-1 : WriteReplyCall plan start (time-reply 0) desk (7 ∷ []) (call-1 .took) desk
+pub met-1 : WriteReplyCall plan start (time-reply 0) desk (7 ∷ []) (call-1 .took) desk
 unfolding time-reply desk plan writeReply first planOk tableOk columnOf all recordLength lengthsOk inRange standingRules openRules heardCount every num numFrom part
     goodReply goodFrame shaped forParty oneOf bodyFits awaited askNow kindAwaited isHeard be beOnto acceptedWrite timeTurn
 met-1 = record { is = refl }
@@ -96,15 +96,15 @@ unfolding time-reply desk plan writeReply first planOk tableOk columnOf all reco
     goodReply goodFrame shaped forParty oneOf bodyFits awaited askNow kindAwaited isHeard be beOnto acceptedWrite timeTurn timeEnd
 filled = refl
 
-met-2 : WriteReplyCall plan once-timed (time-reply 1) desk (7 ∷ []) (call-2 .took) desk-full
+pub met-2 : WriteReplyCall plan once-timed (time-reply 1) desk (7 ∷ []) (call-2 .took) desk-full
 met-2 = record { is = (λ j. leaves stillOpen (storingOf (timedOf once-timed 1 0) (sym stamped-so j)) (sym written-so j)) ∙ filled }
 
-met-3 : WriteReplyCall plan write-round (write-reply 0) desk-full (7 ∷ []) (call-3 .took) desk-full
+pub met-3 : WriteReplyCall plan write-round (write-reply 0) desk-full (7 ∷ []) (call-3 .took) desk-full
 unfolding write-reply stamp-bytes hash good desk-full plan writeReply first planOk tableOk columnOf all recordLength lengthsOk inRange standingRules openRules heardCount every
     num numFrom part goodReply goodFrame shaped forParty oneOf bodyFits awaited askNow kindAwaited isHeard be beOnto acceptedWrite writeTurn stampAt stampNumber then
 met-3 = record { is = refl }
 
-met-4 : WriteReplyCall plan once-stored (write-reply 2) desk-full (7 ∷ []) (call-4 .took) desk-full
+pub met-4 : WriteReplyCall plan once-stored (write-reply 2) desk-full (7 ∷ []) (call-4 .took) desk-full
 unfolding write-reply stamp-bytes hash good desk-full plan writeReply first planOk tableOk columnOf all recordLength lengthsOk inRange standingRules openRules heardCount every
     num numFrom part goodReply goodFrame shaped forParty oneOf bodyFits awaited askNow kindAwaited isHeard be beOnto acceptedWrite writeTurn stampAt stampNumber then
 met-4 = record { is = refl }

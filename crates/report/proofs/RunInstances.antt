@@ -6,23 +6,25 @@
 use Prim.{tt}
 use Prim.Native.Nat.{ℕ}
 use mathlib.Core.Path.{_≡_, refl, sym, ap, _∙_, subst}
-use mathlib.Core.Bool.{true}
+use mathlib.Core.Bool.{Bool, true, false, cond}
 use mathlib.Core.List.{List, [], _∷_}
 use mathlib.Core.Logic.{inl, inr}
 use native.Mathlib.Omega.{arith}
 use lib.ListN.{getD}
-use Rattle.octets.specs.Bytes.{part, put, num, numFrom, be, beOnto, alike}
+use Rattle.octets.specs.Bytes.{part, num, numFrom, be, beOnto}
 use Rattle.sha256.specs.Sha256.{sha256, after, compressOf, addedOf, roundsOf, roundOf, T1, T2, scheduleOf, words, padding, bigEndian, K}
-use Rattle.terms.specs.Ladder.{first, all}
+use Rattle.terms.specs.Ladder.{Rung, first, all}
 use Rattle.terms.specs.Stamp.{then, stampAt, stampNumber}
 use Rattle.terms.specs.Terms.{planOk, tableOk, columnOf, recordLength}
 use Rattle.frame.specs.Frame.{shaped, bodyFits, forParty, oneOf, goodFrame, goodReply}
-use Rattle.record.specs.Record.{fragmentHash, hashesOk, timeZero, crossOf}
+use Rattle.record.specs.Record.{crossOf}
 use Rattle.record.specs.Desk.{slotOf}
 use Rattle.rounds.specs.Rounds.{heardCount, every, slotStamp, slotsFit, slotFits, underOf}
+use Rattle.session.specs.declared.Session.{Session}
+use Rattle.session.specs.declared.Operation.the-variants.{Read}
 use Rattle.session.specs.Session.{askNow, kindAwaited}
 use Rattle.session.specs.Ranges.{standingRules, openRules, inRange}
-use Rattle.session.specs.Reply.{lengthsOk, awaited, isHeard, bears}
+use Rattle.session.specs.Reply.{lengthsOk, awaited, isHeard, bears, replyLadder, recordLadder}
 use Rattle.conduct.specs.Turns.{Turn}
 use Rattle.conduct.proofs.Instances.{small, small-octets}
 use Rattle.conduct.proofs.ReadInstance as reads
@@ -50,23 +52,32 @@ read-met =
 abbrev heard-in : List ℕ → List Message
 heard-in d = bearing plan d 0 ∷ record { S = 1; Response = initial } ∷ []
 
+-- where a reply that is accepted closes no round, no reply does
+none-closed : (l : List Rung) (before after : List (List Message)) → after ≡ before → first l (λ (k : ℕ). before) after ≡ before
+unfolding first
+none-closed [] before after e = e
+none-closed (x ∷ l) before after e = go (x .applies) (none-closed l before after e)
+  where
+    go : (c : Bool) → first l (λ (k : ℕ). before) after ≡ before → cond c before (first l (λ (k : ℕ). before) after) ≡ before
+    go true more = refl
+    go false more = more
+
 module _ (before : List (List Message)) where
-  closing-1 : closing plan reads.start reads.reply-1 desk 1 before ≡ before
-  unfolding closing reads.reply-1 plan desk poor hash first planOk tableOk columnOf all recordLength lengthsOk inRange standingRules openRules every heardCount slotsFit slotFits
-      goodReply goodFrame shaped forParty oneOf bodyFits awaited askNow kindAwaited isHeard bears fragmentHash hashesOk underOf num numFrom part put be beOnto alike timeZero
-      sha256 after compressOf addedOf roundsOf roundOf T1 T2 scheduleOf words padding bigEndian K
-  closing-1 = refl
+  abbrev Stays : Session → List ℕ → List ℕ → Type 0
+  Stays s f d = closing plan s f d 1 before ≡ before
+
+  closing-1 : Stays reads.start reads.reply-1 desk
+  unfolding closing reads.reply-1 plan bears recordLength heardCount poor hash num numFrom part be beOnto
+  closing-1 = none-closed (replyLadder Read plan reads.start reads.reply-1 desk 1) before _ (none-closed (recordLadder plan reads.start reads.reply-1) before _ refl)
 
   closing-2 : closing plan reads.first-heard reads.reply-2 desk-poor 1 before ≡ heard-in desk-poor ∷ before
   unfolding closing responses responseOf reads.reply-2 plan desk-poor poor hash first planOk tableOk columnOf all recordLength lengthsOk inRange standingRules openRules every
       heardCount slotsFit slotFits slotStamp goodReply goodFrame shaped forParty oneOf bodyFits awaited askNow kindAwaited isHeard bears underOf num numFrom part be beOnto
   closing-2 = refl
 
-  closing-3 : closing plan reads.second-round reads.reply-3 desk-poor 1 before ≡ before
-  unfolding closing reads.reply-3 plan desk-poor poor good stamp-bytes hash first planOk tableOk columnOf all recordLength lengthsOk inRange standingRules openRules every heardCount
-      slotsFit slotFits goodReply goodFrame shaped forParty oneOf bodyFits awaited askNow kindAwaited isHeard bears fragmentHash hashesOk underOf num numFrom part put be beOnto
-      alike timeZero stampAt stampNumber then sha256 after compressOf addedOf roundsOf roundOf T1 T2 scheduleOf words padding bigEndian K
-  closing-3 = refl
+  closing-3 : Stays reads.second-round reads.reply-3 desk-poor
+  unfolding closing reads.reply-3 plan bears recordLength heardCount good stamp-bytes hash num numFrom part be beOnto
+  closing-3 = none-closed (replyLadder Read plan reads.second-round reads.reply-3 desk-poor 1) before _ (none-closed (recordLadder plan reads.second-round reads.reply-3) before _ refl)
 
   closing-4 : closing plan reads.second-heard reads.reply-4 desk-good 1 before ≡ heard-in desk-good ∷ before
   unfolding closing responses responseOf reads.reply-4 plan desk-poor poor desk-good good stamp-bytes hash first planOk tableOk columnOf all recordLength lengthsOk inRange
@@ -74,17 +85,13 @@ module _ (before : List (List Message)) where
       num numFrom part be beOnto stampAt stampNumber then
   closing-4 = refl
 
-  closing-5 : closing plan reads.repair-round reads.reply-5 desk-full 1 before ≡ before
-  unfolding closing reads.reply-5 plan desk-poor poor desk-good desk-full good stamp-bytes hash first planOk tableOk columnOf all recordLength lengthsOk inRange standingRules
-      openRules every heardCount slotsFit slotFits slotStamp goodReply goodFrame shaped forParty oneOf bodyFits awaited askNow kindAwaited isHeard bears underOf num numFrom part
-      be beOnto stampAt stampNumber then
-  closing-5 = refl
+  closing-5 : Stays reads.repair-round reads.reply-5 desk-full
+  unfolding closing
+  closing-5 = none-closed (replyLadder Read plan reads.repair-round reads.reply-5 desk-full 1) before _ (none-closed (recordLadder plan reads.repair-round reads.reply-5) before _ refl)
 
-  closing-6 : closing plan reads.once-stored reads.reply-6 desk-full 1 before ≡ before
-  unfolding closing reads.reply-6 plan desk-poor poor desk-good desk-full good stamp-bytes hash first planOk tableOk columnOf all recordLength lengthsOk inRange standingRules
-      openRules every heardCount slotsFit slotFits slotStamp goodReply goodFrame shaped forParty oneOf bodyFits awaited askNow kindAwaited isHeard bears underOf num numFrom part
-      be beOnto stampAt stampNumber then
-  closing-6 = refl
+  closing-6 : Stays reads.once-stored reads.reply-6 desk-full
+  unfolding closing
+  closing-6 = none-closed (replyLadder Read plan reads.once-stored reads.reply-6 desk-full 1) before _ (none-closed (recordLadder plan reads.once-stored reads.reply-6) before _ refl)
 
 closed-so : closedOver plan reads.start desk [] read-calls ≡ heard-in desk-good ∷ heard-in desk-poor ∷ []
 closed-so =

@@ -2,13 +2,12 @@
 --   read-open read-done never-written is-aborted rounds-spent write-open write-done clock-spent
 --   only-done-writes       an ending other than done, a refusal or an open round leaves the item
 --   first-triple-complete  "(It always has COMPLETE replies.)"
---   greatest set-is        the candidate is the greatest timestamp heard; the set is rising, below N, of one timestamp and cross checksum
+--   greatest set-is        the candidate is the greatest timestamp heard; the set is rising, below N, and all that bear its timestamp and cross checksum
 --   decodes repairs        where it is decoded or repaired, the set has m nodes
-use Prim.{Unit, tt}
-use Prim.Native.Nat.{ℕ, zero, suc, _+_, _≤_, _<_}
+use Prim.Native.Nat.{ℕ, _≤_, _<_}
 use mathlib.Core.Path.{_≡_, refl, sym, _∙_, subst}
-use mathlib.Core.Bool.{Bool, true, false, cond}
-use mathlib.Core.List.{List, [], _∷_, _++_}
+use mathlib.Core.Bool.{Bool, true, false}
+use mathlib.Core.List.{List}
 use native.Mathlib.Omega.{arith}
 use lib.Dec.{ltb}
 use lib.ListN.{length}
@@ -16,12 +15,10 @@ use Rattle.terms.specs.Ladder.{first}
 use Rattle.terms.specs.Terms.{recordLength, complete}
 use Rattle.terms.specs.declared.Plan.{Plan}
 use Rattle.terms.proofs.Facts.{facts}
-use Rattle.fragments.specs.Fragments.{All}
 use Rattle.frame.specs.Frame.{frameNode}
 use Rattle.rounds.specs.declared.Heard.{Heard}
 use Rattle.rounds.specs.declared.Heard.the-variants.{Unheard, First, Record}
-use Rattle.rounds.specs.declared.Mark.{Mark}
-use Rattle.rounds.specs.Rounds.{bitOf, heardCount, markOf, joinsOf, setOf}
+use Rattle.rounds.specs.Rounds.{bitOf, heardCount, markOf, setOf}
 use Rattle.rounds.proofs.Closes.{Best, candidate, Members, members-are}
 use Rattle.session.specs.declared.Session.{Session}
 use Rattle.session.specs.declared.Took.{Took}
@@ -136,37 +133,11 @@ first-triple-complete p s f d item n w =
 pub greatest : (p : Plan) (s : Session) (f d : List ℕ) (a : ℕ) → Candidate p s f d a → Best (after p s f .marks) (deskAfter p f d) (recordLength p) (p .n) a
 greatest p s f d a h = candidate (after p s f .marks) (deskAfter p f d) (recordLength p) (p .n) a h
 
--- the numbers of a list rise
-abbrev pub Rising : List ℕ → Type 0
-Rising [] = Unit {0}
-Rising (x ∷ l) = All (λ (y : ℕ). x < y) l × Rising l
-
-rising-snoc : (l : List ℕ) (i : ℕ) → All (λ (y : ℕ). y < i) l → Rising l → Rising (l ++ (i ∷ []))
-rising-snoc [] i b r = (tt, tt)
-rising-snoc (x ∷ l) i b r = (more (b .0) l (r .0), rising-snoc l i (b .1) (r .1))
-  where
-    more : x < i → (l : List ℕ) → All (λ (y : ℕ). x < y) l → All (λ (y : ℕ). x < y) (l ++ (i ∷ []))
-    more h [] c = (h, tt)
-    more h (y ∷ l) c = (c .0, more h l (c .1))
-
-set-rises : (ms : List Mark) (d : List ℕ) (r h a n : ℕ) → Rising (setOf ms d r h a n)
-unfolding setOf
-set-rises ms d r h a zero = tt
-set-rises ms d r h a (suc n) = go (joinsOf d r h a n (markOf ms n)) (set-rises ms d r h a n)
-  where
-    go : (t : Bool) → Rising (setOf ms d r h a n) → Rising (cond t (setOf ms d r h a n ++ (n ∷ [])) (setOf ms d r h a n))
-    go true k = rising-snoc (setOf ms d r h a n) n (members-are ms d r h a n .below) k
-    go false k = k
-
--- the set is rising, below N, and its nodes bear the candidate's timestamp and cross checksum
+-- the set is rising, below N, and its nodes are exactly those that bear the candidate's timestamp and cross checksum
 pub set-is : (p : Plan) (s : Session) (f d : List ℕ) (a : ℕ)
-    → Rising (setOf (after p s f .marks) (deskAfter p f d) (recordLength p) (headLength p) a (p .n))
-    × Members (deskAfter p f d) (recordLength p) (headLength p) a (p .n) (after p s f .marks)
+    → Members (deskAfter p f d) (recordLength p) (headLength p) a (p .n) (after p s f .marks)
     (setOf (after p s f .marks) (deskAfter p f d) (recordLength p) (headLength p) a (p .n))
-set-is p s f d a = (
-  set-rises (after p s f .marks) (deskAfter p f d) (recordLength p) (headLength p) a (p .n),
-  members-are (after p s f .marks) (deskAfter p f d) (recordLength p) (headLength p) a (p .n),
-)
+set-is p s f d a = members-are (after p s f .marks) (deskAfter p f d) (recordLength p) (headLength p) a (p .n)
 
 -- where a set is decoded, and where it is repaired, it has m nodes
 pub decodes : (p : Plan) (s : Session) (f d : List ℕ) (item stamp n : ℕ) (w : DoneByRead p s f d item stamp n) → p .m ≤ size p s f d (w .node)

@@ -22,3 +22,7 @@ pub mod Repair
 pub mod RepairRound
 pub mod RepairInstance
 pub mod Sessions
+pub mod ComesBack
+pub mod Asks
+pub mod ReadInstance
+pub mod WriteInstance

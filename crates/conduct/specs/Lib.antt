@@ -5,3 +5,4 @@ pub mod Turns
 pub mod Round
 pub mod Repair
 pub mod Sessions
+pub mod Asks

@@ -26,7 +26,7 @@ use Rattle.fragments.proofs.Interp.{all, all-map, Bytes, eval-lt, value
 use Rattle.fragments.proofs.Laws.{length-from, all-among}
 
 -- ---- the points 0 to m - 1
-all-from : {P : ℕ → Type 0} (a n : ℕ) → ((k : ℕ) → a ≤ k → k < a + n → P k) → All P (from a n)
+pub all-from : {P : ℕ → Type 0} (a n : ℕ) → ((k : ℕ) → a ≤ k → k < a + n → P k) → All P (from a n)
 unfolding from
 all-from a zero h = tt
 all-from a (suc n) h = (h a (omega arith) (omega arith), all-from (suc a) n (λ k l u. h k (omega arith) (omega arith)))
@@ -37,7 +37,7 @@ at-from P a zero h k l = absurd (not-suc-le-zero l)
 at-from P a (suc n) h zero l = subst P (sym (add-zero a)) (h .0)
 at-from P a (suc n) h (suc k) l = subst P (suc-add a k ∙ sym (add-suc a k)) (at-from P (suc a) n (h .1) k (le-of-suc-le-suc l))
 
-distinct-from : (a n : ℕ) → Distinct (from a n)
+pub distinct-from : (a n : ℕ) → Distinct (from a n)
 unfolding from
 distinct-from a zero = tt
 distinct-from a (suc n) = (all-from (suc a) n (λ k l u e. omega arith), distinct-from (suc a) n)

@@ -11,4 +11,5 @@ pub mod Hears
 pub mod Run
 pub mod Write
 pub mod Instances
+pub mod RunInstances
 pub mod Examples

@@ -1,15 +1,20 @@
--- What is true of every close: the candidate is the greatest timestamp heard and its node is marked record; the set is rising, below n,
--- and holds the candidate's node; the verdict tells the set's size. Assumes nothing.
+-- What is true of every close: the candidate is the greatest timestamp heard and its node is marked record; the set is rising and holds
+-- exactly the nodes below n that bear the candidate's timestamp and cross checksum, the candidate's node first; the verdict tells the set's
+-- size. Assumes nothing.
 use mathlib.Core.Path.{_≡_, refl, sym, ap, _∙_, subst}
 use mathlib.Core.Bool.{Bool, true, false, cond}
 use mathlib.Core.List.{List, [], _∷_, _++_}
-use Prim.Native.Nat.{ℕ, zero, suc, _+_, _≤_, _<_}
+use Prim.Native.Nat.{ℕ, zero, suc, _+_, _*_, _≤_, _<_}
 use native.Mathlib.Decide.{ℕ-discrete}
 use native.Mathlib.Omega.{arith}
-use borrow.Author.Tests.{leb-true, leb-false, ltb-true, ltb-false}
+use borrow.Author.Tests.{leb-true, leb-false, ltb-true, ltb-false, eq-eqb}
 use lib.ListN.{length, length-append}
-use lib.Dec.{ltb, leb}
-use Rattle.fragments.specs.Fragments.{All, Distinct}
+use lib.Dec.{ltb, leb, eqb}
+use Rattle.octets.specs.Bytes.{part, num}
+use Rattle.octets.proofs.Laws.{part-part}
+use Rattle.octets.proofs.Meaning.{alike-refl, not-alike}
+use Rattle.fragments.specs.Fragments.{All, Distinct, among}
+use Rattle.fragments.proofs.Interp.{all-map}
 use Rattle.terms.specs.declared.Member.{Member}
 use Rattle.terms.specs.declared.Member.the-variants.{Repairable, NonRepair}
 use Rattle.terms.specs.declared.Verdict.the-variants as verdict
@@ -103,34 +108,59 @@ pub no-candidate : (ms : List Mark) (d : List ℕ) (r n : ℕ) → leadOf ms d r
 no-candidate ms d r n e = subst (Leads ms d r n) e (leads ms d r n)
 
 -- ---- the set
--- a number put after those below it stands in the list once
-distinct-snoc : (l : List ℕ) (i : ℕ) → All (λ (y : ℕ). y < i) l → Distinct l → Distinct (l ++ (i ∷ []))
-distinct-snoc [] i b d = (tt, tt)
-distinct-snoc (x ∷ l) i b d = (apart (b .0) l (b .1) (d .0), distinct-snoc l i (b .1) (d .1))
-  where
-    apart : x < i → (l : List ℕ) → All (λ (y : ℕ). y < i) l → All (λ (y : ℕ). x ≡ y → ⊥) l → All (λ (y : ℕ). x ≡ y → ⊥) (l ++ (i ∷ []))
-    apart h [] b d = ((λ e. omega arith), tt)
-    apart h (y ∷ l) b d = (d .0, apart h l (b .1) (d .1))
+-- the numbers of a list rise
+abbrev pub Rising : List ℕ → Type 0
+Rising [] = Unit {0}
+Rising (x ∷ l) = All (λ (y : ℕ). x < y) l × Rising l
 
--- what a set is known to be, of the first i nodes
-pub record Members (d : List ℕ) (r h a i : ℕ) (ms : List Mark) (l : List ℕ) : Type 0 where
-  pub few : length l ≤ i
-  pub below : All (λ (y : ℕ). y < i) l
-  pub distinct : Distinct l
-  pub joined : All (λ (y : ℕ). joinsOf d r h a y (markOf ms y) ≡ true) l
-
-all-more : (l : List ℕ) (i : ℕ) → All (λ (y : ℕ). y < i) l → All (λ (y : ℕ). y < suc i) l
-all-more [] i b = tt
-all-more (x ∷ l) i b = (omega arith, all-more l i (b .1))
+pub rising-distinct : (l : List ℕ) → Rising l → Distinct l
+rising-distinct [] r = tt
+rising-distinct (x ∷ l) r = (all-map (λ y h e. omega arith) l (r .0), rising-distinct l (r .1))
 
 all-snoc : (P : ℕ → Type 0) (l : List ℕ) (i : ℕ) → All P l → P i → All P (l ++ (i ∷ []))
 all-snoc P [] i b p = (p, tt)
 all-snoc P (x ∷ l) i b p = (b .0, all-snoc P l i (b .1) p)
 
--- THE SET IS RISING, BELOW n, and its nodes are those that bear the candidate's timestamp and cross checksum
+-- a number put after those below it
+rising-snoc : (l : List ℕ) (i : ℕ) → All (λ (y : ℕ). y < i) l → Rising l → Rising (l ++ (i ∷ []))
+rising-snoc [] i b r = (tt, tt)
+rising-snoc (x ∷ l) i b r = (all-snoc (λ (y : ℕ). x < y) l i (r .0) (b .0), rising-snoc l i (b .1) (r .1))
+
+among-last : (i : ℕ) (l : List ℕ) → among i (l ++ (i ∷ [])) ≡ true
+unfolding among
+among-last i [] = rw (eq-eqb i i refl)
+among-last i (x ∷ l) = go (eqb x i) (among-last i l)
+  where
+    go : (t : Bool) → among i (l ++ (i ∷ [])) ≡ true → cond t true (among i (l ++ (i ∷ []))) ≡ true
+    go true more = refl
+    go false more = more
+
+among-more : (y i : ℕ) (l : List ℕ) → among y l ≡ true → among y (l ++ (i ∷ [])) ≡ true
+unfolding among
+among-more y i [] e = nonsense (let z : _≡_ {A = ℕ} 0 1 = cc in z)
+among-more y i (x ∷ l) e = go (eqb x y) e (among-more y i l)
+  where
+    go : (t : Bool) → cond t true (among y l) ≡ true → (among y l ≡ true → among y (l ++ (i ∷ [])) ≡ true) → cond t true (among y (l ++ (i ∷ []))) ≡ true
+    go true k more = refl
+    go false k more = more k
+
+-- what a set is known to be, of the first i nodes: it rises, so that it has each node once; each node of it bears the timestamp and the
+-- cross checksum of node a, and each that does is one of it
+pub record Members (d : List ℕ) (r h a i : ℕ) (ms : List Mark) (l : List ℕ) : Type 0 where
+  pub few : length l ≤ i
+  pub below : All (λ (y : ℕ). y < i) l
+  pub rises : Rising l
+  pub joined : All (λ (y : ℕ). joinsOf d r h a y (markOf ms y) ≡ true) l
+  pub all : (y : ℕ) → y < i → joinsOf d r h a y (markOf ms y) ≡ true → among y l ≡ true
+
+all-more : (l : List ℕ) (i : ℕ) → All (λ (y : ℕ). y < i) l → All (λ (y : ℕ). y < suc i) l
+all-more [] i b = tt
+all-more (x ∷ l) i b = (omega arith, all-more l i (b .1))
+
+-- THE SET IS RISING, BELOW n, and its nodes are exactly those that bear the candidate's timestamp and cross checksum
 pub members-are : (ms : List Mark) (d : List ℕ) (r h a n : ℕ) → Members d r h a n ms (setOf ms d r h a n)
 unfolding setOf
-members-are ms d r h a zero = record { few = omega arith; below = tt; distinct = tt; joined = tt }
+members-are ms d r h a zero = record { few = omega arith; below = tt; rises = tt; joined = tt; all = λ y l e. absurd (omega arith) }
 members-are ms d r h a (suc n) = go (joinsOf d r h a n (markOf ms n)) refl (members-are ms d r h a n)
   where
     l : List ℕ
@@ -141,10 +171,67 @@ members-are ms d r h a (suc n) = go (joinsOf d r h a n (markOf ms n)) refl (memb
         record {
           few = let z : length (l ++ (n ∷ [])) ≡ length l + 1 = length-append l (n ∷ []) in omega (arith, z, k .few);
           below = all-snoc (λ (y : ℕ). y < suc n) l n (all-more l n (k .below)) (omega arith);
-          distinct = distinct-snoc l n (k .below) (k .distinct);
+          rises = rising-snoc l n (k .below) (k .rises);
           joined = all-snoc (λ (y : ℕ). joinsOf d r h a y (markOf ms y) ≡ true) l n (k .joined) e;
+          all = at-most ms d r n {P = λ (y : ℕ). joinsOf d r h a y (markOf ms y) ≡ true → among y (l ++ (n ∷ [])) ≡ true}
+              (λ y u j. among-more y n l (k .all y u j)) (λ j. among-last n l);
         }
-    go false e k = record { few = omega (arith, k .few); below = all-more l n (k .below); distinct = k .distinct; joined = k .joined }
+    go false e k =
+        record {
+          few = omega (arith, k .few);
+          below = all-more l n (k .below);
+          rises = k .rises;
+          joined = k .joined;
+          all = at-most ms d r n {P = λ (y : ℕ). joinsOf d r h a y (markOf ms y) ≡ true → among y l ≡ true} (k .all)
+              (λ j. nonsense (let z : _≡_ {A = ℕ} 0 1 = cc in z));
+        }
+
+-- ---- the lead is the first of its set
+-- a list that starts with a
+pub record Headed (a : ℕ) (l : List ℕ) : Type 0 where
+  pub rest : List ℕ
+  pub is : l ≡ a ∷ rest
+
+module _ (ms : List Mark) (d : List ℕ) (r h a n : ℕ) (wide : 40 ≤ h) (best : Best ms d r n a) where
+  -- heads that are alike bear one timestamp
+  stamp-part : (i : ℕ) → part (part d (i * r) h) 0 40 ≡ part d (i * r) 40
+  stamp-part i = let z : i * r + 0 ≡ i * r = omega arith in part-part d (i * r) h 0 40 wide ∙ ap (λ (y : ℕ). part d y 40) z
+
+  -- a node below the lead bears a lesser one, or none
+  not-before : (i : ℕ) → i < a → joinsOf d r h a i (markOf ms i) ≡ false
+  unfolding joinsOf slotStamp
+  not-before i l = go (markOf ms i) refl
+    where
+      go : (m : Heard) → markOf ms i ≡ m → joinsOf d r h a i m ≡ false
+      go Record e =
+          not-alike (part d (i * r) h) (part d (a * r) h)
+          (λ q.
+          let z : slotStamp d r i ≡ slotStamp d r a = ap num (sym (stamp-part i) ∙ ap (λ (x : List ℕ). part x 0 40) q ∙ stamp-part a) in
+          omega (arith, z, best .lowest i l e))
+      go First e = refl
+      go Unheard e = refl
+
+  none-before : (i : ℕ) → i ≤ a → setOf ms d r h a i ≡ []
+  unfolding setOf
+  none-before zero l = refl
+  none-before (suc i) l = rw (not-before i (omega arith)) (none-before i (omega arith))
+
+  joins-itself : joinsOf d r h a a (markOf ms a) ≡ true
+  joins-itself = unfold joinsOf in rw (best .marked) (alike-refl (part d (a * r) h))
+
+  pub set-headed : (i : ℕ) → a < i → Headed a (setOf ms d r h a i)
+  unfolding setOf
+  set-headed zero l = absurd (omega arith)
+  set-headed (suc i) l = go (ℕ-discrete a i) (λ u. set-headed i u)
+    where
+      on : (t : Bool) → Headed a (setOf ms d r h a i) → Headed a (cond t (setOf ms d r h a i ++ (i ∷ [])) (setOf ms d r h a i))
+      on true k = record { rest = k .rest ++ (i ∷ []); is = ap (λ (x : List ℕ). x ++ (i ∷ [])) (k .is) }
+      on false k = k
+
+      go : Dec (a ≡ i) → (a < i → Headed a (setOf ms d r h a i))
+          → Headed a (cond (joinsOf d r h a i (markOf ms i)) (setOf ms d r h a i ++ (i ∷ [])) (setOf ms d r h a i))
+      go (yes e) more = rw (← e, joins-itself, none-before a (omega arith)) (record { rest = []; is = refl })
+      go (no e) more = on (joinsOf d r h a i (markOf ms i)) (more (omega arith))
 
 -- ---- the verdict tells the size
 module _ (member : Member) (high low size : ℕ) where

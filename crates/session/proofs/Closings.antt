@@ -1,6 +1,5 @@
 -- A read round that closes. Document 01, "The client", reading: the candidate is the greatest timestamp; its set is the replies with this
 -- timestamp and the same cross checksum as the lowest-numbered of them; regenerating and decoding start from the m lowest-numbered.
---   Headed set-headed     the lead is the first of its set
 --   Led led               what the close is where node a leads it
 --   nodes-below heads-alike   the nodes of its set are below N, and alike in timestamp and cross checksum
 --   Lowest lowest-are     the m lowest-numbered of its set: m of them, below N, each once, alike in their heads, the lead among them
@@ -8,19 +7,17 @@
 --   long-repaired         a desk that was filled keeps its length
 --   Ways goes             what holds of each way that a closed round can go holds of the way that it goes
 -- Assumes nothing.
-use Prim.Native.Nat.{ℕ, zero, suc, _+_, _*_, _≤_, _<_}
+use Prim.Native.Nat.{ℕ, zero, suc, _*_, _≤_, _<_}
 use mathlib.Core.Path.{_≡_, refl, sym, ap, _∙_, subst}
 use mathlib.Core.Bool.{Bool, true, false, cond}
-use mathlib.Core.List.{List, [], _∷_, _++_}
-use native.Mathlib.Decide.{ℕ-discrete}
+use mathlib.Core.List.{List, [], _∷_}
 use native.Mathlib.Omega.{arith}
 use borrow.Author.Tests.{leb-true, leb-false, eq-eqb}
 use lib.Dec.{leb}
 use lib.ListN.{length, take}
 use lib.Seq.{length-take-le}
-use Rattle.octets.specs.Bytes.{part, num}
-use Rattle.octets.proofs.Laws.{part-part}
-use Rattle.octets.proofs.Meaning.{alike-is, alike-refl, not-alike}
+use Rattle.octets.specs.Bytes.{part}
+use Rattle.octets.proofs.Meaning.{alike-is}
 use Rattle.terms.specs.Terms.{planOk, recordLength, complete, incomplete, decided}
 use Rattle.terms.specs.Stamp.{stampAt, stampNumber}
 use Rattle.terms.specs.declared.Plan.{Plan}
@@ -33,63 +30,15 @@ use Rattle.fragments.proofs.Lists.{all-take}
 use Rattle.fragments.proofs.Interp.{all-map}
 use Rattle.rounds.specs.declared.Heard.{Heard}
 use Rattle.rounds.specs.declared.Heard.the-variants.{Unheard, First, Record}
-use Rattle.rounds.specs.declared.Mark.{Mark}
 use Rattle.rounds.specs.declared.Lead.{Lead}
 use Rattle.rounds.specs.declared.Lead.the-variants.{Nobody, Node}
-use Rattle.rounds.specs.Rounds.{slotStamp, markOf, leadOf, joinsOf, setOf, Closed, closeWith}
+use Rattle.rounds.specs.Rounds.{markOf, leadOf, joinsOf, setOf, Closed, closeWith}
 use Rattle.rounds.proofs.Laws.{lead-room}
-use Rattle.rounds.proofs.Closes.{Best, candidate, members-are, decided-complete, decided-repair}
+use Rattle.rounds.proofs.Closes.{candidate, rising-distinct, members-are, Headed, set-headed, decided-complete, decided-repair}
 use Rattle.recover.proofs.Filled.{length-filled}
 use Rattle.session.specs.declared.Session.{Session}
 use Rattle.session.specs.Session.{endedOf, nextOf, storingOf, stillOpen, done, neverWritten, aborted, roundsSpent}
 use Rattle.session.specs.Reader.{Outcome, outcome, headLength, lowest, sound, decoded, repaired, failing, actOn, actFor, acted, closed}
-
--- ---- the lead is the first of its set
--- a list that starts with a
-pub record Headed (a : ℕ) (l : List ℕ) : Type 0 where
-  pub rest : List ℕ
-  pub is : l ≡ a ∷ rest
-
-module _ (ms : List Mark) (d : List ℕ) (r h a n : ℕ) (wide : 40 ≤ h) (best : Best ms d r n a) where
-  -- heads that are alike bear one timestamp
-  stamp-part : (i : ℕ) → part (part d (i * r) h) 0 40 ≡ part d (i * r) 40
-  stamp-part i = let z : i * r + 0 ≡ i * r = omega arith in part-part d (i * r) h 0 40 wide ∙ ap (λ (y : ℕ). part d y 40) z
-
-  -- a node below the lead bears a lesser one, or none
-  not-before : (i : ℕ) → i < a → joinsOf d r h a i (markOf ms i) ≡ false
-  unfolding joinsOf slotStamp
-  not-before i l = go (markOf ms i) refl
-    where
-      go : (m : Heard) → markOf ms i ≡ m → joinsOf d r h a i m ≡ false
-      go Record e =
-          not-alike (part d (i * r) h) (part d (a * r) h)
-          (λ q.
-          let z : slotStamp d r i ≡ slotStamp d r a = ap num (sym (stamp-part i) ∙ ap (λ (x : List ℕ). part x 0 40) q ∙ stamp-part a) in
-          omega (arith, z, best .lowest i l e))
-      go First e = refl
-      go Unheard e = refl
-
-  none-before : (i : ℕ) → i ≤ a → setOf ms d r h a i ≡ []
-  unfolding setOf
-  none-before zero l = refl
-  none-before (suc i) l = rw (not-before i (omega arith)) (none-before i (omega arith))
-
-  joins-itself : joinsOf d r h a a (markOf ms a) ≡ true
-  joins-itself = unfold joinsOf in rw (best .marked) (alike-refl (part d (a * r) h))
-
-  pub set-headed : (i : ℕ) → a < i → Headed a (setOf ms d r h a i)
-  unfolding setOf
-  set-headed zero l = absurd (omega arith)
-  set-headed (suc i) l = go (ℕ-discrete a i) (λ u. set-headed i u)
-    where
-      on : (t : Bool) → Headed a (setOf ms d r h a i) → Headed a (cond t (setOf ms d r h a i ++ (i ∷ [])) (setOf ms d r h a i))
-      on true k = record { rest = k .rest ++ (i ∷ []); is = ap (λ (x : List ℕ). x ++ (i ∷ [])) (k .is) }
-      on false k = k
-
-      go : Dec (a ≡ i) → (a < i → Headed a (setOf ms d r h a i))
-          → Headed a (cond (joinsOf d r h a i (markOf ms i)) (setOf ms d r h a i ++ (i ∷ [])) (setOf ms d r h a i))
-      go (yes e) more = rw (← e, joins-itself, none-before a (omega arith)) (record { rest = []; is = refl })
-      go (no e) more = on (joinsOf d r h a i (markOf ms i)) (more (omega arith))
 
 headed-among : (a m : ℕ) (l : List ℕ) → 1 ≤ m → Headed a l → among a (take m l) ≡ true
 unfolding among
@@ -174,7 +123,7 @@ module _ (p : Plan) (s : Session) (d : List ℕ) (a : ℕ) where
         record {
           few = length-take-le (p .m) l (omega (arith, size-is));
           below = all-take (λ (q : ℕ). q < p .n) (p .m) l (all .below);
-          distinct = distinct-take (p .m) l (all .distinct);
+          distinct = distinct-take (p .m) l (rising-distinct l (all .rises));
           heads = all-take (λ (q : ℕ). part d (q * recordLength p) (headLength p) ≡ part d (a * recordLength p) (headLength p)) (p .m) l
               (rw (k .nodes-are) at heads-alike);
           leader = headed-among a (p .m) l (facts p ok .some-needed)

@@ -4,7 +4,7 @@
 --   node-as-the-report node-over-time    the replies, and the set of versions after them, are Figure 1's
 --   write-as-the-report    a whole write, from its opening, is Figure 2's WRITE
 --   read-as-the-report     a whole read, from its opening, is Figure 3's READ, cut at W
---   comes-back             an encoded block comes back from any m of its N fragments
+--   comes-back written-comes-back   an encoded block comes back from any m of its N fragments; so does what our writer writes
 -- The figures are in report/specs, with (01) beside what document 01 adds or closes. That the hash and the field are those of the papers is
 -- said by the contracts of `digest`, `product` and `quotient`, over sha256/specs and field/specs. Each refusal exactly: Demand1, with
 -- is-refused, fresh-is-refused, opening-refuses, owed-refuses, so-write and so-read of conduct. Assumes nothing.
@@ -29,9 +29,12 @@ use Rattle.session.specs.declared.opening.Opened.{Opened}
 use Rattle.session.specs.declared.opening.Opening.the-variants.{Accepted}
 use Rattle.session.specs.declared.Operation.the-variants.{Write, Read}
 use Rattle.session.specs.Opening.{OpenCall}
+use Rattle.session.specs.Reader.{headLength}
+use Rattle.session.specs.Writer.{recordsFor}
 use Rattle.conduct.specs.History.{Call, History, lastBook}
 use Rattle.conduct.specs.Turns.{Turn}
 use Rattle.report.specs.Triple.{Same}
+use Rattle.conduct.proofs.ComesBack.{block-comes-back}
 use Rattle.report.specs.Figure1.{INITIALIZE, RECEIVE-TIME-REQUEST, RECEIVE-READ-LATEST, RECEIVE-READ-PREVIOUS}
 use Rattle.report.specs.Ours.{history, timeIn}
 use Rattle.report.specs.Run.{OfPlan, received, Reads, AllApart, AllClose, closedOver, EachTells}
@@ -89,3 +92,10 @@ pub comes-back : (m F : ℕ) (item : List ℕ) → m ≤ 256 → Octets item →
     → ((k : ℕ) → k < n → first + k * stride + F ≤ length desk) → n ≤ 256 → (nodes : List ℕ) → Distinct nodes → All (λ (z : ℕ). z < n) nodes
     → length nodes ≡ m → (out : List ℕ) → length out ≡ m * F → laid (encoded m F item first stride n desk) first stride F nodes 0 F m out ≡ item
 comes-back = any-m-of-n
+
+-- The N records that our writer makes of an item at a time, in its desk, give the item to our reader's decoding from any m of its N slots.
+-- For a reply that is answered done: read-comes-back and repair-comes-back of conduct.
+pub written-comes-back : (p : Plan) (time : ℕ) (item : List ℕ) → planOk p ≡ true → Octets item → length item ≡ p .m * p .f → (out : List ℕ)
+    → length out ≡ p .m * p .f → (nodes : List ℕ) → Distinct nodes → All (λ (z : ℕ). z < p .n) nodes → length nodes ≡ p .m
+    → laid (recordsFor p time item) (headLength p) (recordLength p) (p .f) nodes 0 (p .f) (p .m) out ≡ item
+written-comes-back = block-comes-back

@@ -2,15 +2,15 @@
 use mathlib.Core.Path.{_≡_, refl, sym, ap, _∙_}
 use mathlib.Core.Bool.{Bool, true, false, cond}
 use mathlib.Core.List.{List, _++_}
-use Prim.Native.Nat.{ℕ, suc, _+_, _*_, _≤_, _<_}
-use native.Mathlib.Nat.{mul-le-mul-right, suc-mul, zero-add}
+use Prim.Native.Nat.{ℕ, _+_, _*_, _≤_, _<_}
+use native.Mathlib.Nat.{zero-add}
 use native.Mathlib.Omega.{arith}
 use borrow.Author.Tests.{ltb-true, ltb-false}
 use lib.Dec.{ltb}
 use lib.ListN.{length, take, drop, take-append-drop}
 use lib.Seq.{set-comm, length-take-le, take-append-seam, drop-append-add}
 use Rattle.octets.specs.Bytes.{put}
-use Rattle.octets.proofs.Laws.{put-left, length-put, slot-room}
+use Rattle.octets.proofs.Laws.{put-left, length-put, slot-room, slot-fits}
 use Rattle.terms.specs.Terms.{recordLength}
 use Rattle.terms.specs.declared.Plan.{Plan}
 use Rattle.frame.specs.Frame.{frameNode, bodyOf}
@@ -47,14 +47,14 @@ slots-comm d x y a b n r ha hb ne l lx ly = go (ltb a b) refl
 
     go : (t : Bool) → ltb a b ≡ t → put (put d (a * r) x) (b * r) y ≡ put (put d (b * r) y) (a * r) x
     go true e =
-        let q : suc a * r ≤ b * r = mul-le-mul-right r (ltb-true a b e) in
+        let q = slot-fits a b r (ltb-true a b e) in
         let w = fits b hb in
-        put-comm d (a * r) x (b * r) y (omega (arith, suc-mul a r)) (omega arith)
+        put-comm d (a * r) x (b * r) y (omega arith) (omega arith)
     go false e =
         let v : b < a = strict b a (ltb-false a b e) (λ z. ne (sym z)) in
-        let q : suc b * r ≤ a * r = mul-le-mul-right r v in
+        let q = slot-fits b a r v in
         let w = fits a ha in
-        sym (put-comm d (b * r) y (a * r) x (omega (arith, suc-mul b r)) (omega arith))
+        sym (put-comm d (b * r) y (a * r) x (omega arith) (omega arith))
 
 -- ---- two replies
 marks-comm : (p : Plan) (s : Session) (f g : List ℕ) → (frameNode g ≡ frameNode f → ⊥) → after p (after p s f) g ≡ after p (after p s g) f

@@ -10,14 +10,13 @@ use mathlib.Core.Path.{_≡_, refl, sym, ap, ap₂, _∙_}
 use mathlib.Core.Bool.{Bool, true, false, cond}
 use mathlib.Core.List.{List, [], _∷_, _++_}
 use Prim.Native.Nat.{ℕ, zero, suc, _+_, _*_, _≤_, _<_}
-use native.Mathlib.Nat.{mul-le-mul-right, suc-mul}
 use native.Mathlib.Decide.{ℕ-discrete}
 use native.Mathlib.Omega.{arith}
 use borrow.Author.Tests.{ltb-true, ltb-false, eq-eqb}
 use lib.Dec.{eqb, ltb}
 use lib.ListN.{length, getD, length-append}
 use Rattle.octets.specs.Bytes.{part, put}
-use Rattle.octets.proofs.Laws.{length-part, length-put, part-part, part-put-same, part-put-before, part-put-after, slot-room}
+use Rattle.octets.proofs.Laws.{length-part, length-put, part-part, part-put-same, part-put-before, part-put-after, slot-room, slot-fits}
 use Rattle.octets.proofs.Meaning.{getD-part, part-add}
 use Rattle.fragments.specs.Fragments.{All, among, tabulate, value, regenerated, Sources}
 use Rattle.fragments.proofs.Lists.{tabulate-ext, all-at}
@@ -43,14 +42,12 @@ slot-stays d x r j k lx fits ne at n u = side (ltb k j) refl
   where
     side : (t : Bool) → ltb k j ≡ t → part (put d (j * r) x) (k * r + at) n ≡ part d (k * r + at) n
     side true w =
-        let q : suc k * r ≤ j * r = mul-le-mul-right r (ltb-true k j w) in
-        let z : suc k * r ≡ k * r + r = suc-mul k r in
+        let q = slot-fits k j r (ltb-true k j w) in
         part-put-before d (j * r) x (k * r + at) n (omega arith) (omega arith)
     side false w =
         let v : j ≤ k = ltb-false k j w in
         let y : j < k = omega arith in
-        let q : suc j * r ≤ k * r = mul-le-mul-right r y in
-        let z : suc j * r ≡ j * r + r = suc-mul j r in
+        let q = slot-fits j k r y in
         part-put-after d (j * r) x (k * r + at) n (omega arith) (omega arith)
 
 -- slots that are equal have equal parts

@@ -11,8 +11,8 @@ use Rattle.terms.specs.Ladder.{Rung, first, _and_}
 use Rattle.terms.specs.Terms.{refusalNumber}
 use Rattle.terms.specs.declared.Refusal.{Refusal}
 use Rattle.terms.specs.declared.Refusal.the-variants.{OutsidePlan, WrongLength, WrongBook, WrongFrame, TimeZero, HashFails, OtherBytes, NoRoom, OutOfRange, NotAwaited, AlreadyHeard, NotBelow, AskTooHigh, HasEnded}
-use Rattle.terms.proofs.Rungs.{Came, refused, passes, None, both, read, first-read, none-is}
-use Rattle.terms.proofs.Ladders.{by-ladder, is-passed}
+use Rattle.terms.proofs.Rungs.{None, both}
+use Rattle.terms.proofs.Ladders.{by-ladder, is-passed, is-given}
 use Rattle.session.specs.declared.Check.{Check}
 use Rattle.session.specs.declared.Check.the-variants.{Passed, Failed}
 use Rattle.session.specs.Reply.{checkNumber}
@@ -38,11 +38,9 @@ none-applies (x ∷ xs) n e = go (x .applies) refl e (λ m g. none-applies xs m 
 
 -- a part of what a ladder gives
 pub first-map : {A B : Type 0} (f : A → B) (l : List Rung) (refuse : ℕ → A) (pass : A) → f (first l refuse pass) ≡ first l (λ (k : ℕ). f (refuse k)) (f pass)
-first-map {A} {B} f l refuse pass = ap f (first-read l refuse pass) ∙ go (first l refused passes) ∙ sym (first-read l (λ (k : ℕ). f (refuse k)) (f pass))
-  where
-    go : (v : Came) → f (read v refuse pass) ≡ read v (λ (k : ℕ). f (refuse k)) (f pass)
-    go (refused k) = refl
-    go passes = refl
+first-map f l refuse pass =
+    by-ladder (λ (x : _). f x ≡ first l (λ (k : ℕ). f (refuse k)) (f pass)) l refuse pass (λ k g. sym (is-given l (λ (k : ℕ). f (refuse k)) (f pass) k g))
+    (λ n. sym (is-passed l (λ (k : ℕ). f (refuse k)) (f pass) n))
 
 -- what holds of every refusal, and of the pass where the ladder is passed, holds of the outcome
 pub outcome-all : {A : Type 0} (P : A → Type 0) (l : List Rung) (refuse : ℕ → A) (pass : A) → ((k : ℕ) → P (refuse k))
@@ -51,7 +49,7 @@ outcome-all P l refuse pass h g = by-ladder P l refuse pass (λ k q. h k) (λ n.
 
 module _ {A : Type 0} (refuse : ℕ → A) (pass : A) where
   pub goes-on : (l : List Rung) → numbered l ≡ true → first l (λ (k : ℕ). k) 0 ≡ 0 → pass ≡ first l refuse pass
-  goes-on l n e = sym (first-read l refuse pass ∙ ap (λ (v : Came). read v refuse pass) (none-is l (none-applies l n e)))
+  goes-on l n e = sym (is-passed l refuse pass (none-applies l n e))
 
   pub stops : (l : List Rung) (k : ℕ) → 1 ≤ k → first l (λ (j : ℕ). j) 0 ≡ k → refuse k ≡ first l refuse pass
   unfolding first

@@ -99,8 +99,9 @@ fn alike(a: &[u8], b: &[u8]) -> bool {
 }
 
 // A slice after the call, or a dot where it is as the field at `at` lent it; and where the next field starts.
-fn tell(text: &[u8], at: usize, after: &[u8], old: &mut [u8]) -> usize {
-    let f = field(text, at, old);
+fn tell(text: &[u8], at: usize, after: &[u8]) -> usize {
+    let mut old = io::buffer();
+    let f = field(text, at, &mut old);
     let n = f.n;
     io::write_all(STDOUT_FILENO, b" ");
     if alike(after, &old[..n]) {
@@ -146,14 +147,13 @@ fn told(
     c: &[u8],
     d: &[u8],
     e: &[u8],
-    old: &mut [u8],
 ) -> usize {
     io::print_decimal(STDOUT_FILENO, answer as u64);
-    let to_b = tell(text, at, a, old);
-    let to_c = tell(text, to_b, b, old);
-    let to_d = tell(text, to_c, c, old);
-    let to_e = tell(text, to_d, d, old);
-    let end = tell(text, to_e, e, old);
+    let to_b = tell(text, at, a);
+    let to_c = tell(text, to_b, b);
+    let to_d = tell(text, to_c, c);
+    let to_e = tell(text, to_d, d);
+    let end = tell(text, to_e, e);
     io::write_all(STDOUT_FILENO, b"\n");
     end
 }
@@ -170,205 +170,72 @@ fn made(
     c: &mut [u8],
     d: &mut [u8],
     e: &mut [u8],
-    old: &mut [u8],
 ) -> usize {
     let answer = make(call, plan, number, a, b, c, d, e);
-    told(answer, text, start, a, b, c, d, e, old)
+    told(answer, text, start, a, b, c, d, e)
 }
 
-// Each of the next five reads one slice of the call, the field at `at`, and lends it to the rest; `start` is the field of the first.
-fn lend_e(
-    text: &[u8],
-    at: usize,
-    start: usize,
-    call: u8,
-    plan: &[u8],
-    number: u64,
-    a: &mut [u8],
-    b: &mut [u8],
-    c: &mut [u8],
-    d: &mut [u8],
-    e: &mut [u8],
-    old: &mut [u8],
-) -> usize {
-    let f = field(text, at, e);
+// A field as bytes, how many it has, and where the next field starts.
+struct Lent {
+    bytes: [u8; 4096],
+    n: usize,
+    next: usize,
+}
+
+fn read(text: &[u8], at: usize) -> Lent
+    ensures { λ r. ⌜ (r .n ≤ length (r .bytes)) × (length (r .bytes) ≡ 4096) ⌝ }
+{
+    let mut bytes = io::buffer();
+    let f = field(text, at, &mut bytes);
     let n = f.n;
+    Lent {
+        bytes: bytes,
+        n: n,
+        next: f.next,
+    }
+}
+
+// Reads the five slices of a call from the field at `start` on, makes the call, and writes its line. Gives the start of the next line.
+fn lend(text: &[u8], start: usize, call: u8, plan: &[u8], number: u64) -> usize {
+    let fa = read(text, start);
+    let fb = read(text, fa.next);
+    let fc = read(text, fb.next);
+    let fd = read(text, fc.next);
+    let fe = read(text, fd.next);
+    let mut a = fa.bytes;
+    let mut b = fb.bytes;
+    let mut c = fc.bytes;
+    let mut d = fd.bytes;
+    let mut e = fe.bytes;
+    let to_a = fa.n;
+    let to_b = fb.n;
+    let to_c = fc.n;
+    let to_d = fd.n;
+    let to_e = fe.n;
     made(
         text,
         start,
         call,
         plan,
         number,
-        a,
-        b,
-        c,
-        d,
-        &mut e[..n],
-        old,
-    )
-}
-
-fn lend_d(
-    text: &[u8],
-    at: usize,
-    start: usize,
-    call: u8,
-    plan: &[u8],
-    number: u64,
-    a: &mut [u8],
-    b: &mut [u8],
-    c: &mut [u8],
-    d: &mut [u8],
-    e: &mut [u8],
-    old: &mut [u8],
-) -> usize {
-    let f = field(text, at, d);
-    let n = f.n;
-    lend_e(
-        text,
-        f.next,
-        start,
-        call,
-        plan,
-        number,
-        a,
-        b,
-        c,
-        &mut d[..n],
-        e,
-        old,
-    )
-}
-
-fn lend_c(
-    text: &[u8],
-    at: usize,
-    start: usize,
-    call: u8,
-    plan: &[u8],
-    number: u64,
-    a: &mut [u8],
-    b: &mut [u8],
-    c: &mut [u8],
-    d: &mut [u8],
-    e: &mut [u8],
-    old: &mut [u8],
-) -> usize {
-    let f = field(text, at, c);
-    let n = f.n;
-    lend_d(
-        text,
-        f.next,
-        start,
-        call,
-        plan,
-        number,
-        a,
-        b,
-        &mut c[..n],
-        d,
-        e,
-        old,
-    )
-}
-
-fn lend_b(
-    text: &[u8],
-    at: usize,
-    start: usize,
-    call: u8,
-    plan: &[u8],
-    number: u64,
-    a: &mut [u8],
-    b: &mut [u8],
-    c: &mut [u8],
-    d: &mut [u8],
-    e: &mut [u8],
-    old: &mut [u8],
-) -> usize {
-    let f = field(text, at, b);
-    let n = f.n;
-    lend_c(
-        text,
-        f.next,
-        start,
-        call,
-        plan,
-        number,
-        a,
-        &mut b[..n],
-        c,
-        d,
-        e,
-        old,
-    )
-}
-
-fn lend_a(
-    text: &[u8],
-    at: usize,
-    start: usize,
-    call: u8,
-    plan: &[u8],
-    number: u64,
-    a: &mut [u8],
-    b: &mut [u8],
-    c: &mut [u8],
-    d: &mut [u8],
-    e: &mut [u8],
-    old: &mut [u8],
-) -> usize {
-    let f = field(text, at, a);
-    let n = f.n;
-    lend_b(
-        text,
-        f.next,
-        start,
-        call,
-        plan,
-        number,
-        &mut a[..n],
-        b,
-        c,
-        d,
-        e,
-        old,
+        &mut a[0..to_a],
+        &mut b[0..to_b],
+        &mut c[0..to_c],
+        &mut d[0..to_d],
+        &mut e[0..to_e],
     )
 }
 
 // The call on the line that starts at `at`, and the start of the next line.
-fn line(
-    text: &[u8],
-    at: usize,
-    plan: &mut [u8],
-    a: &mut [u8],
-    b: &mut [u8],
-    c: &mut [u8],
-    d: &mut [u8],
-    e: &mut [u8],
-    old: &mut [u8],
-) -> usize {
-    let mut call = [0u8; 1];
-    let mut number = [0u8; 8];
-    let first = field(text, at, &mut call);
-    let second = field(text, first.next, &mut number);
-    let third = field(text, second.next, plan);
-    let start = third.next;
-    let n = third.n;
-    lend_a(
-        text,
-        start,
-        start,
-        call[0],
-        &plan[..n],
-        octets::get(&number, 0, 8),
-        a,
-        b,
-        c,
-        d,
-        e,
-        old,
-    )
+fn line(text: &[u8], at: usize) -> usize {
+    let call = read(text, at);
+    let number = read(text, call.next);
+    let plan = read(text, number.next);
+    let which = call.bytes;
+    let x = number.bytes;
+    let p = plan.bytes;
+    let n = plan.n;
+    lend(text, plan.next, which[0], &p[0..n], octets::get(&x, 0, 8))
 }
 
 // The place to go on at: past `at` in any case, so that the program ends.
@@ -380,41 +247,16 @@ fn later(at: usize, next: usize, end: usize) -> usize
 }
 
 // Every line of the text.
-fn lines(
-    text: &[u8],
-    plan: &mut [u8],
-    a: &mut [u8],
-    b: &mut [u8],
-    c: &mut [u8],
-    d: &mut [u8],
-    e: &mut [u8],
-    old: &mut [u8],
-) {
+fn lines(text: &[u8]) {
     let mut at = 0;
     while at < text.len() {
-        let next = line(text, at, plan, a, b, c, d, e, old);
+        let next = line(text, at);
         at = later(at, next, text.len());
     }
 }
 
 fn main() {
     let mut text = room();
-    let mut plan = io::buffer();
-    let mut a = io::buffer();
-    let mut b = io::buffer();
-    let mut c = io::buffer();
-    let mut d = io::buffer();
-    let mut e = io::buffer();
-    let mut old = io::buffer();
     let n = io::read_full(STDIN_FILENO, &mut text);
-    lines(
-        &text[..n],
-        &mut plan,
-        &mut a,
-        &mut b,
-        &mut c,
-        &mut d,
-        &mut e,
-        &mut old,
-    );
+    lines(&text[..n]);
 }

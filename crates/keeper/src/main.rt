@@ -254,13 +254,6 @@ fn book_ok(p: Plan, path: &[u8]) -> bool {
     good(p, &area[..n])
 }
 
-// The requests of the input, where the book is good.
-fn serve(p: Plan, path: &[u8], spare: &[u8]) {
-    if book_ok(p, path) {
-        turns(p, path, spare);
-    }
-}
-
 // A fresh book on the disk, where there is none yet.
 fn lay_down(path: &[u8], spare: &[u8], book: &[u8]) {
     let fd = files::hold(spare);
@@ -287,18 +280,14 @@ fn fill(p: Plan, path: &[u8], spare: &[u8], node: u64, book: &mut [u8]) {
 }
 
 // The first bytes of an area of zeros are the book.
-fn fill_in(p: Plan, path: &[u8], spare: &[u8], node: u64, bytes: u64, area: &mut [u8]) {
-    if bytes > area.len() as u64 {
+fn make(p: Plan, path: &[u8], spare: &[u8], node: u64, bytes: u64) {
+    if bytes > 65536 {
         say::refused(Refusal::WrongLength);
         return;
     }
+    let mut area = io::large_buffer();
     let n = bytes as usize;
     fill(p, path, spare, node, &mut area[0..n]);
-}
-
-fn make(p: Plan, path: &[u8], spare: &[u8], node: u64, bytes: u64) {
-    let mut area = io::large_buffer();
-    fill_in(p, path, spare, node, bytes, &mut area);
 }
 
 // ---- arguments
@@ -381,11 +370,14 @@ fn say_wrong(path: &[u8], line: u64, k: usize) {
     say::text(b"\n");
 }
 
+// The requests of the input, where the book is good; or a fresh book.
 fn run(p: Plan, path: &[u8], spare: &[u8], count: usize) {
-    if count == 3 {
-        serve(p, path, spare);
-    } else {
+    if count != 3 {
         run_new(p, path, spare);
+        return;
+    }
+    if book_ok(p, path) {
+        turns(p, path, spare);
     }
 }
 

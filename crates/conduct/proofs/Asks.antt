@@ -37,7 +37,7 @@ use Rattle.session.specs.declared.opening.Opening.the-variants.{Accepted}
 use Rattle.session.specs.Session.{isStoring, isEnded, replies, askNow, markedOf, nextOf, storingOf, refused, saidOf}
 use Rattle.session.specs.Opening.{OpenCall}
 use Rattle.session.specs.Ranges.{inRange}
-use Rattle.session.specs.Reply.{lengthsOk, sameOperation, awaited, isHeard, replyLadder}
+use Rattle.session.specs.Reply.{lengthsOk, sameOperation, awaited, isHeard, replyLadder, recordLadder}
 use Rattle.session.specs.Reader.{Outcome, outcome, closed, readReply, ReadReplyCall}
 use Rattle.session.specs.Writer.{Leaves, leaves, timedOf, writeReply, WriteReplyCall}
 use Rattle.session.proofs.Rules.{in-range-is}
@@ -221,21 +221,21 @@ stops-by {A} P (x ∷ l) r k c refuse pass e h g = go (x .applies) (stops-by P l
 abbrev early : List ℕ
 early = 1 ∷ 2 ∷ 9 ∷ 14 ∷ 4 ∷ 10 ∷ []
 
-turned-away : {A : Type 0} (P : A → Type 0) (refuse : ℕ → A) (pass : A) (op : Operation) (p : Plan) (s : Session) (f d : List ℕ) (item : ℕ)
-    → ((k : ℕ) → oneOf k early ≡ true → P (refuse k)) → (isEnded (s .stage) ≡ true) ⊎ (awaited s f ≡ false) → P (first (replyLadder op p s f d item) refuse pass)
+turned-away : {A : Type 0} (P : A → Type 0) (refuse : ℕ → A) (pass : A) (op : Operation) (p : Plan) (s : Session) (f d : List ℕ) (item : ℕ) (more : List Rung)
+    → ((k : ℕ) → oneOf k early ≡ true → P (refuse k)) → (isEnded (s .stage) ≡ true) ⊎ (awaited s f ≡ false) → P (first (replyLadder op p s f d item ++ more) refuse pass)
 unfolding oneOf
-turned-away P refuse pass op p s f d item h (inl e) =
+turned-away P refuse pass op p s f d item more h (inl e) =
     stops-by P (on 1 (not (planOk p)) ∷ on 2 (not (lengthsOk p (length d) item)) ∷ on 9 (not (sameOperation op (s .operation) and inRange p s d)) ∷ [])
-    (on 4 (not (goodReply p f)) ∷ on 10 (not (awaited s f)) ∷ on 11 (isHeard s (frameNode f)) ∷ []) 14 (isEnded (s .stage)) refuse pass e
+    (on 4 (not (goodReply p f)) ∷ on 10 (not (awaited s f)) ∷ on 11 (isHeard s (frameNode f)) ∷ more) 14 (isEnded (s .stage)) refuse pass e
     (h 1 refl, (h 2 refl, (h 9 refl, tt))) (h 14 refl)
-turned-away P refuse pass op p s f d item h (inr e) =
+turned-away P refuse pass op p s f d item more h (inr e) =
     stops-by P
     (on 1 (not (planOk p)) ∷
     on 2 (not (lengthsOk p (length d) item)) ∷
     on 9 (not (sameOperation op (s .operation) and inRange p s d)) ∷
     on 14 (isEnded (s .stage)) ∷
     on 4 (not (goodReply p f)) ∷ [])
-    (on 11 (isHeard s (frameNode f)) ∷ []) 10 (not (awaited s f)) refuse pass (ap not e) (h 1 refl, (h 2 refl, (h 9 refl, (h 14 refl, (h 4 refl, tt))))) (h 10 refl)
+    (on 11 (isHeard s (frameNode f)) ∷ more) 10 (not (awaited s f)) refuse pass (ap not e) (h 1 refl, (h 2 refl, (h 9 refl, (h 14 refl, (h 4 refl, tt))))) (h 10 refl)
 
 soon : (k : ℕ) → oneOf k early ≡ true → NotCounted (refused k)
 soon k e = record { number = k; is = refl; early = e }
@@ -254,7 +254,7 @@ module _ (p : Plan) (s : Session) (f d i : List ℕ) (open-other : isEnded (s .s
   unfolding writeReply
   refused-write t d₂ c =
       let n : NotCounted (saidOf (t .answer)) =
-      subst (λ (o : Leaves). NotCounted (o .said)) (sym (c .is)) (turned-away (λ (o : Leaves). NotCounted (o .said)) _ _ Write p s f d (length i) soon missed) in
+      subst (λ (o : Leaves). NotCounted (o .said)) (sym (c .is)) (turned-away (λ (o : Leaves). NotCounted (o .said)) _ _ Write p s f d (length i) [] soon missed) in
       let k = client.write-refused p s f d i t d₂ c (n .number) (n .is) in
       (n, k .1, k .2)
 
@@ -262,7 +262,7 @@ module _ (p : Plan) (s : Session) (f d i : List ℕ) (open-other : isEnded (s .s
   unfolding readReply
   refused-read t d₂ i₂ c =
       let n : NotCounted (saidOf (t .answer)) =
-      subst (λ (o : Outcome). NotCounted (o .said)) (sym (c .is)) (turned-away (λ (o : Outcome). NotCounted (o .said)) _ _ Read p s f d (length i) soon missed) in
+      subst (λ (o : Outcome). NotCounted (o .said)) (sym (c .is)) (turned-away (λ (o : Outcome). NotCounted (o .said)) _ _ Read p s f d (length i) (recordLadder p s f) soon missed) in
       let k = client.read-refused p s f d i t d₂ i₂ c (n .number) (n .is) in
       (n, k .1, k .2, k .3)
 

@@ -5,7 +5,7 @@
 -- triple: it validates, and a repair round opens. Nodes 1 and 2 store it, and the read is done, with the byte 7 and two rounds.
 --   calls              the six calls, each by its contract
 --   counted-so         the rounds reported are the two that were closed
---   kept-so            the session is in its ranges
+--   kept-so other-so   the session is in its ranges, so that 9 is met only in a call for the other operation
 --   held-so rested-so  what the repair's desk holds, and that it stays
 --   late-so            a late reply of round 1, which comes in round 2, is not counted
 --   back-so            the item is the one that was written
@@ -14,14 +14,14 @@ use Prim.{tt}
 use Prim.Native.Nat.{ℕ, _*_, _≤_, _<_}
 use native.Mathlib.Omega.{arith}
 use mathlib.Core.Path.{_≡_, refl, sym, ap, _∙_}
-use mathlib.Core.Bool.{true}
+use mathlib.Core.Bool.{true, false}
 use mathlib.Core.List.{List, [], _∷_, _++_}
 use mathlib.Core.Logic.{inr}
 use lib.ListN.{length, replicate}
 use Rattle.octets.specs.Bytes.{part, put, num, numFrom, be, beOnto, alike}
 use Rattle.sha256.specs.Sha256 as sha
 use Rattle.sha256.specs.Sha256.{sha256, compressOf, addedOf, roundsOf, roundOf, T1, T2, scheduleOf, words, padding, bigEndian, K}
-use Rattle.terms.specs.Ladder.{first, all}
+use Rattle.terms.specs.Ladder.{first, all, _and_}
 use Rattle.terms.specs.Stamp.{then, stampAt, stampNumber}
 use Rattle.terms.specs.Terms.{planOk, tableOk, columnOf, recordLength, classOf, decided}
 use Rattle.terms.specs.declared.Ask.{Ask}
@@ -39,7 +39,7 @@ use Rattle.rounds.specs.declared.Heard.the-variants.{First, Record}
 use Rattle.rounds.specs.Rounds.{heardCount, every, slotStamp, aheadOf, stepOf, leadOf, joinsOf, setOf, closeWith, underOf, slotFits, slotsFit}
 use Rattle.recover.specs.Recover.{validates, slotFilled, refilled}
 use Rattle.session.specs.declared.Session.{Session}
-use Rattle.session.specs.declared.Operation.the-variants.{Read}
+use Rattle.session.specs.declared.Operation.the-variants.{Write, Read}
 use Rattle.session.specs.declared.Answer.{Answer}
 use Rattle.session.specs.declared.Answer.the-variants.{Refused, Open, Done}
 use Rattle.session.specs.declared.opening.Opened.{Opened}
@@ -47,7 +47,7 @@ use Rattle.session.specs.declared.opening.Opening.the-variants.{Accepted}
 use Rattle.session.specs.Session.{askNow, kindAwaited, markedOf, nextOf, storingOf, endedOf, refused}
 use Rattle.session.specs.Opening.{freshOf, openWith, OpenCall}
 use Rattle.session.specs.Ranges.{standingRules, openRules, inRange}
-use Rattle.session.specs.Reply.{lengthsOk, awaited, isHeard, bears}
+use Rattle.session.specs.Reply.{lengthsOk, sameOperation, awaited, isHeard, bears}
 use Rattle.session.specs.Reader.{sound, failing, actOn, actFor, closed, settled, heard, stored, accepted, repaired, collected, readReply, ReadReplyCall}
 use Rattle.session.specs.Writer.{crossFor, stampFor, recordsFor}
 use Rattle.session.proofs.Kept.{Kept}
@@ -58,7 +58,7 @@ use Rattle.conduct.specs.Repair.{Holds, EachTurn, Rests}
 use Rattle.conduct.specs.Asks.{NotCounted}
 use Rattle.conduct.proofs.Instances.{small, small-octets}
 use Rattle.conduct.proofs.Counting.{counted-rounds}
-use Rattle.conduct.proofs.Sessions.{every-session}
+use Rattle.conduct.proofs.Sessions.{every-session, other-operation}
 use Rattle.conduct.proofs.RepairRound.{repair-opens, repair-ends}
 use Rattle.conduct.proofs.Asks.{late-read-reply}
 use Rattle.conduct.proofs.ComesBack.{repair-comes-back}
@@ -266,6 +266,10 @@ desk-long = refl
 pub kept-so : Kept plan ended desk-full
 kept-so =
     every-session Read plan ask opened opened-so refl desk desk-long (call-1 ∷ call-2 ∷ call-3 ∷ call-4 ∷ call-5 ∷ call-6 ∷ []) replies-so
+
+-- 9 is met by it only in a call for the other operation
+pub other-so : (sameOperation Write (ended .operation) and inRange plan ended desk-full) ≡ false
+other-so = other-operation Write plan ended desk-full kept-so
 
 -- ---- the repair
 pub held-so : (k : ℕ) → k < 3

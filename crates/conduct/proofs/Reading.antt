@@ -34,7 +34,7 @@ use Rattle.session.specs.declared.Session.{Session}
 use Rattle.session.specs.declared.Operation.the-variants.{Read}
 use Rattle.session.specs.Session.{isStoring, replies, markedOf, endedOf, nextOf, storingOf, Said, refused, stillOpen, done, neverWritten, aborted, roundsSpent, clockSpent}
 use Rattle.session.specs.Ranges.{inRange}
-use Rattle.session.specs.Reply.{bears, replyLadder, recordLadder, lengthsOk, sameOperation}
+use Rattle.session.specs.Reply.{bears, lengthsOk, sameOperation}
 use Rattle.session.specs.Reader.{Outcome, outcome, headLength, decoded, collected, repaired, failing, acted, closed, settled, heard, stored, accepted, readReply}
 use Rattle.session.proofs.Rules.{lengths-are, in-range-is}
 use Rattle.session.proofs.Readers as readers
@@ -121,7 +121,7 @@ module _ (p : Plan) (s : Session) (f d i : List ℕ) where
 
   pub one-ladder : readReply p s f d i ≡ first (readLadder p s f d (length i)) refuse (accepted p s f d i)
   unfolding readReply
-  one-ladder = sym (ladders.in-a-row (replyLadder Read p s f d (length i)) (recordLadder p s f) refuse (accepted p s f d i))
+  one-ladder = refl
 
   -- ---- a candidate
   module _ (a : ℕ) (h : Candidate p s f d a) where

@@ -13,6 +13,7 @@ use lib.Dec.{ltb, lit<}
 use lib.ListN.{length, take, drop}
 use lib.Seq.{getD-drop}
 use Rattle.octets.specs.Bytes.{put, Octets}
+use Rattle.terms.specs.Ladder.{first}
 use Rattle.terms.specs.Terms.{planOk, recordLength}
 use Rattle.terms.specs.Stamp.{stampNumber}
 use Rattle.terms.specs.declared.Plan.{Plan}
@@ -113,7 +114,7 @@ module _ (p : Plan) (s : Session) (f d i : List ℕ) (asks : isStoring (s .stage
       (settles p (after p s f) (deskAfter p f d) i (q .plan-ok) (length-after p d f (q .reply .node-low) (q .desk-is)) asks))
 
   pub refills : Refilled p (after p s f) (deskAfter p f d) d₂
-  unfolding readReply
+  unfolding readReply first
   refills =
       subst Right (sym (call .is))
       (outcome-all Right (replyLadder Read p s f d (length i)) (λ (j : ℕ). outcome (refused j) s d i) _ (λ j z. never (sym asks ∙ z))
@@ -157,7 +158,7 @@ module _ (p : Plan) (s : Session) (f d i : List ℕ) (past : isAsking (s .stage)
       go false = record { desk = refl; item = λ t n e. refl; later = refl }
 
   stays : Stays (readReply p s f d i)
-  unfolding readReply
+  unfolding readReply first
   stays =
       outcome-all Stays (replyLadder Read p s f d (length i)) (λ (j : ℕ). outcome (refused j) s d i) _ turned-away
       (λ e. outcome-all Stays (recordLadder p s f) (λ (j : ℕ). outcome (refused j) s d i) (accepted p s f d i) turned-away

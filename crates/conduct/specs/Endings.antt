@@ -1,6 +1,5 @@
 -- When a reply call gives each of its answers. Document 01, "The client", "Endings", "Refusal numbers".
 --   Exactly                one thing exactly when another
---   readLadder             all that a reply to a reader is refused for, in the order 1, 2, 9, 14, 4, 10, 11, 5, 6, 12
 --   after deskAfter        the session and the desk after an accepted reply of a read round
 --   Closes                 the reply is accepted in a read round, and is its N-t-th
 --   Candidate size         node a bears the candidate; how many replies its set has
@@ -12,7 +11,7 @@
 use Prim.Native.Nat.{ℕ, _≤_, _<_, _*_}
 use mathlib.Core.Path.{_≡_}
 use mathlib.Core.Bool.{Bool, true, false, cond}
-use mathlib.Core.List.{List, _++_}
+use mathlib.Core.List.{List}
 use mathlib.Core.Logic.{_⊎_}
 use lib.ListN.{length}
 use Rattle.octets.specs.Bytes.{put}
@@ -28,9 +27,10 @@ use Rattle.rounds.specs.declared.Heard.the-variants.{First, Record}
 use Rattle.rounds.specs.declared.Lead.the-variants.{Node}
 use Rattle.rounds.specs.Rounds.{heardCount, markOf, leadOf, setOf, slotStamp}
 use Rattle.session.specs.declared.Session.{Session}
-use Rattle.session.specs.declared.Operation.the-variants.{Write, Read}
+use Rattle.session.specs.declared.Operation.the-variants.{Write}
 use Rattle.session.specs.Session.{isStoring, replies, markedOf, Said, refused, stillOpen, done, neverWritten, aborted, roundsSpent, clockSpent}
-use Rattle.session.specs.Reply.{bears, replyLadder, recordLadder}
+use Rattle.session.specs.Reply.{bears, replyLadder}
+pub use Rattle.session.specs.Reply.{readLadder}
 use Rattle.session.specs.Reader.{headLength, closed, sound}
 use Rattle.session.specs.Writer.{timedOf}
 
@@ -39,9 +39,6 @@ abbrev pub Exactly : Type 0 → Type 0 → Type 0
 Exactly A B = (A → B) × (B → A)
 
 -- ---- a read
-abbrev pub readLadder : Plan → Session → List ℕ → List ℕ → ℕ → List Rung
-readLadder p s f d item = replyLadder Read p s f d item ++ recordLadder p s f
-
 abbrev pub heardAs : Plan → List ℕ → Heard
 heardAs p f = cond (bears p f) Record First
 

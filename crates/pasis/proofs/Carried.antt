@@ -8,6 +8,7 @@ use native.Mathlib.Omega.{arith}
 use borrow.Author.Tests.{leb-false}
 use lib.ListN.{length}
 use lib.Dec.{ltb, leb, eqb}
+use Rattle.terms.specs.Ladder.{first}
 use Rattle.terms.specs.Terms.{planOk}
 use Rattle.terms.specs.Stamp.{time}
 use Rattle.terms.specs.declared.Plan.{Plan}
@@ -102,7 +103,7 @@ module _ (p : Plan) (ok : planOk p ≡ true) where
       (either Low (bears p f) (settled-low (markedOf s (frameNode f) Record) _ i h) (settled-low (markedOf s (frameNode f) First) d i h))
 
   pub read-round : (s : Session) (f d i : List ℕ) → s .round < 65536 → readReply p s f d i .session .round < 65536
-  unfolding readReply
+  unfolding readReply first
   read-round s f d i h =
       outcome-all Low (replyLadder Read p s f d (length i)) (λ (k : ℕ). outcome (refused k) s d i) _ (λ k. record { low = h })
       (λ e. outcome-all Low (recordLadder p s f) (λ (k : ℕ). outcome (refused k) s d i) (accepted p s f d i) (λ k. record { low = h })

@@ -455,7 +455,7 @@ module _ (p : Plan) (s : Session) (f d i : List ℕ) (sets : List (List Message)
       go false false = refl
 
   turned-now : turned .now ≡ readReply p s f d i
-  unfolding readReply
+  unfolding readReply first
   turned-now =
       first-map (λ (t : Turn). t .now) (replyLadder Read p s f d (length i)) refuse (first (recordLadder p s f) refuse taken)
       ∙ ap (first (replyLadder Read p s f d (length i)) (λ (j : ℕ). outcome (refused j) s d i))

@@ -1,7 +1,7 @@
 -- The hypotheses of the theorems on whole runs can be met by a read of two rounds and a repair, and by a write that is done: those of conduct's
 -- ReadInstance.antt and WriteInstance.antt, call by call from their openings. Instances.antt has runs of one call.
---   read-so            READ, of round 1, of both rounds and of the repair; each closed set is what DO_READ gathered for the command to be sent
---   write-so           WRITE, up to done
+--   read-repairs-so    READ, of round 1, of both rounds and of the repair; each closed set is what DO_READ gathered for the command to be sent
+--   write-done-so      WRITE, up to done
 -- Assumes nothing.
 use Prim.{tt}
 use Prim.Native.Nat.{ℕ}
@@ -137,8 +137,8 @@ unfolding small desk
 desk-small = refl
 
 -- the theorem at this run
-pub read-so : EachTells plan reads.start desk [] read-calls × AllClose plan (closedOver plan reads.start desk [] read-calls)
-read-so =
+pub read-repairs-so : EachTells plan reads.start desk [] read-calls × AllClose plan (closedOver plan reads.start desk [] read-calls)
+read-repairs-so =
     opened-read plan ask reads.opened desk read-calls reads.opened-so refl desk-long (small-octets desk desk-small) read-met (subst AllApart (sym closed-so) apart-so)
 
 -- ---- the write
@@ -146,8 +146,8 @@ abbrev pub write-calls : List Turn
 write-calls = writes.call-1 ∷ writes.call-2 ∷ writes.call-3 ∷ writes.call-4 ∷ []
 
 -- the theorem at this run
-pub write-so : EachWrites plan writes.start desk untimed write-calls
-write-so = opened-write plan ask writes.opened desk write-calls writes.opened-so refl write-met
+pub write-done-so : EachWrites plan writes.start desk untimed write-calls
+write-done-so = opened-write plan ask writes.opened desk write-calls writes.opened-so refl write-met
   where
     write-met : Writes plan writes.start desk write-calls
     write-met = let b = writes.calls in (b .0, writes.met-1, (b .2 .0, writes.met-2, (b .2 .2 .0, writes.met-3, (b .2 .2 .2 .0, writes.met-4, tt))))

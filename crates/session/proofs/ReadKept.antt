@@ -202,7 +202,7 @@ module _ (p : Plan) (s : Session) (f d i : List ℕ) (k : Kept p s d) where
       go false c = in-read (hearing p s f d (length i) e) c (fresh p s f g)
 
   pub read-kept : (t : Took) (d₂ i₂ : List ℕ) → ReadReplyCall p s f d i t d₂ i₂ → Kept p (t .session) d₂
-  unfolding readReply
+  unfolding readReply first
   read-kept t d₂ i₂ c =
       subst Good (sym (c .is))
       (outcome-all Good (replyLadder Read p s f d (length i)) (λ (j : ℕ). outcome (refused j) s d i) _ (λ j. k)

@@ -267,12 +267,12 @@ module _ (op : Operation) (p : Plan) (s : Session) (f d : List ℕ) (item : ℕ)
 -- ---- the call
 module _ (p : Plan) (s : Session) (f d i : List ℕ) (k : Check) (e : checkNumber k ≡ first (replyLadder Read p s f d (length i)) (λ (n : ℕ). n) 0) where
   pub refused-early : (r : Refusal) → k ≡ Failed r → outcome (refused (refusalNumber r)) s d i ≡ readReply p s f d i
-  unfolding readReply
+  unfolding readReply first
   refused-early r q = check-failed (replyLadder Read p s f d (length i)) k e (λ (n : ℕ). outcome (refused n) s d i) _ r q
 
   module _ (j : Check) (g : checkNumber j ≡ first (recordLadder p s f) (λ (n : ℕ). n) 0) (q : k ≡ Passed) where
     past : first (recordLadder p s f) (λ (n : ℕ). outcome (refused n) s d i) (accepted p s f d i) ≡ readReply p s f d i
-    unfolding readReply
+    unfolding readReply first
     past = ladder-goes-on (λ (n : ℕ). outcome (refused n) s d i) _ (replyLadder Read p s f d (length i)) refl (check-passed (replyLadder Read p s f d (length i)) k e q)
 
     pub refused-late : (r : Refusal) → j ≡ Failed r → outcome (refused (refusalNumber r)) s d i ≡ readReply p s f d i

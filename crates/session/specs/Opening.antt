@@ -21,6 +21,7 @@ use Rattle.rounds.specs.Rounds.{unheards}
 use Rattle.session.specs.declared.Session.{Session}
 use Rattle.session.specs.declared.Operation.{Operation}
 use Rattle.session.specs.declared.Stage.the-variants.{Asking}
+use Rattle.session.specs.Session.{sessionWith}
 use Rattle.session.specs.declared.opening.Opening.{Opening}
 use Rattle.session.specs.declared.opening.Opening.the-variants.{Refused, Accepted}
 use Rattle.session.specs.declared.opening.Opened.{Opened}
@@ -29,17 +30,7 @@ abbrev pub openingLadder : Plan → ℕ → List Rung
 openingLadder p a = on 1 (not (planOk p)) ∷ on 13 (not (openingOk p a)) ∷ []
 
 abbrev pub freshOf : Operation → ℕ → Bound → Ask → Session
-freshOf op round b a =
-    record {
-      operation = op;
-      stage = Asking;
-      round = round;
-      bound = b;
-      opening = a;
-      greatest = record { 0 = 0 };
-      stamp = zeroStamp;
-      marks = unheards;
-    }
+freshOf op round b a = sessionWith op Asking round b a (record { 0 = 0 }) zeroStamp unheards
 
 -- an answer as a number: 0 where the opening is accepted
 abbrev pub openingNumber : Opening → ℕ

@@ -36,9 +36,8 @@ use Rattle.rounds.specs.Rounds.{heardCount, Closed, closeOf}
 use Rattle.recover.specs.Recover.{validates, refilled}
 use Rattle.session.specs.declared.Session.{Session}
 use Rattle.session.specs.declared.Took.{Took}
-use Rattle.session.specs.declared.Operation.the-variants.{Read}
 use Rattle.session.specs.Session.{isStoring, replies, markedOf, endedOf, nextOf, storingOf, Said, refused, stillOpen, done, neverWritten, aborted, roundsSpent, saidOf}
-use Rattle.session.specs.Reply.{bears, replyLadder, recordLadder}
+use Rattle.session.specs.Reply.{bears, readLadder}
 
 pub record Outcome : Type 0 where
   pub said : Said
@@ -118,9 +117,7 @@ accepted p s f d i = cond (isStoring (s .stage)) (stored p s f d i) (heard p s f
 
 -- one reply: the first refusal that applies hands back everything as it came; where none does, it is accepted
 unfoldable pub readReply : Plan → Session → List ℕ → List ℕ → List ℕ → Outcome
-readReply p s f d i =
-    first (replyLadder Read p s f d (length i)) (λ (k : ℕ). outcome (refused k) s d i)
-    (first (recordLadder p s f) (λ (k : ℕ). outcome (refused k) s d i) (accepted p s f d i))
+readReply p s f d i = first (readLadder p s f d (length i)) (λ (k : ℕ). outcome (refused k) s d i) (accepted p s f d i)
 
 -- the contract of the call: its inputs, then its outcome
 pub record ReadReplyCall (p : Plan) (s : Session) (f d i : List ℕ) (t : Took) (d₂ i₂ : List ℕ) : Type 0 where

@@ -6,10 +6,11 @@
 --   bears              the reply bears a record
 --   replyLadder        the order, as far as it applies to a writer
 --   recordLadder       5, 6, 12: of a record, at a reader
+--   readLadder         the whole order at a reader
 -- Assumes nothing.
 use Prim.Native.Nat.{ℕ, _+_, _*_}
 use mathlib.Core.Bool.{Bool, not}
-use mathlib.Core.List.{List, [], _∷_}
+use mathlib.Core.List.{List, [], _∷_, _++_}
 use lib.ListN.{length}
 use lib.Dec.{eqb}
 use Rattle.terms.specs.Ladder.{Rung, on, _and_, _or_}
@@ -59,6 +60,10 @@ recordLadder p s f =
     on 5 (bears p f and timeZero (bodyOf f)) ∷
     on 6 (bears p f and not (hashesOk p (frameNode f) (bodyOf f))) ∷
     on 12 (bears p f and not (underOf (s .bound) (stamp (bodyOf f)))) ∷ []
+
+-- 1, 2, 9, 14, 4, 10, 11, 5, 6, 12
+abbrev pub readLadder : Plan → Session → List ℕ → List ℕ → ℕ → List Rung
+readLadder p s f d item = replyLadder Read p s f d item ++ recordLadder p s f
 
 -- what a ladder came to, as a number: 0 where none applies
 abbrev pub checkNumber : Check → ℕ

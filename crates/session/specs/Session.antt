@@ -4,18 +4,24 @@
 --   replies            N-t, the replies that close a round
 --   askNow             the ask number of the round that is open
 --   kindAwaited        the kind of the reply that the round awaits
+--   sessionWith        a session by its eight fields
 --   markedOf endedOf nextOf storingOf   the session after a node was heard, ended, in the next read round, in a write or repair round
 --   saidOf             an answer in the document's terms
 -- Assumes nothing.
 use Prim.Native.Nat.{ℕ, _+_, _-_}
 use mathlib.Core.Bool.{Bool, true, false, cond}
+use mathlib.Core.List.{List}
 use lib.ListN.{set}
 use Rattle.terms.specs.Ladder.{_and_}
 use Rattle.terms.specs.Terms.{refusalNumber}
 use Rattle.terms.specs.Stamp.{stampNumber}
+use Rattle.terms.specs.declared.Ask.{Ask}
 use Rattle.terms.specs.declared.Plan.{Plan}
+use Rattle.terms.specs.declared.Time.{Time}
 use Rattle.terms.specs.declared.Timestamp.{Timestamp}
 use Rattle.rounds.specs.declared.Heard.{Heard}
+use Rattle.rounds.specs.declared.Mark.{Mark}
+use Rattle.rounds.specs.declared.Bound.{Bound}
 use Rattle.rounds.specs.declared.Bound.the-variants.{Under}
 use Rattle.rounds.specs.Rounds.{unheards}
 use Rattle.session.specs.declared.Session.{Session}
@@ -59,59 +65,23 @@ askNow s = cond (isStoring (s .stage)) (s .opening .0 + s .round) (s .opening .0
 unfoldable pub kindAwaited : Session → ℕ
 kindAwaited s = cond (isStoring (s .stage)) 4 (cond (isRead (s .operation)) 7 2)
 
+-- a session by its eight fields
+abbrev pub sessionWith : Operation → Stage → ℕ → Bound → Ask → Time → Timestamp → List Mark → Session
+sessionWith o g r b a t w m = record { operation = o; stage = g; round = r; bound = b; opening = a; greatest = t; stamp = w; marks = m }
+
 abbrev pub markedOf : Session → ℕ → Heard → Session
-markedOf s i h =
-    record {
-      operation = s .operation;
-      stage = s .stage;
-      round = s .round;
-      bound = s .bound;
-      opening = s .opening;
-      greatest = s .greatest;
-      stamp = s .stamp;
-      marks = set (s .marks) i (record { is = h });
-    }
+markedOf s i h = sessionWith (s .operation) (s .stage) (s .round) (s .bound) (s .opening) (s .greatest) (s .stamp) (set (s .marks) i (record { is = h }))
 
 abbrev pub endedOf : Session → Session
-endedOf s =
-    record {
-      operation = s .operation;
-      stage = Ended;
-      round = s .round;
-      bound = s .bound;
-      opening = s .opening;
-      greatest = s .greatest;
-      stamp = s .stamp;
-      marks = s .marks;
-    }
+endedOf s = sessionWith (s .operation) Ended (s .round) (s .bound) (s .opening) (s .greatest) (s .stamp) (s .marks)
 
 -- "the next round opens", below the candidate's timestamp
 abbrev pub nextOf : Session → Timestamp → Session
-nextOf s t =
-    record {
-      operation = s .operation;
-      stage = Asking;
-      round = s .round + 1;
-      bound = Under t;
-      opening = s .opening;
-      greatest = s .greatest;
-      stamp = s .stamp;
-      marks = unheards;
-    }
+nextOf s t = sessionWith (s .operation) Asking (s .round + 1) (Under t) (s .opening) (s .greatest) (s .stamp) unheards
 
 -- a write or repair round, in which t is the timestamp being written
 abbrev pub storingOf : Session → Timestamp → Session
-storingOf s t =
-    record {
-      operation = s .operation;
-      stage = Storing;
-      round = s .round;
-      bound = s .bound;
-      opening = s .opening;
-      greatest = s .greatest;
-      stamp = t;
-      marks = unheards;
-    }
+storingOf s t = sessionWith (s .operation) Storing (s .round) (s .bound) (s .opening) (s .greatest) t unheards
 
 -- ---- an answer in the document's terms: a refusal's number, open, or an ending with its timestamp and rounds
 pub data Said : Type 0 where

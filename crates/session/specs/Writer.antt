@@ -28,7 +28,7 @@ use Rattle.rounds.specs.Rounds.{heardCount}
 use Rattle.session.specs.declared.Session.{Session}
 use Rattle.session.specs.declared.Took.{Took}
 use Rattle.session.specs.declared.Operation.the-variants.{Write}
-use Rattle.session.specs.Session.{isStoring, replies, markedOf, endedOf, storingOf, Said, refused, stillOpen, done, clockSpent, saidOf}
+use Rattle.session.specs.Session.{isStoring, replies, sessionWith, markedOf, endedOf, storingOf, Said, refused, stillOpen, done, clockSpent, saidOf}
 use Rattle.session.specs.Reply.{replyLadder}
 
 -- ---- times
@@ -38,16 +38,8 @@ laterOf a b = cond (ltb a b) b a
 -- "In a time or write round a heard node is marked record"
 abbrev pub timedOf : Session → ℕ → ℕ → Session
 timedOf s i t =
-    record {
-      operation = s .operation;
-      stage = s .stage;
-      round = s .round;
-      bound = s .bound;
-      opening = s .opening;
-      greatest = record { 0 = laterOf (s .greatest .0) t };
-      stamp = s .stamp;
-      marks = set (s .marks) i (record { is = Record });
-    }
+    sessionWith (s .operation) (s .stage) (s .round) (s .bound) (s .opening) (record { 0 = laterOf (s .greatest .0) t }) (s .stamp)
+    (set (s .marks) i (record { is = Record }))
 
 -- "the new time is the greatest reply plus 1"
 abbrev pub newTime : ℕ → ℕ

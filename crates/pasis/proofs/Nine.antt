@@ -3,16 +3,16 @@
 use Prim.Native.Nat.{ℕ}
 use mathlib.Core.Path.{_≡_, refl, sym, ap}
 use mathlib.Core.Bool.{Bool, true, false, not}
-use mathlib.Core.List.{List}
+use mathlib.Core.List.{List, [], _++_}
 use lib.ListN.{length}
-use Rattle.terms.specs.Ladder.{first, _and_}
+use Rattle.terms.specs.Ladder.{Rung, first, _and_}
 use Rattle.terms.specs.Terms.{planOk}
 use Rattle.terms.specs.declared.Plan.{Plan}
 use Rattle.terms.proofs.Rungs as rungs
 use Rattle.session.specs.declared.Operation.{Operation}
 use Rattle.session.specs.declared.Operation.the-variants.{Write, Read}
 use Rattle.session.specs.Session.{refused}
-use Rattle.session.specs.Reply.{lengthsOk, sameOperation, replyLadder}
+use Rattle.session.specs.Reply.{lengthsOk, sameOperation, replyLadder, recordLadder}
 use Rattle.session.specs.Owed as owed
 use Rattle.session.specs.Owed.{roomOk, dues, owedTo}
 use Rattle.session.specs.Writer.{Leaves, leaves, writeReply}
@@ -41,18 +41,19 @@ module _ (x s : List ℕ) (none : sessionShaped s ≡ false) (plan : planOk (pla
       sym (lent-none (planOf x) _ _ _ plan f (ap askedAs e))
 
   module _ (f d i e : List ℕ) (fits : bothFit (length s) (length e) ≡ true) (l : lengthsOk (planOf x) (length d) (length i) ≡ true) where
-    -- the ladder of a reply comes to 9
-    nine : {A : Type 0} (op : Operation) (refuse : ℕ → A) (pass : A) → refuse 9 ≡ first (replyLadder op (planOf x) (sessionOf s) f d (length i)) refuse pass
-    nine op refuse pass =
+    -- the ladder of a reply comes to 9, whatever rungs follow
+    nine : {A : Type 0} (op : Operation) (more : List Rung) (refuse : ℕ → A) (pass : A)
+        → refuse 9 ≡ first (replyLadder op (planOf x) (sessionOf s) f d (length i) ++ more) refuse pass
+    nine op more refuse pass =
         rungs.go-on 1 _ _ _ (ap not plan) (rungs.go-on 2 _ _ _ (ap not l)
         (rungs.stop 9 _ _ _ (ap not (and-false (sameOperation op (sessionOf s .operation)) _ (no-session (planOf x) s d none))) refl))
 
     pub write-nine : writeBytes x s f d i e ≡ took 9 s d i e
     unfolding writeBytes writeReply sessionAfter endingAfter
     write-nine =
-        sym (lent-none (planOf x) _ _ _ plan fits (ap (λ (o : Leaves). tookAs (withItem o i) s e) (nine Write (λ (k : ℕ). leaves (refused k) (sessionOf s) d) _)))
+        sym (lent-none (planOf x) _ _ _ plan fits (ap (λ (o : Leaves). tookAs (withItem o i) s e) (nine Write [] (λ (k : ℕ). leaves (refused k) (sessionOf s) d) _)))
 
     pub read-nine : readBytes x s f d i e ≡ took 9 s d i e
     unfolding readBytes readReply first sessionAfter endingAfter
     read-nine =
-        sym (lent-none (planOf x) _ _ _ plan fits (ap (λ (o : Outcome). tookAs o s e) (nine Read (λ (k : ℕ). outcome (refused k) (sessionOf s) d i) _)))
+        sym (lent-none (planOf x) _ _ _ plan fits (ap (λ (o : Outcome). tookAs o s e) (nine Read (recordLadder (planOf x) (sessionOf s) f) (λ (k : ℕ). outcome (refused k) (sessionOf s) d i) _)))

@@ -6,12 +6,19 @@ use crate::places::part;
 use crate::places::used;
 use crate::walk;
 use crate::walk::BLANK;
+use crate::walk::BOOK_3;
 use crate::walk::BOOKS;
 use crate::walk::ENDING;
 use crate::walk::ITEM;
 use crate::walk::KEPT;
 use crate::walk::OLD;
+use crate::walk::OLD_BOOKS;
 use crate::walk::REPLY;
+use crate::walk::ROUND;
+use crate::walk::ROUNDS;
+use crate::walk::STAGE;
+use crate::walk::STAMP;
+use crate::walk::VERIFIER;
 use libc::STDOUT_FILENO;
 
 // ---- words and numbers
@@ -46,9 +53,9 @@ pub fn end(name: &[u8], kept: bool) {
 
 // A timestamp and the rounds, if it was a read.
 fn done(w: &[u8]) {
-    let n = number_at(w, 1615, 2);
+    let n = number_at(w, ROUNDS, 2);
     say(b": done, time ", number_at(w, ENDING, 8));
-    say_bytes(b", verifier ", number_at(w, 1583, 8));
+    say_bytes(b", verifier ", number_at(w, VERIFIER, 8));
     if n > 0 {
         say(b", rounds ", n);
     }
@@ -56,7 +63,7 @@ fn done(w: &[u8]) {
 
 // An answer in document 01's words: 101 to 105 are endings, 0 is an operation that goes on, any other a refusal.
 pub fn told(w: &[u8], a: u64) {
-    let n = number_at(w, 1615, 2);
+    let n = number_at(w, ROUNDS, 2);
     match a {
         0 => text(b": open"),
         101 => done(w),
@@ -98,13 +105,13 @@ fn record_length(w: &[u8]) -> u64 {
 
 // Where an open session stands.
 fn standing(w: &[u8]) {
-    let stage = number_at(w, 1, 1);
+    let stage = number_at(w, STAGE, 1);
     if stage == 2 {
         return;
     }
-    say(b", round ", number_at(w, 2, 2));
+    say(b", round ", number_at(w, ROUND, 2));
     if stage == 1 {
-        say(b", storing time ", number_at(w, 61, 8));
+        say(b", storing time ", number_at(w, STAMP, 8));
     }
     say(b", heard ", walk::heard(w));
 }
@@ -136,13 +143,16 @@ fn answered(w: &[u8]) {
 // The reply of a node that stores nothing.
 fn replied(w: &[u8]) {
     fields(part(w, REPLY, 219));
-    end(b", book ", alike(part(w, BOOKS, 5150), part(w, 8412, 5150)));
+    end(
+        b", book ",
+        alike(part(w, BOOKS, 5150), part(w, OLD_BOOKS, 5150)),
+    );
 }
 
 // R, and how the book of node 3 is filled.
 fn filled(w: &[u8]) {
     say(b": R ", record_length(w));
-    filling(part(w, 4715, 1030));
+    filling(part(w, BOOK_3, 1030));
 }
 
 // The rest of a case's line, after its name.
@@ -150,7 +160,7 @@ pub fn tell(w: &[u8], show: u8) {
     match show {
         b'=' => filled(w),
         b'~' => replied(w),
-        b'+' => say(b": new time ", number_at(w, 61, 8)),
+        b'+' => say(b": new time ", number_at(w, STAMP, 8)),
         b'-' => told(w, walk::answer(w)),
         _ => answered(w),
     }

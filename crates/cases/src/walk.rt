@@ -25,22 +25,41 @@ pub const BLANK: u8 = 170;
 
 // The places of N 5 and F 4: a session of 117 bytes, a desk of 5 times 204, two frames of R+15, an ending of 42, an item of 8, and five
 // books of 1,030, one byte short of room for five records each. All of these a refused call leaves as they came. Then the plan's 11 bytes,
-// the number of the last answer, and what the kept places held before the last step.
+// the number of the last answer, and what the kept places held before the last step. Session, ending and plan are as host/pasis.h has
+// them: a session's stage, round, opening ask number, timestamp and marks have names here, and an ending's verifier and rounds.
 pub type World = [u8; 13600];
 
 pub const SESSION: usize = 0;
+
+pub const STAGE: usize = 1;
+
+pub const ROUND: usize = 2;
+
+const OPENING: usize = 45;
+
+pub const STAMP: usize = 61;
+
+const MARKS: usize = 101;
 
 pub const DESK: usize = 117;
 
 pub const REQUEST: usize = 1137;
 
+pub const REQUEST_TIME: usize = 1159;
+
 pub const REPLY: usize = 1356;
 
 pub const ENDING: usize = 1575;
 
+pub const VERIFIER: usize = 1583;
+
+pub const ROUNDS: usize = 1615;
+
 pub const ITEM: usize = 1617;
 
 pub const BOOKS: usize = 1625;
+
+pub const BOOK_3: usize = 4715;
 
 pub const KEPT: usize = 6775;
 
@@ -49,6 +68,8 @@ pub const PLAN: usize = 6775;
 pub const ANSWER: usize = 6786;
 
 pub const OLD: usize = 6787;
+
+pub const OLD_BOOKS: usize = 8412;
 
 // ---- changes
 
@@ -82,7 +103,7 @@ pub fn flip(w: World, at: usize, k: u64) -> World {
 // What the step that follows may change, kept.
 pub fn keep(from: World) -> World {
     let mut w = from;
-    octets::within(&mut w, 0, 6775, 6787);
+    octets::within(&mut w, 0, KEPT, OLD);
     w
 }
 
@@ -106,10 +127,10 @@ pub fn operation(w: &[u8]) -> u64 {
     number_at(w, SESSION, 1)
 }
 
-fn is_heard(w: &[u8], at: usize) -> u64
+fn is_heard(w: &[u8], mark: usize) -> u64
     ensures { λ r. ⌜ r ≤ 1 ⌝ }
 {
-    if number_at(w, at, 1) == 0 {
+    if number_at(w, mark, 1) == 0 {
         return 0;
     }
     1
@@ -117,7 +138,11 @@ fn is_heard(w: &[u8], at: usize) -> u64
 
 // How many of the five nodes are heard, by their marks.
 pub fn heard(w: &[u8]) -> u64 {
-    is_heard(w, 101) + is_heard(w, 102) + is_heard(w, 103) + is_heard(w, 104) + is_heard(w, 105)
+    is_heard(w, MARKS)
+        + is_heard(w, MARKS + 1)
+        + is_heard(w, MARKS + 2)
+        + is_heard(w, MARKS + 3)
+        + is_heard(w, MARKS + 4)
 }
 
 // The frame of 219 bytes or fewer at a place: as long as its length field says.
@@ -160,7 +185,7 @@ pub fn previous(w: World, ask: u64) -> World {
 pub fn time_reply(w: World, time: u64) -> World {
     let s: &[u8] = &w;
     let node = heard(s);
-    let ask = number_at(s, 45, 8);
+    let ask = number_at(s, OPENING, 8);
     let mut reply = [0u8; 23];
     frame::with_time(&mut reply, 2, node, Ask(ask), Time(time));
     laid(w, REPLY, &reply)

@@ -279,10 +279,19 @@ fn fill(p: Plan, path: &[u8], node: u64, book: &mut [u8]) {
     }
 }
 
+// What is wrong with a book that is longer than any: 1 comes before 2.
+fn too_large(p: Plan) {
+    if terms::plan_ok(p) {
+        say::refused(Refusal::WrongLength);
+    } else {
+        say::refused(Refusal::OutsidePlan);
+    }
+}
+
 // The first bytes of an area of zeros are the book.
 fn make(p: Plan, path: &[u8], node: u64, bytes: u64) {
     if bytes > 65536 {
-        say::refused(Refusal::WrongLength);
+        too_large(p);
         return;
     }
     let mut area = io::large_buffer();

@@ -41,6 +41,7 @@ def book(records, size):
     b = struct.pack(">IBBBHH", 7 + len(records) * R, 1, N, NODE, F, len(records)) + b"".join(records)
     return b + bytes(size - len(b))
 item = lambda s: (s * 32)[:32].encode()
+# t and b differ, so that a keeper that takes one for the other refuses this plan.
 PLAN = b"""# Seven nodes: two may fail, one of them by lying.
 N 7
 t 2

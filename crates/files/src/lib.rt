@@ -68,7 +68,7 @@ pub fn exists(path: &[u8]) -> bool {
 }
 
 // The name BOOK.new. 0 where it does not fit.
-pub fn beside(path: &[u8], name: &mut [u8]) -> usize
+fn beside(path: &[u8], name: &mut [u8]) -> usize
     ensures { λ r. ⌜ Counts r (now (name .exit)) ⌝ }
 {
     let n = path.len();
@@ -154,9 +154,8 @@ fn still_held(spare: &[u8]) {
     );
 }
 
-// Makes BOOK.new, which no one else then has, and answers a descriptor to write to it. Where another has it this waits, and at last says
-// so and answers -1.
-pub fn hold(spare: &[u8]) -> i32 {
+// Makes BOOK.new under its name, or waits for it.
+fn wait_for(spare: &[u8]) -> i32 {
     let mut last = clock();
     let mut waited: u64 = 0;
     let mut left = u64::MAX;
@@ -175,15 +174,33 @@ pub fn hold(spare: &[u8]) -> i32 {
     -1
 }
 
-// Lets BOOK.new go, with nothing written.
-pub fn let_go(fd: i32, spare: &[u8]) {
+// Makes BOOK.new, which no one else then has, and answers a descriptor to write to it. Where another has it this waits, and at last says
+// so and answers -1.
+pub fn hold(path: &[u8]) -> i32 {
+    let mut name = io::buffer();
+    let n = beside(path, &mut name);
+    if n == 0 {
+        say::about(path, b"the name is too long");
+        return -1;
+    }
+    wait_for(&name[..n])
+}
+
+fn remove(fd: i32, spare: &[u8]) {
     libc::close(fd);
     os::unlink(spare);
 }
 
+// Lets BOOK.new go, with nothing written.
+pub fn let_go(fd: i32, path: &[u8]) {
+    let mut name = io::buffer();
+    let n = beside(path, &mut name);
+    remove(fd, &name[..n]);
+}
+
 fn give_up(fd: i32, spare: &[u8]) -> bool {
     say::failed(spare);
-    let_go(fd, spare);
+    remove(fd, spare);
     false
 }
 
@@ -197,9 +214,8 @@ fn take_name(spare: &[u8], path: &[u8]) -> bool {
     sync_name(path)
 }
 
-// A whole book, safely on the disk under its name, through BOOK.new that is held. Where it answers false a line has said why, and BOOK
-// is the old book or the new one, whole.
-pub fn store(fd: i32, spare: &[u8], path: &[u8], book: &[u8]) -> bool {
+// A whole book, first under the name BOOK.new.
+fn store_by(fd: i32, spare: &[u8], path: &[u8], book: &[u8]) -> bool {
     if !io::write_all(fd, book) {
         return give_up(fd, spare);
     }
@@ -212,4 +228,12 @@ pub fn store(fd: i32, spare: &[u8], path: &[u8], book: &[u8]) -> bool {
         return false;
     }
     take_name(spare, path)
+}
+
+// A whole book, safely on the disk under its name, through BOOK.new that is held. Where it answers false a line has said why, and BOOK
+// is the old book or the new one, whole.
+pub fn store(fd: i32, path: &[u8], book: &[u8]) -> bool {
+    let mut name = io::buffer();
+    let n = beside(path, &mut name);
+    store_by(fd, &name[..n], path, book)
 }

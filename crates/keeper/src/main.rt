@@ -141,11 +141,11 @@ fn answer_look(p: Plan, path: &[u8], request: &[u8]) -> bool
 }
 
 // Stores the book that a step left, where it is to be stored, and lets BOOK.new go where not. Whether the book is safe.
-fn keep(x: Next, fd: i32, spare: &[u8], path: &[u8], book: &[u8]) -> bool {
+fn keep(x: Next, fd: i32, path: &[u8], book: &[u8]) -> bool {
     match x {
-        Next::Store(_) => files::store(fd, spare, path, book),
+        Next::Store(_) => files::store(fd, path, book),
         _ => {
-            files::let_go(fd, spare);
+            files::let_go(fd, path);
             true
         }
     }
@@ -153,12 +153,12 @@ fn keep(x: Next, fd: i32, spare: &[u8], path: &[u8], book: &[u8]) -> bool {
 
 // A write request against the book as it is on the disk, while BOOK.new is held: the book that the node leaves is stored, and then the reply
 // goes out.
-fn settle(p: Plan, path: &[u8], spare: &[u8], fd: i32, request: &[u8], book: &mut [u8]) -> bool
+fn settle(p: Plan, path: &[u8], fd: i32, request: &[u8], book: &mut [u8]) -> bool
     requires { ⌜ length (now book) ≤ 65536 ⌝ }
 {
     let mut reply = frame_area();
     let next = step::step(p, request, book, &mut reply);
-    let stored = keep(next, fd, spare, path, book);
+    let stored = keep(next, fd, path, book);
     let due = step::due_after(next, stored);
     match due {
         Due::Say(r) => refuse(r),
@@ -168,27 +168,27 @@ fn settle(p: Plan, path: &[u8], spare: &[u8], fd: i32, request: &[u8], book: &mu
 }
 
 // A write request, once BOOK.new is held.
-fn answer_held(p: Plan, path: &[u8], spare: &[u8], fd: i32, request: &[u8]) -> bool {
+fn answer_held(p: Plan, path: &[u8], fd: i32, request: &[u8]) -> bool {
     let mut area = io::large_buffer();
     let got = files::load(path, &mut area);
     if !got.is {
-        files::let_go(fd, spare);
+        files::let_go(fd, path);
         return false;
     }
     let n = got.length;
-    settle(p, path, spare, fd, request, &mut area[..n])
+    settle(p, path, fd, request, &mut area[..n])
 }
 
 // A request, and whether to go on.
-fn answer(p: Plan, path: &[u8], spare: &[u8], request: &[u8]) -> bool {
+fn answer(p: Plan, path: &[u8], request: &[u8]) -> bool {
     if !step::asks_to_write(request) {
         return answer_look(p, path, request);
     }
-    let fd = files::hold(spare);
+    let fd = files::hold(path);
     if fd < 0 {
         return false;
     }
-    answer_held(p, path, spare, fd, request)
+    answer_held(p, path, fd, request)
 }
 
 // Two ends of the input that are faults: a line, and not to go on.
@@ -203,13 +203,13 @@ fn too_long() -> bool {
 }
 
 // The next request, if there is one, and whether to go on.
-fn turn(p: Plan, path: &[u8], spare: &[u8]) -> bool {
+fn turn(p: Plan, path: &[u8]) -> bool {
     let mut frame = frame_area();
     let c = read_frame(&mut frame);
     let n = c.length;
     let how = c.how;
     match how {
-        How::Whole => answer(p, path, spare, &frame[..n]),
+        How::Whole => answer(p, path, &frame[..n]),
         How::Ended => false,
         How::CutOff => cut_off(),
         How::TooLong => too_long(),
@@ -217,9 +217,9 @@ fn turn(p: Plan, path: &[u8], spare: &[u8]) -> bool {
 }
 
 // A proved loop has to end, and nothing says that an input does: the turns are counted down from a number that no run uses up.
-fn turns(p: Plan, path: &[u8], spare: &[u8]) {
+fn turns(p: Plan, path: &[u8]) {
     let mut left = u64::MAX;
-    while left > 0 && turn(p, path, spare) {
+    while left > 0 && turn(p, path) {
         left -= 1;
     }
 }
@@ -255,39 +255,48 @@ fn book_ok(p: Plan, path: &[u8]) -> bool {
 }
 
 // A fresh book on the disk, where there is none yet.
-fn lay_down(path: &[u8], spare: &[u8], book: &[u8]) {
-    let fd = files::hold(spare);
+fn lay_down(path: &[u8], book: &[u8]) {
+    let fd = files::hold(path);
     if fd < 0 {
         return;
     }
     if files::exists(path) {
-        files::let_go(fd, spare);
+        files::let_go(fd, path);
         say::about(path, b"is there already, and stays as it is");
         return;
     }
-    if files::store(fd, spare, path, book) {
+    if files::store(fd, path, book) {
         io::write_all(STDOUT_FILENO, b"made\n");
     }
 }
 
 // A fresh book, and its file.
-fn fill(p: Plan, path: &[u8], spare: &[u8], node: u64, book: &mut [u8]) {
+fn fill(p: Plan, path: &[u8], node: u64, book: &mut [u8]) {
     let made = node::fresh(p, node, book);
     match made {
         Made::Refused(r) => say::refused(r),
-        Made::Fresh => lay_down(path, spare, book),
+        Made::Fresh => lay_down(path, book),
+    }
+}
+
+// What is wrong with a book that is longer than any: 1 comes before 2.
+fn too_large(p: Plan) {
+    if terms::plan_ok(p) {
+        say::refused(Refusal::WrongLength);
+    } else {
+        say::refused(Refusal::OutsidePlan);
     }
 }
 
 // The first bytes of an area of zeros are the book.
-fn make(p: Plan, path: &[u8], spare: &[u8], node: u64, bytes: u64) {
+fn make(p: Plan, path: &[u8], node: u64, bytes: u64) {
     if bytes > 65536 {
-        say::refused(Refusal::WrongLength);
+        too_large(p);
         return;
     }
     let mut area = io::large_buffer();
     let n = bytes as usize;
-    fill(p, path, spare, node, &mut area[0..n]);
+    fill(p, path, node, &mut area[0..n]);
 }
 
 // ---- arguments
@@ -314,7 +323,7 @@ fn is_new() -> bool {
 }
 
 // The numbers of `new NODE BYTES`, and the fresh book.
-fn run_new(p: Plan, path: &[u8], spare: &[u8]) {
+fn run_new(p: Plan, path: &[u8]) {
     if !is_new() {
         usage();
         return;
@@ -329,7 +338,7 @@ fn run_new(p: Plan, path: &[u8], spare: &[u8]) {
         usage();
         return;
     };
-    make(p, path, spare, node, bytes);
+    make(p, path, node, bytes);
 }
 
 // The letter that is the name of value k of a plan's text, where its value is a number.
@@ -371,18 +380,18 @@ fn say_wrong(path: &[u8], line: u64, k: usize) {
 }
 
 // The requests of the input, where the book is good; or a fresh book.
-fn run(p: Plan, path: &[u8], spare: &[u8], count: usize) {
+fn run(p: Plan, path: &[u8], count: usize) {
     if count != 3 {
-        run_new(p, path, spare);
+        run_new(p, path);
         return;
     }
     if book_ok(p, path) {
-        turns(p, path, spare);
+        turns(p, path);
     }
 }
 
 // The plan that the file PLAN says. Where it cannot be had, a line says why.
-fn run_plan(plan_path: &[u8], path: &[u8], spare: &[u8], count: usize) {
+fn run_plan(plan_path: &[u8], path: &[u8], count: usize) {
     let mut area = io::buffer();
     let got = files::load(plan_path, &mut area);
     if !got.is {
@@ -392,19 +401,8 @@ fn run_plan(plan_path: &[u8], path: &[u8], spare: &[u8], count: usize) {
     let r = text::read_plan(&area[..n]);
     match r {
         Reading::Wrong(line, k) => say_wrong(plan_path, line, k),
-        Reading::Good(p) => run(p, path, spare, count),
+        Reading::Good(p) => run(p, path, count),
     }
-}
-
-// The name BOOK.new beside BOOK.
-fn run_beside(plan_path: &[u8], path: &[u8], count: usize) {
-    let mut name = io::buffer();
-    let n = files::beside(path, &mut name);
-    if n == 0 {
-        say::about(path, b"the name is too long");
-        return;
-    }
-    run_plan(plan_path, path, &name[..n], count);
 }
 
 // Argument 2, the name BOOK.
@@ -415,7 +413,7 @@ fn run_book(plan_path: &[u8], count: usize) {
         say::failed(b"BOOK");
         return;
     }
-    run_beside(plan_path, &path[..n], count);
+    run_plan(plan_path, &path[..n], count);
 }
 
 fn main() {

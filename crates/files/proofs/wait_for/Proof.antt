@@ -1,8 +1,8 @@
--- `files::hold` ends: its turns are counted down, and the seconds waited never pass them. Assumes nothing.
+-- `files::wait_for` ends: its turns are counted down, and the seconds waited never pass them. Assumes nothing.
 use native.Mathlib.Omega.{arith}
 use Prim.Native.Nat.{_+_, _≤_}
-use Rattle.files.proofs.hold.Statement.{statement}
-use Rattle.files.proofs.hold.Tie as tie
+use Rattle.files.proofs.wait_for.Statement.{statement}
+use Rattle.files.proofs.wait_for.Tie as tie
 
 abbrev Inv-loop : tie.InvT-loop
 Inv-loop spare last₀ waited₀ left₀ last waited left = waited + left ≤ 18446744073709551615
@@ -49,8 +49,8 @@ still-held-requires c κs = tt
 returns-2 : tie.Need-returns-2 Inv-loop μ-loop
 returns-2 c = tt
 
-pub hold-spec : {M : Type 1} → statement M
-hold-spec =
+pub wait-for-spec : {M : Type 1} → statement M
+wait-for-spec =
     tie.close
     (tie.spec
     Inv-loop

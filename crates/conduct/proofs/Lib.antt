@@ -28,3 +28,4 @@ pub mod SameStamp
 pub mod Asks
 pub mod ReadInstance
 pub mod WriteInstance
+pub mod StampInstance

@@ -23,6 +23,8 @@ pub mod RepairRound
 pub mod RepairInstance
 pub mod Sessions
 pub mod ComesBack
+pub mod SameStamp
 pub mod Asks
 pub mod ReadInstance
 pub mod WriteInstance
+pub mod StampInstance

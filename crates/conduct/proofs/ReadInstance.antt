@@ -168,7 +168,7 @@ pub opened-so : OpenCall Read plan ask opened
 unfolding openWith first planOk tableOk columnOf all plan
 opened-so = record { is = refl }
 
-met-1 : ReadReplyCall plan (start) reply-1 desk (0 ∷ []) (record { answer = Open; session = first-heard }) desk-poor (0 ∷ [])
+pub met-1 : ReadReplyCall plan (start) reply-1 desk (0 ∷ []) (record { answer = Open; session = first-heard }) desk-poor (0 ∷ [])
 unfolding reply-1 hash poor stamp-bytes good desk desk-poor desk-good desk-full plan readReply first planOk tableOk columnOf all recordLength lengthsOk inRange standingRules openRules heardCount every slotsFit slotFits slotStamp underOf num numFrom part
     goodReply goodFrame shaped forParty oneOf bodyFits awaited askNow kindAwaited isHeard bears be beOnto accepted heard settled
     hashesOk timeZero fragmentHash alike put stampAt stampNumber then sha256 sha.after compressOf addedOf roundsOf roundOf T1 T2 scheduleOf words padding bigEndian K
@@ -306,15 +306,15 @@ late-so =
 
 -- ---- the item is the one that was written: the desk that the repair filled is the one that a writer of the byte 7 fills at time 1
 module _ where
-  abbrev cross : List ℕ
+  abbrev pub cross : List ℕ
   cross = hash ++ (hash ++ hash)
 
-  cross-so : crossFor plan (7 ∷ []) ≡ cross
+  pub cross-so : crossFor plan (7 ∷ []) ≡ cross
   unfolding crossFor crossMade row fragment fragmentHash plan hash part tabulate value blend weightOf ratio from xtime mulN mul sha256 sha.after compressOf addedOf roundsOf
       roundOf T1 T2 scheduleOf words padding bigEndian K
   cross-so = refl
 
-  stamp-so : stampMade 1 cross ≡ stamp-bytes
+  pub stamp-so : stampMade 1 cross ≡ stamp-bytes
   unfolding stamp-bytes hash be beOnto sha256 sha.after compressOf addedOf roundsOf roundOf T1 T2 scheduleOf words padding bigEndian K
   stamp-so = refl
 
@@ -332,11 +332,11 @@ pub stamped-so : stampFor plan 1 (7 ∷ []) ≡ stampAt stamp-bytes 0
 unfolding stampFor
 stamped-so = ap (λ (c : List ℕ). stampAt (stampMade 1 c) 0) cross-so ∙ ap (λ (t : List ℕ). stampAt t 0) stamp-so
 
-plan-ok : planOk plan ≡ true
+pub plan-ok : planOk plan ≡ true
 unfolding plan planOk tableOk columnOf all
 plan-ok = refl
 
-seven-small : small (7 ∷ []) ≡ true
+pub seven-small : small (7 ∷ []) ≡ true
 unfolding small
 seven-small = refl
 

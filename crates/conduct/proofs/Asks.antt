@@ -47,7 +47,7 @@ use Rattle.conduct.specs.Asks.{Goes, stays, ends, opens, Moves, IsOver, 
 use Rattle.conduct.specs.Endings.{readLadder, writeLadder, heardAs, after, deskAfter}
 use Rattle.conduct.specs.Turns.{Turn}
 use Rattle.conduct.specs.Sessions.{Replies, lastSession}
-use Rattle.conduct.proofs.Ladders as ladders
+use Rattle.terms.proofs.Ladders as ladders
 use Rattle.conduct.proofs.Reading as reading
 use Rattle.conduct.proofs.Writing as writing
 use Rattle.conduct.proofs.Client as client

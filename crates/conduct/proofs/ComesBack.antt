@@ -17,7 +17,7 @@ use mathlib.Core.Logic.{inl, inr}
 use native.Mathlib.Omega.{arith}
 use lib.ListN.{length, length-append}
 use Rattle.octets.specs.Bytes.{part, Octets}
-use Rattle.octets.proofs.Laws.{length-part, length-be, part-middle}
+use Rattle.octets.proofs.Laws.{length-part, length-be, part-middle, slot-fits}
 use Rattle.sha256.proofs.Laws.{sha256-length}
 use Rattle.terms.specs.Ladder.{all}
 use Rattle.terms.specs.Terms.{planOk, tableOk, columnOf, recordLength, complete, incomplete}
@@ -34,7 +34,7 @@ use Rattle.fragments.proofs.Theorems.{all-from, distinct-from, any-item}
 use Rattle.record.specs.Record.{fragmentOf}
 use Rattle.record.specs.Desk.{slotOf, fragmentIn, stampMade}
 use Rattle.record.proofs.Records.{record-length, fragment-at}
-use Rattle.record.proofs.Desks.{slot-fits, length-cross}
+use Rattle.record.proofs.Desks.{length-cross}
 use Rattle.rounds.specs.declared.Lead.{Lead}
 use Rattle.rounds.specs.Rounds.{closeWith}
 use Rattle.session.specs.declared.Session.{Session}

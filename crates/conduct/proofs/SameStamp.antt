@@ -12,7 +12,7 @@ use mathlib.Core.List.{List, [], _++_, append-nil}
 use native.Mathlib.Omega.{arith}
 use lib.ListN.{length}
 use Rattle.octets.specs.Bytes.{part, be, alike, Octets}
-use Rattle.octets.proofs.Laws.{length-part, length-be, part-part, part-all, part-middle}
+use Rattle.octets.proofs.Laws.{length-part, length-be, part-part, part-all, part-middle, slot-fits}
 use Rattle.octets.proofs.Meaning.{part-add, alike-is}
 use Rattle.sha256.specs.Sha256.{sha256}
 use Rattle.sha256.proofs.Laws.{sha256-length}
@@ -24,7 +24,7 @@ use Rattle.fragments.proofs.Interp.{all-map}
 use Rattle.record.specs.Record.{stampOf, verifierOf, crossOf, fragmentOf, entryOf, fragmentHash, hashesOk}
 use Rattle.record.specs.Desk.{slotOf, stampMade}
 use Rattle.record.proofs.Records.{record-length}
-use Rattle.record.proofs.Desks.{slot-fits, entry-of}
+use Rattle.record.proofs.Desks.{entry-of}
 use Rattle.session.specs.declared.Session.{Session}
 use Rattle.session.specs.declared.Took.{Took}
 use Rattle.session.specs.Session.{isStoring, done, saidOf}

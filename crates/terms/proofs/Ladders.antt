@@ -37,9 +37,3 @@ pub is-passed : {A : Type 0} (l : List Rung) (refuse : ℕ → A) (pass : A) →
 unfolding first
 is-passed [] refuse pass n = refl
 is-passed (x ∷ l) refuse pass n = rw (n .0) (is-passed l refuse pass (n .1))
-
--- one ladder after another is one ladder
-pub in-a-row : {A : Type 0} (l r : List Rung) (refuse : ℕ → A) (pass : A) → first (l ++ r) refuse pass ≡ first l refuse (first r refuse pass)
-unfolding first
-in-a-row [] r refuse pass = refl
-in-a-row (x ∷ l) r refuse pass = ap (λ (y : _). cond (x .applies) (refuse (x .number)) y) (in-a-row l r refuse pass)

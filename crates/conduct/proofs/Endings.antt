@@ -11,7 +11,6 @@ use mathlib.Core.List.{List}
 use native.Mathlib.Omega.{arith}
 use lib.Dec.{ltb}
 use lib.ListN.{length}
-use Rattle.terms.specs.Ladder.{first}
 use Rattle.terms.specs.Terms.{recordLength, complete}
 use Rattle.terms.specs.declared.Plan.{Plan}
 use Rattle.terms.proofs.Facts.{facts}

@@ -14,6 +14,7 @@ use lib.ListN.{length}
 use Rattle.terms.specs.Ladder.{first}
 use Rattle.terms.specs.declared.Plan.{Plan}
 use Rattle.terms.proofs.Rungs.{clash}
+use Rattle.terms.proofs.Picks.{either}
 use Rattle.rounds.specs.declared.Bound.the-variants.{Free}
 use Rattle.rounds.specs.declared.Heard.the-variants.{Record}
 use Rattle.rounds.specs.Rounds.{heardCount}
@@ -39,7 +40,6 @@ use Rattle.packing.specs.SessionBytes.{sessionBytes, sessionOf}
 use Rattle.answers.specs.Answers.{lentLadder, bothFit, madeNumber, servedNumber, dueNumber, answerNumber, endingAfter}
 use Rattle.pasis.specs.Store.{FreshBook, NodeServes}
 use Rattle.pasis.specs.Client.{sessionFits, sessionAfter, Opened, opened, openBytes, OpenServes, Asked, asked, owedBytes, OwedServes, Took, took, withItem, tookAs, writeBytes, readBytes, WriteServes, ReadServes}
-use Rattle.pasis.proofs.Carried.{either}
 use Rattle.demands.proofs.Demand1.{accepted-taken}
 
 pub host-fresh-unique : (x : List ℕ) (n : ℕ) (b : List ℕ) (r r′ : ℕ) (b₂ b₂′ : List ℕ) → FreshBook x n b r b₂ → FreshBook x n b r′ b₂′

@@ -2,8 +2,7 @@
 use Prim.Native.Nat.{ℕ, suc, _+_, _≤_, _<_}
 use mathlib.Core.Path.{_≡_, refl, sym, ap, _∙_}
 use mathlib.Core.Bool.{Bool, true, false, cond}
-use mathlib.Core.List.{List, [], _∷_, _++_, append-assoc, append-nil}
-use native.Mathlib.Nat.{le-of-eq}
+use mathlib.Core.List.{List, [], _∷_, _++_, append-assoc}
 use native.Mathlib.Numerals.{add-one}
 use native.Mathlib.Omega.{arith}
 use borrow.Author.Tests.{le-leb, lt-leb, eq-eqb, ne-eqb, eqb-true}
@@ -12,7 +11,7 @@ use lib.Seq.{drop-cons, take-suc, take-all, take-suc-set, length-take-le}
 use lib.Dec.{eqb}
 use Rattle.octets.specs.Bytes.{put, be, over}
 use Rattle.octets.proofs.Laws.{length-be, put-snoc, put-nil, put-then}
-use Rattle.octets.proofs.Meaning.{over-start, over-more}
+use Rattle.octets.proofs.Meaning.{over-start, over-more, over-whole}
 use Rattle.terms.specs.Ladder.{all}
 use Rattle.terms.specs.Stamp.{stampNumber, stampAt, zeroStamp}
 use Rattle.terms.specs.declared.Timestamp.{Timestamp}
@@ -33,14 +32,6 @@ module _ {A : Type 0} (k c : ℕ) (x y : A) where
 
   pub passes : {z : A} → (k ≡ c → ⊥) → z ≡ y → z ≡ cond (eqb k c) x y
   passes h e = rw (ne-eqb k c h) e
-
--- one of two, by a test
-module _ {A : Type 0} {t : Bool} (x y : A) where
-  pub when : {z : A} → t ≡ true → z ≡ x → z ≡ cond t x y
-  when e f = rw e f
-
-  pub unless : {z : A} → t ≡ false → z ≡ y → z ≡ cond t x y
-  unless e f = rw e f
 
 -- ---- lengths that the shapes give
 pub plan-length : (x : List ℕ) → planShaped x ≡ true → length x ≡ 11
@@ -146,10 +137,6 @@ bound-under x y b u e g = g ∙ ap (λ (c : Bound). put x 4 (boundBytes c)) (sym
 -- ---- fields written one after the other, from the start on
 next : (old l s y : List ℕ) (at : ℕ) → length s ≡ at → l ≡ over s old → put l at y ≡ over (s ++ y) old
 next old l s y at z e = ap (λ (k : List ℕ). put k at y) e ∙ over-more old s y at z
-
-over-whole : (new old : List ℕ) → length old ≡ length new → over new old ≡ new
-unfolding over
-over-whole new old e = ap (λ (l : List ℕ). new ++ l) (drop-of-length-le old (le-of-eq e)) ∙ append-nil new
 
 pub length-session : (s : Session) → length (s .marks) ≡ 16 → length (sessionBytes s) ≡ 117
 unfolding sessionBytes

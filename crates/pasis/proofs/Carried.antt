@@ -10,6 +10,7 @@ use lib.ListN.{length}
 use lib.Dec.{ltb, leb, eqb}
 use Rattle.terms.specs.Ladder.{first}
 use Rattle.terms.specs.Terms.{planOk}
+use Rattle.terms.proofs.Picks.{either}
 use Rattle.terms.specs.Stamp.{time, top}
 use Rattle.terms.specs.declared.Plan.{Plan}
 use Rattle.terms.specs.declared.Timestamp.{Timestamp}
@@ -28,11 +29,6 @@ use Rattle.session.specs.Reply.{bears, replyLadder, recordLadder}
 use Rattle.session.specs.Reader.{Outcome, outcome, sound, failing, actOn, actFor, closed, settled, heard, stored, accepted, readReply}
 use Rattle.session.specs.Writer.{Leaves, leaves, timedOf, timeEnd, timeTurn, writeTurn, acceptedWrite, writeReply}
 use Rattle.session.proofs.Checks.{outcome-all}
-
--- one of two that both meet a condition
-pub either : {A : Type 0} (P : A → Type 0) (t : Bool) {a b : A} → P a → P b → P (cond t a b)
-either P true p q = p
-either P false p q = q
 
 -- ---- a writer's
 record Same (n : ℕ) (o : Leaves) : Type 0 where

@@ -54,6 +54,6 @@ module _ (x s : List ℕ) (none : sessionShaped s ≡ false) (plan : planOk (pla
         sym (lent-none (planOf x) _ _ _ plan fits (ap (λ (o : Leaves). tookAs (withItem o i) s e) (nine Write [] (λ (k : ℕ). leaves (refused k) (sessionOf s) d) _)))
 
     pub read-nine : readBytes x s f d i e ≡ took 9 s d i e
-    unfolding readBytes readReply first sessionAfter endingAfter
+    unfolding readBytes readReply sessionAfter endingAfter
     read-nine =
         sym (lent-none (planOf x) _ _ _ plan fits (ap (λ (o : Outcome). tookAs o s e) (nine Read (recordLadder (planOf x) (sessionOf s) f) (λ (k : ℕ). outcome (refused k) (sessionOf s) d i) _)))

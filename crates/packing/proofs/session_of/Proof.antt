@@ -1,4 +1,5 @@
 use Rattle.packing.proofs.Laws as laws
+use Rattle.terms.proofs.Picks as picks
 use Rattle.packing.specs.SessionBytes.{sessionOf}
 use borrow.Author.Tests.{not-true, not-false}
 use mathlib.Core.Path.{sym, _∙_}
@@ -14,14 +15,14 @@ no-session-requires c κs = search needs
 
 returns : tie.Need-returns
 unfolding sessionOf
-returns c = laws.unless _ _ (sym (c .before .before .session-shaped .ensures) ∙ not-true (c .before .before .session-shaped .result) (c .before .if1 .taken)) (c .no-session .ensures)
+returns c = picks.no _ _ (sym (c .before .before .session-shaped .ensures) ∙ not-true (c .before .before .session-shaped .result) (c .before .if1 .taken)) (c .no-session .ensures)
 
 session-at-requires : tie.Need-session-at-requires
 session-at-requires c κs = laws.session-length _ (sym (c .before .session-shaped .ensures) ∙ not-false (c .before .session-shaped .result) (c .if1 .left))
 
 returns-2 : tie.Need-returns-2
 unfolding sessionOf
-returns-2 c = laws.when _ _ (sym (c .before .before .session-shaped .ensures) ∙ not-false (c .before .before .session-shaped .result) (c .before .if1 .left)) (c .session-at .ensures)
+returns-2 c = picks.yes _ _ (sym (c .before .before .session-shaped .ensures) ∙ not-false (c .before .before .session-shaped .result) (c .before .if1 .left)) (c .session-at .ensures)
 
 pub session-of-spec : {M : Type 1} → statement M
 session-of-spec =

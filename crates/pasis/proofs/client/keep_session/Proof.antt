@@ -1,4 +1,4 @@
-use Rattle.packing.proofs.Laws as picks
+use Rattle.terms.proofs.Picks as picks
 use Rattle.pasis.specs.Client.{sessionAfter}
 use mathlib.Core.Path.{refl, sym, _∙_}
 use borrow.Author.Needs.{needs}
@@ -10,7 +10,7 @@ is-refused-requires c κs = search needs
 
 returns : tie.Need-returns
 unfolding sessionAfter
-returns c = picks.when _ _ (sym (c .before .is-refused .ensures) ∙ c .if1 .taken) refl
+returns c = picks.yes _ _ (sym (c .before .is-refused .ensures) ∙ c .if1 .taken) refl
 
 write-session-requires : tie.Need-write-session-requires
 write-session-requires c κs = search needs
@@ -20,7 +20,7 @@ same-length c = search needs
 
 returns-2 : tie.Need-returns-2
 unfolding sessionAfter
-returns-2 c = picks.unless _ _ (sym (c .before .before .before .before .before .is-refused .ensures) ∙ c .before .before .before .before .if1 .left) (c .before .before .write-session .ensures)
+returns-2 c = picks.no _ _ (sym (c .before .before .before .before .before .is-refused .ensures) ∙ c .before .before .before .before .if1 .left) (c .before .before .write-session .ensures)
 
 pub keep-session-spec : {M : Type 1} → statement M
 keep-session-spec =

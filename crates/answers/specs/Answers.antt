@@ -25,7 +25,7 @@ abbrev pub madeNumber : SaidMade → ℕ
 madeNumber (fresh.refused k) = k
 madeNumber fresh.made = 0
 
-abbrev pub servedNumber : node.Said → ℕ
+abbrev pub servedNumber : node.SaidServed → ℕ
 servedNumber (node.refused k) = k
 servedNumber (node.replied n) = 0
 

@@ -11,7 +11,7 @@ ghost use lib.ListN.{length};
 ghost use Rattle.terms.specs.Ladder.{first};
 ghost use Rattle.terms.specs.Terms.{refusalNumber};
 ghost use Rattle.terms.specs.Stamp.{stampNumber};
-ghost use Rattle.node.specs.Node.{said};
+ghost use Rattle.node.specs.Node.{saidServed};
 ghost use Rattle.node.specs.Fresh.{saidMade};
 ghost use Rattle.session.specs.Session.{saidOf, isRefused};
 ghost use Rattle.session.specs.Owed.{dueOf};
@@ -49,7 +49,7 @@ pub fn made_number(m: Made) -> u32
 }
 
 pub fn served_number(a: node::Answer) -> u32
-    ensures { λ r. ⌜ r ≡ servedNumber (said a) ⌝ }
+    ensures { λ r. ⌜ r ≡ servedNumber (saidServed a) ⌝ }
 {
     match a {
         node::Answer::Refused(r) => refusal_number(r),

@@ -44,7 +44,7 @@ use Rattle.session.proofs.Rules.{in-range-is}
 use Rattle.session.proofs.Openings.{accepted-session}
 use Rattle.session.proofs.Closings as shapes
 use Rattle.conduct.specs.Asks.{Goes, stays, ends, opens, Moves, IsOver, NotCounted}
-use Rattle.conduct.specs.Endings.{readLadder, writeLadder, heardAs, after, deskAfter}
+use Rattle.conduct.specs.Endings.{readLadder, writeLadder, heardAs, afterReply, deskAfter}
 use Rattle.conduct.specs.Turns.{Turn}
 use Rattle.conduct.specs.Sessions.{Replies, lastSession}
 use Rattle.terms.proofs.Ladders as ladders
@@ -82,7 +82,7 @@ module _ (p : Plan) (s : Session) (f d i : List ℕ) where
 
   -- the close of the round with this reply
   abbrev close : Closed
-  close = closed p (after p s f) (deskAfter p f d)
+  close = closed p (afterReply p s f) (deskAfter p f d)
 
   read-moves : To (readReply p s f d i)
   read-moves =
@@ -94,7 +94,7 @@ module _ (p : Plan) (s : Session) (f d i : List ℕ) where
       closing n q =
           let low = low-round (reading.taken p s f d (length i) n .range) in
           let going = n .1 .1 .1 .0 in
-          shapes.goes To p (after p s f) close (deskAfter p f d) i
+          shapes.goes To p (afterReply p s f) close (deskAfter p f d) i
           (record {
             finds = λ x y. record { opening = refl; goes = ends refl };
             never = record { opening = refl; goes = ends refl };
@@ -104,9 +104,9 @@ module _ (p : Plan) (s : Session) (f d i : List ℕ) where
             repairs = λ a l v. repair-opens s low going q (heardAs p f) (frameNode f) (close .stamp);
           })
 
-      asks : None (readLadder p s f d (length i)) → isStoring (s .stage) ≡ false → (x : Bool) → ltb (heardCount (after p s f .marks)) (replies p) ≡ x
+      asks : None (readLadder p s f d (length i)) → isStoring (s .stage) ≡ false → (x : Bool) → ltb (heardCount (afterReply p s f .marks)) (replies p) ≡ x
           → To (readReply p s f d i)
-      asks n q true h = subst To (sym (reading.waits-read p s f d i n q (ltb-true _ _ h))) (still s (after p s f) refl refl refl)
+      asks n q true h = subst To (sym (reading.waits-read p s f d i n q (ltb-true _ _ h))) (still s (afterReply p s f) refl refl refl)
       asks n q false h = subst To (sym (reading.closes-read p s f d i n q (ltb-false _ _ h))) (closing n q)
 
       stores : None (readLadder p s f d (length i)) → isStoring (s .stage) ≡ true
@@ -116,7 +116,7 @@ module _ (p : Plan) (s : Session) (f d i : List ℕ) where
 
       go : None (readLadder p s f d (length i)) → (x : Bool) → isStoring (s .stage) ≡ x → To (readReply p s f d i)
       go n true q = stores n q (ltb (heardCount (markedOf s (frameNode f) Record .marks)) (replies p)) refl
-      go n false q = asks n q (ltb (heardCount (after p s f .marks)) (replies p)) refl
+      go n false q = asks n q (ltb (heardCount (afterReply p s f .marks)) (replies p)) refl
 
   abbrev Leads : Leaves → Type 0
   Leads o = Moves s (o .session)

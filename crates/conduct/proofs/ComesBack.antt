@@ -44,7 +44,7 @@ use Rattle.session.specs.Reader.{Outcome, headLength, lowest, decoded, collecte
 use Rattle.session.specs.Writer.{crossFor, recordsFor}
 use Rattle.session.proofs.Writers.{length-records, record-is}
 use Rattle.session.proofs.Closings.{lowest-are, led, sized-whole}
-use Rattle.conduct.specs.Endings.{after, deskAfter, size, WhenDone, DoneByRead, DoneByRepair}
+use Rattle.conduct.specs.Endings.{afterReply, deskAfter, size, WhenDone, DoneByRead, DoneByRepair}
 use Rattle.conduct.proofs.Instances.{small, small-octets}
 use Rattle.conduct.proofs.Reading as reading
 use Rattle.conduct.proofs.Endings.{read-done}
@@ -103,7 +103,7 @@ module _ (p : Plan) (t : ℕ) (i : List ℕ) (ok : planOk p ≡ true) (bytes : O
       (says : saidOf (took .answer) ≡ done stamp n) where
     -- the session and the desk with this reply, and the close of the round
     abbrev u : Session
-    u = after p s f
+    u = afterReply p s f
 
     abbrev e : List ℕ
     e = deskAfter p f d

@@ -28,7 +28,7 @@ use Rattle.session.specs.Reply.{isHeard}
 use Rattle.session.specs.Reader.{Outcome, outcome, readReply}
 use Rattle.session.proofs.Openings.{accepted-session}
 use Rattle.session.proofs.ReadKept.{asking as is-asking, not-asking}
-use Rattle.conduct.specs.Endings.{readLadder, heardAs, after}
+use Rattle.conduct.specs.Endings.{readLadder, heardAs, afterReply}
 use Rattle.conduct.specs.Turns.{Turn, Turns, closedRounds, Reports, lastSaid}
 use Rattle.terms.proofs.Ladders as ladders
 use Rattle.conduct.proofs.Reading as reading
@@ -81,7 +81,7 @@ module _ (p : Plan) (s : Session) (f d i : List ℕ) (k : ℕ) (a : At s k) wher
       asking : isAsking (s .stage) ≡ true
       asking = is-asking (s .stage) q ended-not
 
-      count-is : heardCount (after p s f .marks) ≡ k + 1
+      count-is : heardCount (afterReply p s f .marks) ≡ k + 1
       count-is =
           kept.count-marked p s f (a .marks) in-marks heard-not
           ∙ ap (λ (x : ℕ). x + 1) (a .heard asking)
@@ -100,7 +100,7 @@ module _ (p : Plan) (s : Session) (f d i : List ℕ) (k : ℕ) (a : At s k) wher
       one-more : closedBy s + 1 ≡ s .round
       one-more = let h = here in let l = a .low in omega arith
 
-      ended : (o : Outcome) → o .session ≡ endedOf (after p s f) → ((m : ℕ) → Reports (o .said) m → m ≡ s .round) → Step p s k o 1 0
+      ended : (o : Outcome) → o .session ≡ endedOf (afterReply p s f) → ((m : ℕ) → Reports (o .said) m → m ≡ s .round) → Step p s k o 1 0
       unfolding closedBy
       ended o e t =
           let z : closedBy (o .session) ≡ s .round = rw e in
@@ -113,7 +113,7 @@ module _ (p : Plan) (s : Session) (f d i : List ℕ) (k : ℕ) (a : At s k) wher
       closing : Closing (reading.act-of p s f d i)
       unfolding closedBy heardCount
       closing =
-          shapes.goes Closing p (after p s f) _ _ i
+          shapes.goes Closing p (afterReply p s f) _ _ i
           (record {
             finds = λ x y. (refl, ended _ refl (λ m h. h));
             never = (refl, ended _ refl (λ m h. h));
@@ -139,11 +139,11 @@ module _ (p : Plan) (s : Session) (f d i : List ℕ) (k : ℕ) (a : At s k) wher
           go : (x : Bool) → leb (replies p) (k + 1) ≡ x → Turned p s k (readReply p s f d i)
           go true g =
               let h = leb-true (replies p) (k + 1) g in
-              let l : replies p ≤ heardCount (after p s f .marks) = let v = count-is in omega arith in
+              let l : replies p ≤ heardCount (afterReply p s f .marks) = let v = count-is in omega arith in
               subst (Turned p s k) (sym (reading.closes-read p s f d i n q l)) (last (counts-it (reading.act-of p s f d i .said) (closing .0)) h (closing .1))
           go false g =
               let h = leb-false (replies p) (k + 1) g in
-              let l : heardCount (after p s f .marks) < replies p = let v = count-is in omega arith in
+              let l : heardCount (afterReply p s f .marks) < replies p = let v = count-is in omega arith in
               subst (Turned p s k) (sym (reading.waits-read p s f d i n q l))
               (more (counts-it stillOpen refl) h (record {
                 at = record { marks = length-marks (heardAs p f); heard = λ w. count-is; low = a .low };

@@ -24,7 +24,7 @@ use Rattle.session.specs.declared.Took.{Took}
 use Rattle.session.specs.Session.{isStoring, replies, markedOf, Said, refused, stillOpen, done, neverWritten, aborted, roundsSpent, clockSpent, saidOf}
 use Rattle.session.specs.Reader.{ReadReplyCall, Outcome, outcome, headLength, closed, settled, stored, accepted}
 use Rattle.session.specs.Writer.{WriteReplyCall}
-use Rattle.conduct.specs.Endings.{Exactly, readLadder, after, deskAfter, Candidate, size, WhenNever, WhenAborted, WhenSpent, WhenDone, WhenOpen, DoneByRead, RepairOpens, WriteDone, WriteClock, WriteOpen, ReadGives, WriteGives}
+use Rattle.conduct.specs.Endings.{Exactly, readLadder, afterReply, deskAfter, Candidate, size, WhenNever, WhenAborted, WhenSpent, WhenDone, WhenOpen, DoneByRead, RepairOpens, WriteDone, WriteClock, WriteOpen, ReadGives, WriteGives}
 use Rattle.terms.proofs.Ladders as ladders
 use Rattle.conduct.proofs.Reading as reading
 use Rattle.session.proofs.Closings as shapes
@@ -104,7 +104,7 @@ module _ (i : List ℕ) where
   accepted-stays p s f d =
       shapes.pick Stays (isStoring (s .stage))
       (shapes.pick Stays (ltb (heardCount (markedOf s (frameNode f) Record .marks)) (replies p)) (λ e. refl) (λ e. wrong e))
-      (subst Stays (sym (reading.heard-settles p s f d i)) (settled-stays p (after p s f) (deskAfter p f d)))
+      (subst Stays (sym (reading.heard-settles p s f d i)) (settled-stays p (afterReply p s f) (deskAfter p f d)))
 
 pub only-done-writes : (p : Plan) (s : Session) (f d i : List ℕ) (t : Took) (d₂ i₂ : List ℕ) → ReadReplyCall p s f d i t d₂ i₂
     → isDone (saidOf (t .answer)) ≡ false → i₂ ≡ i
@@ -116,12 +116,12 @@ only-done-writes p s f d i t d₂ i₂ call =
 -- ---- what is true of every close
 -- "First triple: never written. (It always has COMPLETE replies.)": at least COMPLETE nodes are heard, and all of them gave the first triple
 pub first-triple-complete : (p : Plan) (s : Session) (f d : List ℕ) (item n : ℕ) → WhenNever p s f d item n
-    → (complete p ≤ heardCount (after p s f .marks)) × ((k : ℕ) → k < p .n → bitOf (markOf (after p s f .marks) k) ≡ 1 → markOf (after p s f .marks) k ≡ First)
+    → (complete p ≤ heardCount (afterReply p s f .marks)) × ((k : ℕ) → k < p .n → bitOf (markOf (afterReply p s f .marks) k) ≡ 1 → markOf (afterReply p s f .marks) k ≡ First)
 first-triple-complete p s f d item n w =
     let t = reading.taken p s f d item (w .closes .accepted) in
     let g = facts p (t .plan) in
     let e = w .closes .enough in
-    (omega arith, λ k h b. go (markOf (after p s f .marks) k) b (w .first k h))
+    (omega arith, λ k h b. go (markOf (afterReply p s f .marks) k) b (w .first k h))
   where
     go : (m : Heard) → bitOf m ≡ 1 → (m ≡ Record → ⊥) → m ≡ First
     go Unheard b h = absurd (omega arith)
@@ -129,14 +129,14 @@ first-triple-complete p s f d item n w =
     go Record b h = absurd (h refl)
 
 -- the candidate is the greatest timestamp heard, at the lowest-numbered node that bears it
-pub greatest : (p : Plan) (s : Session) (f d : List ℕ) (a : ℕ) → Candidate p s f d a → Best (after p s f .marks) (deskAfter p f d) (recordLength p) (p .n) a
-greatest p s f d a h = candidate (after p s f .marks) (deskAfter p f d) (recordLength p) (p .n) a h
+pub greatest : (p : Plan) (s : Session) (f d : List ℕ) (a : ℕ) → Candidate p s f d a → Best (afterReply p s f .marks) (deskAfter p f d) (recordLength p) (p .n) a
+greatest p s f d a h = candidate (afterReply p s f .marks) (deskAfter p f d) (recordLength p) (p .n) a h
 
 -- the set is rising, below N, and its nodes are exactly those that bear the candidate's timestamp and cross checksum
 pub set-is : (p : Plan) (s : Session) (f d : List ℕ) (a : ℕ)
-    → Members (deskAfter p f d) (recordLength p) (headLength p) a (p .n) (after p s f .marks)
-    (setOf (after p s f .marks) (deskAfter p f d) (recordLength p) (headLength p) a (p .n))
-set-is p s f d a = members-are (after p s f .marks) (deskAfter p f d) (recordLength p) (headLength p) a (p .n)
+    → Members (deskAfter p f d) (recordLength p) (headLength p) a (p .n) (afterReply p s f .marks)
+    (setOf (afterReply p s f .marks) (deskAfter p f d) (recordLength p) (headLength p) a (p .n))
+set-is p s f d a = members-are (afterReply p s f .marks) (deskAfter p f d) (recordLength p) (headLength p) a (p .n)
 
 -- where a set is decoded, and where it is repaired, it has m nodes
 pub decodes : (p : Plan) (s : Session) (f d : List ℕ) (item stamp n : ℕ) (w : DoneByRead p s f d item stamp n) → p .m ≤ size p s f d (w .node)

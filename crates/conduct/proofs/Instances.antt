@@ -35,8 +35,8 @@ use Rattle.node.specs.declared.Made.the-variants.{Fresh}
 use Rattle.node.specs.Fresh.{FreshCall, freshened}
 use Rattle.terms.specs.declared.Refusal.the-variants.{OutsidePlan}
 use Rattle.conduct.proofs.Node as calls
-use Rattle.node.specs.Node.{zeroTime, hashFails, served, answered, sends, replyTo, replied, Outcome, outcome, NodeCall, nodeLadder}
-use Rattle.conduct.specs.Deliver.{Among, passes, accepted, keptAll, gathered, Delivery, sent, delivered, Ready, Delivers}
+use Rattle.node.specs.Node.{timeFails, hashFails, served, answered, sends, replyTo, replied, ServedOutcome, servedOutcome, NodeCall, nodeLadder}
+use Rattle.conduct.specs.Deliver.{Among, passes, acceptedAt, keptAll, gathered, Delivery, sent, delivered, Ready, Delivers}
 use Rattle.conduct.specs.History.{Call, History}
 use Rattle.conduct.proofs.Order as order
 use Rattle.conduct.proofs.One as one
@@ -166,8 +166,8 @@ module _ (t : ℕ) (low : 0 < t) (high : t < 256) where
       frames.request-back plan 0 (request t)
       (record { frame-is = built.built-good 3 0 5 (record-of t) Node plan (omega arith) (omega arith) refl fits; node-is = node-is })
 
-  timed-so : zeroTime (request t) ≡ false
-  unfolding zeroTime timeZero
+  timed-so : timeFails (request t) ≡ false
+  unfolding timeFails timeZero
   timed-so = rw (eq-eqb (kindOf (request t)) 3 kind-is, body-is, time-is) (ne-eqb t 0 (λ z. omega arith))
 
   hashed-so : hashFails plan (request t) ≡ false
@@ -190,8 +190,8 @@ module _ (t : ℕ) (low : 0 < t) (high : t < 256) where
 pub set : List (List ℕ)
 set = request 1 ∷ request 2 ∷ []
 
-accepted-is : accepted plan 0 set ≡ record-of 1 ∷ record-of 2 ∷ []
-unfolding accepted set
+accepted-is : acceptedAt plan 0 set ≡ record-of 1 ∷ record-of 2 ∷ []
+unfolding acceptedAt set
 accepted-is =
     rw (passing 1 (omega arith) (omega arith), passing 2 (omega arith) (omega arith), body-is 1 (omega arith) (omega arith), body-is 2 (omega arith) (omega arith))
 
@@ -238,7 +238,7 @@ ready =
     let n : nodeOf book ≡ 0 = one.is-node fresh in
     let e : recordsOf plan book ≡ [] = one.is-records fresh in
     let l : length book ≡ 157 = one.is-length fresh ∙ length-zeros 157 in
-    let g : gathered plan book set ≡ keptAll (record-of 1 ∷ record-of 2 ∷ []) [] = (λ i. keptAll ((ap (λ (k : ℕ). accepted plan k set) n ∙ accepted-is) i) (e i)) in
+    let g : gathered plan book set ≡ keptAll (record-of 1 ∷ record-of 2 ∷ []) [] = (λ i. keptAll ((ap (λ (k : ℕ). acceptedAt plan k set) n ∙ accepted-is) i) (e i)) in
     let m = kept-most (record-of 1 ∷ record-of 2 ∷ []) [] in
     record {
       good = one.is-good fresh;
@@ -311,7 +311,7 @@ reply-length =
     rw (ne-eqb (kindOf (request 1)) 1 (λ z. omega arith), eq-eqb (kindOf (request 1)) 3 k)
     (ap (λ (n : ℕ). replied (15 + n)) (length-part (bodyOf (request 1)) 0 40 (omega arith)))
 
-pub left : Outcome
+pub left : ServedOutcome
 left = served plan (request 1) book (zeros 88)
 
 pub acknowledged : NodeCall plan (request 1) book (zeros 88) (Replied 55) (left .book) (left .reply)
@@ -320,7 +320,7 @@ acknowledged =
     let fits : 11 + length (kept (bodyOf (request 1)) []) * recordLength plan ≤ length (zeros 157) = rw r-is
     (omega (arith, length-zeros 157, alone (bodyOf (request 1)))) in
     let s = one.served-is fresh (request 1) (zeros 88) roomy (passing 1 (omega arith) (omega arith)) (λ z h e. absurd (order.among-none z h)) fits in
-    record { is = λ i. outcome ((sym (ap (λ (x : Outcome). x .answer) s ∙ reply-length)) i) (left .book) (left .reply) }
+    record { is = λ i. servedOutcome ((sym (ap (λ (x : ServedOutcome). x .answer) s ∙ reply-length)) i) (left .book) (left .reply) }
 
 -- it is a history of one call, and its record is there for good
 pub call : Call

@@ -21,7 +21,7 @@ use Rattle.book.specs.Records.{some, holds, holdsOther, kept}
 use Rattle.book.specs.Book.{recordsOf, nodeOf, countOf, usedOf, goodBook}
 use Rattle.book.proofs.Lists.{length-insert}
 use Rattle.book.proofs.Laid as laid
-use Rattle.node.specs.Node.{served, answered, Outcome, outcome, replied, nodeLadder, writes, otherHeld, noRoom, NodeCall}
+use Rattle.node.specs.Node.{served, answered, ServedOutcome, servedOutcome, replied, nodeLadder, writes, otherHeld, noRoom, NodeCall}
 use Rattle.node.specs.declared.Answer.{Answer}
 use Rattle.node.specs.declared.Answer.the-variants.{Refused, Replied}
 use Rattle.node.proofs.Laws as nodes
@@ -105,17 +105,17 @@ module _ (p : Plan) (f b y : List ℕ) (g : goodBook p b ≡ true) (o : Octets b
   call-keeps (Refused r) b₂ y₂ c = same-after p b b₂ g (theorems.refused-is p f b y r b₂ y₂ c .1)
   call-keeps (Replied n) b₂ y₂ c = go (writes f) refl
     where
-      q : rungs.None (nodeLadder p f b y) × (outcome (replied n) b₂ y₂ ≡ answered p f b y)
+      q : rungs.None (nodeLadder p f b y) × (servedOutcome (replied n) b₂ y₂ ≡ answered p f b y)
       q = theorems.replied-is p f b y n b₂ y₂ c
 
       go : (t : Bool) → writes f ≡ t → After p b b₂
-      go true w = subst (After p b) (sym (ap (λ (o : Outcome). o .book) (c .is))) (written p f b y g o (theorems.clear p f b y (q .0)) w .0)
-      go false w = same-after p b b₂ g (ap (λ (o : Outcome). o .book) (q .1) ∙ one.answered-book p f b y ∙ nodes.after-other p f b w)
+      go true w = subst (After p b) (sym (ap (λ (o : ServedOutcome). o .book) (c .is))) (written p f b y g o (theorems.clear p f b y (q .0)) w .0)
+      go false w = same-after p b b₂ g (ap (λ (o : ServedOutcome). o .book) (q .1) ∙ one.answered-book p f b y ∙ nodes.after-other p f b w)
 
   -- A write request that was acknowledged is in the book.
   pub call-stores : (n : ℕ) (b₂ y₂ : List ℕ) → NodeCall p f b y (Replied n) b₂ y₂ → writes f ≡ true → Among (bodyOf f) (recordsOf p b₂)
   call-stores n b₂ y₂ c w =
-      subst (λ (x : List ℕ). Among (bodyOf f) (recordsOf p x)) (sym (ap (λ (o : Outcome). o .book) (c .is)))
+      subst (λ (x : List ℕ). Among (bodyOf f) (recordsOf p x)) (sym (ap (λ (o : ServedOutcome). o .book) (c .is)))
       (written p f b y g o (theorems.clear p f b y (theorems.replied-is p f b y n b₂ y₂ c .0)) w .1)
 
 -- A call under another plan does no harm: it is refused, or its plan has the same N and F.

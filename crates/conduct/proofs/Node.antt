@@ -22,17 +22,17 @@ use Rattle.node.specs.declared.Answer.{Answer}
 use Rattle.node.specs.declared.Answer.the-variants.{Refused, Replied}
 use Rattle.node.specs.declared.Made.{Made}
 use Rattle.node.specs.declared.Made.the-variants as make
-use Rattle.node.specs.Node.{NodeCall, served, answered, sends, bookAfter, said, Said, refused, replied, Outcome, outcome, nodeLadder, lengthsOk, zeroTime, hashFails, otherHeld, noRoom}
+use Rattle.node.specs.Node.{NodeCall, served, answered, sends, bookAfter, saidServed, SaidServed, refused, replied, ServedOutcome, servedOutcome, nodeLadder, bookReplyOk, timeFails, hashFails, otherHeld, noRoom}
 use Rattle.node.specs.Fresh.{FreshCall, FreshOutcome, made, freshOutcome, saidMade, freshened, freshLadder}
 use Rattle.node.specs.Fresh as fresh
 use Rattle.terms.proofs.Ladders as ladders
 
 -- ---- the paper's terms determine the answer
-pub said-one : (a b : Answer) → said a ≡ said b → a ≡ b
-said-one (Refused r) (Refused s) e = ap Refused (rungs.refusal-one r s (cc))
-said-one (Refused r) (Replied n) e = absurd (let z : _≡_ {A = ℕ} 0 1 = cc in omega arith)
-said-one (Replied n) (Refused r) e = absurd (let z : _≡_ {A = ℕ} 0 1 = cc in omega arith)
-said-one (Replied n) (Replied m) e = ap Replied (cc)
+pub served-one : (a b : Answer) → saidServed a ≡ saidServed b → a ≡ b
+served-one (Refused r) (Refused s) e = ap Refused (rungs.refusal-one r s (cc))
+served-one (Refused r) (Replied n) e = absurd (let z : _≡_ {A = ℕ} 0 1 = cc in omega arith)
+served-one (Replied n) (Refused r) e = absurd (let z : _≡_ {A = ℕ} 0 1 = cc in omega arith)
+served-one (Replied n) (Replied m) e = ap Replied (cc)
 
 pub made-one : (a b : Made) → saidMade a ≡ saidMade b → a ≡ b
 made-one (make.Refused r) (make.Refused s) e = ap make.Refused (rungs.refusal-one r s (cc))
@@ -42,11 +42,11 @@ made-one make.Fresh make.Fresh e = refl
 
 -- ---- refusals
 module _ (p : Plan) (f b y : List ℕ) where
-  abbrev refuse : ℕ → Outcome
-  refuse k = outcome (refused k) b y
+  abbrev refuse : ℕ → ServedOutcome
+  refuse k = servedOutcome (refused k) b y
 
   -- what a call answers where nothing refuses is a reply
-  abbrev IsReply : Said → Type 0
+  abbrev IsReply : SaidServed → Type 0
   IsReply (refused k) = ⊥
   IsReply (replied n) = _≡_ {A = ℕ} 0 0
 
@@ -60,12 +60,12 @@ module _ (p : Plan) (f b y : List ℕ) where
   unfolding served
   refused-is r b₂ y₂ c =
       ladders.by-ladder
-      (λ (o : Outcome). outcome (refused (refusalNumber r)) b₂ y₂ ≡ o → rungs.Given (nodeLadder p f b y) (refusalNumber r) × (b₂ ≡ b) × (y₂ ≡ y))
+      (λ (o : ServedOutcome). servedOutcome (refused (refusalNumber r)) b₂ y₂ ≡ o → rungs.Given (nodeLadder p f b y) (refusalNumber r) × (b₂ ≡ b) × (y₂ ≡ y))
       (nodeLadder p f b y) refuse (answered p f b y)
-      (λ k g h. let s : refused (refusalNumber r) ≡ refused k = ap (λ (o : Outcome). o .answer) h in
+      (λ k g h. let s : refused (refusalNumber r) ≡ refused k = ap (λ (o : ServedOutcome). o .answer) h in
       let n : k ≡ refusalNumber r = cc in
-      (subst (rungs.Given (nodeLadder p f b y)) n g, ap (λ (o : Outcome). o .book) h, ap (λ (o : Outcome). o .reply) h))
-      (λ n h. absurd (subst IsReply (sym (ap (λ (o : Outcome). o .answer) h)) replies-so))
+      (subst (rungs.Given (nodeLadder p f b y)) n g, ap (λ (o : ServedOutcome). o .book) h, ap (λ (o : ServedOutcome). o .reply) h))
+      (λ n h. absurd (subst IsReply (sym (ap (λ (o : ServedOutcome). o .answer) h)) replies-so))
       (c .is)
 
   -- And so it answers wherever its condition holds and none before it.
@@ -75,22 +75,22 @@ module _ (p : Plan) (f b y : List ℕ) where
 
   -- A call that writes a reply meets none of the eight conditions, and does what the document says for its kind.
   pub replied-is : (n : ℕ) (b₂ y₂ : List ℕ) → NodeCall p f b y (Replied n) b₂ y₂
-      → rungs.None (nodeLadder p f b y) × (outcome (replied n) b₂ y₂ ≡ answered p f b y)
+      → rungs.None (nodeLadder p f b y) × (servedOutcome (replied n) b₂ y₂ ≡ answered p f b y)
   unfolding served
   replied-is n b₂ y₂ c =
-      ladders.by-ladder (λ (o : Outcome). outcome (replied n) b₂ y₂ ≡ o → rungs.None (nodeLadder p f b y) × (outcome (replied n) b₂ y₂ ≡ answered p f b y))
+      ladders.by-ladder (λ (o : ServedOutcome). servedOutcome (replied n) b₂ y₂ ≡ o → rungs.None (nodeLadder p f b y) × (servedOutcome (replied n) b₂ y₂ ≡ answered p f b y))
       (nodeLadder p f b y) refuse (answered p f b y)
-      (λ k g h. absurd (let s : replied n ≡ refused k = ap (λ (o : Outcome). o .answer) h in let z : _≡_ {A = ℕ} 0 1 = cc in omega arith))
+      (λ k g h. absurd (let s : replied n ≡ refused k = ap (λ (o : ServedOutcome). o .answer) h in let z : _≡_ {A = ℕ} 0 1 = cc in omega arith))
       (λ m h. (m, h))
       (c .is)
 
 -- a request that none of the eight conditions meets, each by its name
 pub record Clear (p : Plan) (f b y : List ℕ) : Type 0 where
   pub plan : planOk p ≡ true
-  pub lengths : lengthsOk p (length b) (length y) ≡ true
+  pub lengths : bookReplyOk p (length b) (length y) ≡ true
   pub good : goodBook p b ≡ true
   pub request : goodRequest p (nodeOf b) f ≡ true
-  pub time : zeroTime f ≡ false
+  pub time : timeFails f ≡ false
   pub hash : hashFails p f ≡ false
   pub other : otherHeld p f b ≡ false
   pub room : noRoom p f b ≡ false
@@ -138,20 +138,20 @@ abbrev bare : ℕ → ℕ → Plan
 bare n f = record { n = n; t = 0; b = 0; q = 0; m = 0; f = f; member = Repairable; clients = Crash; w = 0 }
 
 -- a call, with the verdict on its plan given
-rest : Bool → Plan → List ℕ → List ℕ → List ℕ → Outcome
+rest : Bool → Plan → List ℕ → List ℕ → List ℕ → ServedOutcome
 rest ok p f b y =
     first (
     on 1 (not ok) ∷
-    on 2 (not (lengthsOk p (length b) (length y))) ∷
+    on 2 (not (bookReplyOk p (length b) (length y))) ∷
     on 3 (not (goodBook p b)) ∷
     on 4 (not (goodRequest p (nodeOf b) f)) ∷
-    on 5 (zeroTime f) ∷
+    on 5 (timeFails f) ∷
     on 6 (hashFails p f) ∷
     on 7 (otherHeld p f b) ∷
-    on 8 (noRoom p f b) ∷ []) (λ (k : ℕ). outcome (refused k) b y) (answered p f b y)
+    on 8 (noRoom p f b) ∷ []) (λ (k : ℕ). servedOutcome (refused k) b y) (answered p f b y)
 
 rest-bare : (ok : Bool) (p : Plan) (f b y : List ℕ) → rest ok p f b y ≡ rest ok (bare (p .n) (p .f)) f b y
-unfolding rest recordLength lengthsOk goodBook headed filled goodRequest goodFrame bodyFits hashFails hashesOk otherHeld noRoom answered bookAfter laidAs header
+unfolding rest recordLength bookReplyOk goodBook headed filled goodRequest goodFrame bodyFits hashFails hashesOk otherHeld noRoom answered bookAfter laidAs header
 rest-bare ok p f b y = refl
 
 -- The node's answer, book and reply depend on the plan only through refusal 1, N and F: two plans that are both accepted or both not, with the

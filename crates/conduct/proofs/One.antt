@@ -26,7 +26,7 @@ use Rattle.book.proofs.Lists.{length-insert}
 use Rattle.book.proofs.Laid as laid
 use Rattle.book.proofs.Back as back
 use Rattle.book.proofs.Laws as books
-use Rattle.node.specs.Node.{served, answered, sends, bookAfter, Outcome, outcome, refused, nodeLadder, writes, zeroTime, hashFails, otherHeld, noRoom, lengthsOk}
+use Rattle.node.specs.Node.{served, answered, sends, bookAfter, ServedOutcome, servedOutcome, refused, nodeLadder, writes, timeFails, hashFails, otherHeld, noRoom, bookReplyOk}
 use Rattle.node.proofs.Laws as nodes
 use Rattle.conduct.specs.Deliver.{Among, passes}
 use Rattle.conduct.proofs.Order as order
@@ -34,15 +34,15 @@ use Rattle.conduct.proofs.Node as calls
 use Rattle.terms.proofs.Ladders as ladders
 
 -- ---- ladders
-pub first-stays : (b y : List ℕ) (pass : Outcome) (l : List Rung) → (rungs.None l → pass .book ≡ b)
-    → first l (λ (k : ℕ). outcome (refused k) b y) pass .book ≡ b
-first-stays b y pass l h = ladders.by-ladder (λ (o : Outcome). o .book ≡ b) l (λ (k : ℕ). outcome (refused k) b y) pass (λ k g. refl) h
+pub first-stays : (b y : List ℕ) (pass : ServedOutcome) (l : List Rung) → (rungs.None l → pass .book ≡ b)
+    → first l (λ (k : ℕ). servedOutcome (refused k) b y) pass .book ≡ b
+first-stays b y pass l h = ladders.by-ladder (λ (o : ServedOutcome). o .book ≡ b) l (λ (k : ℕ). servedOutcome (refused k) b y) pass (λ k g. refl) h
 
 -- ---- a request that passes, as plain facts
 pub record PassIs (p : Plan) (node : ℕ) (f : List ℕ) : Type 0 where
   pub frame : goodRequest p node f ≡ true
   pub kind : writes f ≡ true
-  pub time : zeroTime f ≡ false
+  pub time : timeFails f ≡ false
   pub hash : hashFails p f ≡ false
 
 pub pass-is : (p : Plan) (node : ℕ) (f : List ℕ) → passes p node f ≡ true → PassIs p node f
@@ -50,7 +50,7 @@ unfolding passes
 pass-is p node f e =
     let a = both (goodRequest p node f) _ e in
     let b = both (writes f) _ (a .1) in
-    let c = both (not (zeroTime f)) _ (b .1) in
+    let c = both (not (timeFails f)) _ (b .1) in
     record { frame = a .0; kind = b .0; time = not-true _ (c .0); hash = not-true _ (c .1) }
 
 pub pass-back : (p : Plan) (node : ℕ) (f : List ℕ) → PassIs p node f → passes p node f ≡ true
@@ -99,8 +99,8 @@ no-other rec (x ∷ rs) g = rw (go (eqb (stamp x) (stamp rec)) refl) (no-other r
     go true e = rw (is-alike x rec (g x (order.among-first x x rs refl) (eqb-true _ _ e)))
     go false e = refl
 
-write-time : (f : List ℕ) → writes f ≡ true → zeroTime f ≡ false → 1 ≤ time (bodyOf f)
-unfolding zeroTime timeZero
+write-time : (f : List ℕ) → writes f ≡ true → timeFails f ≡ false → 1 ≤ time (bodyOf f)
+unfolding timeFails timeZero
 write-time f w e =
     let q : eqb (time (bodyOf f)) 0 ≡ false = rw w at e in
     let n = eqb-false (time (bodyOf f)) 0 q in
@@ -158,8 +158,8 @@ module _ {p : Plan} {node : ℕ} {old b : List ℕ} {rs : List (List ℕ)} (i : 
   is-length =
       ap length (i .bytes) ∙ length-over (laidOut p node rs) old (let q = i .fits in omega (arith, laid.length-laid 1 [] p node rs (i .sizes)))
 
-  lengths-ok : (y : List ℕ) → recordLength p + 15 ≤ length y → lengthsOk p (length b) (length y) ≡ true
-  unfolding lengthsOk all
+  lengths-ok : (y : List ℕ) → recordLength p + 15 ≤ length y → bookReplyOk p (length b) (length y) ≡ true
+  unfolding bookReplyOk all
   lengths-ok y ry =
       let e = is-length in
       let u = i .fits in
@@ -200,12 +200,12 @@ module _ {p : Plan} {node : ℕ} {old b : List ℕ} {rs : List (List ℕ)} (i : 
 
     pub served-is : served p f b y ≡ answered p f b y
     unfolding served
-    served-is = ladders.is-passed (nodeLadder p f b y) (λ (k : ℕ). outcome (refused k) b y) (answered p f b y) none
+    served-is = ladders.is-passed (nodeLadder p f b y) (λ (k : ℕ). servedOutcome (refused k) b y) (answered p f b y) none
 
     book-is : served p f b y .book ≡ cond (not (holds (bodyOf f) rs)) (over (laidOut p node (insertRecord (bodyOf f) rs)) b) b
     unfolding bookAfter
     book-is =
-        ap (λ (o : Outcome). o .book) served-is
+        ap (λ (o : ServedOutcome). o .book) served-is
         ∙ answered-book p f b y ∙ rw (q .kind)
         (λ u. cond (not (holds (bodyOf f) (is-records u))) (over (laidOut p (is-node u) (insertRecord (bodyOf f) (is-records u))) b) b)
 

@@ -51,7 +51,7 @@ use Rattle.session.specs.Reply.{lengthsOk, sameOperation, awaited, isHeard, bea
 use Rattle.session.specs.Reader.{sound, failing, actOn, actFor, closed, settled, heard, stored, accepted, repaired, collected, readReply, ReadReplyCall}
 use Rattle.session.specs.Writer.{crossFor, stampFor, recordsFor}
 use Rattle.session.proofs.Kept.{Kept}
-use Rattle.conduct.specs.Endings.{after, deskAfter}
+use Rattle.conduct.specs.Endings.{afterReply, deskAfter}
 use Rattle.conduct.specs.Turns.{Turn, Turns, closedRounds}
 use Rattle.conduct.specs.Sessions.{Replies}
 use Rattle.conduct.specs.Repair.{Holds, EachTurn, Rests}
@@ -273,13 +273,13 @@ other-so = other-operation Write plan ended desk-full kept-so
 
 -- ---- the repair
 pub held-so : (k : ℕ) → k < 3
-    → Holds plan (closed plan (after plan second-heard reply-4) (deskAfter plan reply-4 desk-good)) (deskAfter plan reply-4 desk-good) desk-full k
+    → Holds plan (closed plan (afterReply plan second-heard reply-4) (deskAfter plan reply-4 desk-good)) (deskAfter plan reply-4 desk-good) desk-full k
 unfolding plan
 held-so =
     repair-opens plan second-heard reply-4 desk-good (0 ∷ []) refl (call-4 .took) desk-full (0 ∷ []) met-4 refl (small-octets desk-good small-desk)
     (small-octets reply-4 small-4)
 
-pub rested-so : EachTurn (Rests plan (closed plan (after plan second-heard reply-4) (deskAfter plan reply-4 desk-good)) (deskAfter plan reply-4 desk-good) desk-full)
+pub rested-so : EachTurn (Rests plan (closed plan (afterReply plan second-heard reply-4) (deskAfter plan reply-4 desk-good)) (deskAfter plan reply-4 desk-good) desk-full)
     (call-5 ∷ call-6 ∷ [])
 rested-so =
     repair-ends plan second-heard reply-4 desk-good (0 ∷ []) refl (call-4 .took) desk-full (0 ∷ []) met-4 refl (call-5 ∷ call-6 ∷ []) (met-5, (met-6, tt))

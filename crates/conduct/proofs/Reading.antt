@@ -38,7 +38,7 @@ use Rattle.session.specs.Reply.{bears, lengthsOk, sameOperation}
 use Rattle.session.specs.Reader.{Outcome, outcome, headLength, decoded, collected, repaired, failing, acted, closed, settled, heard, stored, accepted, readReply}
 use Rattle.session.proofs.Rules.{lengths-are, in-range-is}
 use Rattle.session.proofs.Readers as readers
-use Rattle.conduct.specs.Endings.{readLadder, after, deskAfter, Closes, Candidate, size, valid, Fails, ReadGives}
+use Rattle.conduct.specs.Endings.{readLadder, afterReply, deskAfter, Closes, Candidate, size, valid, Fails, ReadGives}
 use Rattle.terms.proofs.Ladders as ladders
 
 -- ---- a set, by its size: one of three
@@ -74,7 +74,7 @@ module _ (k : Member) (high low n : ℕ) where
           let h = leb-false high n e in let l = leb-false low n f in short h l (short-is h l)
 
 -- ---- an accepted reply of a read round
-pub heard-settles : (p : Plan) (s : Session) (f d i : List ℕ) → heard p s f d i ≡ settled p (after p s f) (deskAfter p f d) i
+pub heard-settles : (p : Plan) (s : Session) (f d i : List ℕ) → heard p s f d i ≡ settled p (afterReply p s f) (deskAfter p f d) i
 unfolding heard
 heard-settles p s f d i = go (bears p f)
   where
@@ -107,7 +107,7 @@ module _ (p : Plan) (s : Session) (f d i : List ℕ) where
 
   -- the session and the desk with this reply, and the close
   abbrev u : Session
-  u = after p s f
+  u = afterReply p s f
 
   abbrev e : List ℕ
   e = deskAfter p f d
@@ -332,7 +332,7 @@ module _ (p : Plan) (s : Session) (f d i : List ℕ) where
       ap (λ (o : Outcome). o .said) (one-ladder ∙ ladders.is-given (readLadder p s f d (length i)) refuse (accepted p s f d i) k g)
   so-gives stillOpen (inl g) = go (isStoring (s .stage)) refl (g .few)
     where
-      go : (x : Bool) → isStoring (s .stage) ≡ x → heardCount (cond x (markedOf s (frameNode f) Record) (after p s f) .marks) < replies p
+      go : (x : Bool) → isStoring (s .stage) ≡ x → heardCount (cond x (markedOf s (frameNode f) Record) (afterReply p s f) .marks) < replies p
           → readReply p s f d i .said ≡ stillOpen
       go true q h = ap (λ (o : Outcome). o .said) (waits-repair (g .accepted) q h)
       go false q h = ap (λ (o : Outcome). o .said) (waits-read (g .accepted) q h)

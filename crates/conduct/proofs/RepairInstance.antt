@@ -37,7 +37,7 @@ use Rattle.session.specs.Opening.{freshOf, openWith, OpenCall}
 use Rattle.session.specs.declared.opening.Opened.{Opened}
 use Rattle.session.specs.declared.opening.Opening.the-variants.{Accepted}
 use Rattle.session.proofs.Kept.{Kept}
-use Rattle.conduct.specs.Endings.{after, deskAfter}
+use Rattle.conduct.specs.Endings.{afterReply, deskAfter}
 use Rattle.conduct.specs.Turns.{Turn, Turns}
 use Rattle.conduct.specs.Repair.{Holds, EachTurn, Rests}
 use Rattle.conduct.proofs.Sessions.{every-session}
@@ -96,7 +96,7 @@ unfolding small desk slot
 desk-small = refl
 
 -- so every slot holds what `repair-opens` says
-pub so-held : (k : ℕ) → k < plan .n → Holds plan (closed plan (after plan session frame) (deskAfter plan frame desk)) (deskAfter plan frame desk) left k
+pub so-held : (k : ℕ) → k < plan .n → Holds plan (closed plan (afterReply plan session frame) (deskAfter plan frame desk)) (deskAfter plan frame desk) left k
 unfolding session took
 so-held = repair-opens plan session frame desk item refl took left item opens-so refl (small-octets desk desk-small) (small-octets frame frame-small)
 
@@ -138,7 +138,7 @@ unfolding first-turn second-turn last-turn turn-open stored-by plan slot desk se
     among tabulate value blend weightOf ratio xtime mulN mul square sumPow inv div put stampAt stampNumber then
 turns-so = (record { is = refl }, (record { is = refl }, (record { is = refl }, tt)))
 
-pub ends-so : EachTurn (Rests plan (closed plan (after plan session frame) (deskAfter plan frame desk)) (deskAfter plan frame desk) left) (first-turn ∷ second-turn ∷ last-turn ∷ [])
+pub ends-so : EachTurn (Rests plan (closed plan (afterReply plan session frame) (deskAfter plan frame desk)) (deskAfter plan frame desk) left) (first-turn ∷ second-turn ∷ last-turn ∷ [])
 unfolding session took
 ends-so = repair-ends plan session frame desk item refl took left item opens-so refl (first-turn ∷ second-turn ∷ last-turn ∷ []) turns-so
 

@@ -33,7 +33,7 @@ use Rattle.session.specs.Reader.{Outcome, outcome, decoded, collected, repaired
 use Rattle.session.proofs.Checks.{outcome-all}
 use Rattle.session.proofs.Closings.{led, sized, goes}
 use Rattle.session.proofs.ReadKept.{Hearing, hearing, not-asking}
-use Rattle.conduct.specs.Endings.{after, deskAfter}
+use Rattle.conduct.specs.Endings.{afterReply, deskAfter}
 use Rattle.conduct.specs.Turns.{Turn, Turns}
 use Rattle.conduct.specs.Repair.{Holds, EachTurn, Rests}
 use Rattle.conduct.proofs.Reading.{heard-settles}
@@ -85,16 +85,16 @@ module _ (p : Plan) (u : Session) (e i : List ℕ) (ok : planOk p ≡ true) (lon
 module _ (p : Plan) (s : Session) (f d i : List ℕ) (asks : isStoring (s .stage) ≡ false) (t : Took) (d₂ i₂ : List ℕ) (call : ReadReplyCall p s f d i t d₂ i₂)
     (opens : isStoring (t .session .stage) ≡ true) where
   abbrev Right : Outcome → Type 0
-  Right x = isStoring (x .session .stage) ≡ true → Refilled p (after p s f) (deskAfter p f d) (x .desk)
+  Right x = isStoring (x .session .stage) ≡ true → Refilled p (afterReply p s f) (deskAfter p f d) (x .desk)
 
   takes : Hearing p s f d → Right (accepted p s f d i)
   unfolding accepted
   takes q =
       rw asks
       (subst Right (sym (heard-settles p s f d i))
-      (settles p (after p s f) (deskAfter p f d) i (q .plan-ok) (length-after p d f (q .reply .node-low) (q .desk-is)) asks))
+      (settles p (afterReply p s f) (deskAfter p f d) i (q .plan-ok) (length-after p d f (q .reply .node-low) (q .desk-is)) asks))
 
-  pub refills : Refilled p (after p s f) (deskAfter p f d) d₂
+  pub refills : Refilled p (afterReply p s f) (deskAfter p f d) d₂
   unfolding readReply first
   refills =
       subst Right (sym (call .is))
@@ -105,11 +105,11 @@ module _ (p : Plan) (s : Session) (f d i : List ℕ) (asks : isStoring (s .stage
 
   -- A REPLY THAT OPENS A REPAIR ROUND fills the desk: every slot k holds the set's timestamp and cross checksum and fragment k of the
   -- polynomials through the m lowest, from the desk as it was with that reply in its slot
-  pub repair-opens : Octets d → Octets f → (k : ℕ) → k < p .n → Holds p (closed p (after p s f) (deskAfter p f d)) (deskAfter p f d) d₂ k
+  pub repair-opens : Octets d → Octets f → (k : ℕ) → k < p .n → Holds p (closed p (afterReply p s f) (deskAfter p f d)) (deskAfter p f d) d₂ k
   repair-opens od of k h =
       let r = refills in
-      subst (λ (x : List ℕ). Holds p (closed p (after p s f) (deskAfter p f d)) (deskAfter p f d) x k) (sym (r .is))
-      (repaired-holds p (after p s f) (deskAfter p f d) (r .node) (r .plan) (r .long) (r .leads) (r .size) (octets-after p d f od of) k h)
+      subst (λ (x : List ℕ). Holds p (closed p (afterReply p s f) (deskAfter p f d)) (deskAfter p f d) x k) (sym (r .is))
+      (repaired-holds p (afterReply p s f) (deskAfter p f d) (r .node) (r .plan) (r .long) (r .leads) (r .size) (octets-after p d f od of) k h)
 
 -- ---- the replies that follow
 storing : (x : Stage) → isAsking x ≡ false → isEnded x ≡ false → isStoring x ≡ true
@@ -161,6 +161,6 @@ module _ (p : Plan) (u : Session) (e d : List ℕ) (r : Refilled p u e d) where
 -- the desk as it was: what the desk's first m slots give
 pub repair-ends : (p : Plan) (s : Session) (f d i : List ℕ) → isStoring (s .stage) ≡ false → (t : Took) (d₂ i₂ : List ℕ) → ReadReplyCall p s f d i t d₂ i₂
     → isStoring (t .session .stage) ≡ true → (ts : List Turn) → Turns p (t .session) d₂ ts
-    → EachTurn (Rests p (closed p (after p s f) (deskAfter p f d)) (deskAfter p f d) d₂) ts
+    → EachTurn (Rests p (closed p (afterReply p s f) (deskAfter p f d)) (deskAfter p f d) d₂) ts
 repair-ends p s f d i asks t d₂ i₂ call opens ts h =
-    rests p (after p s f) (deskAfter p f d) d₂ (refills p s f d i asks t d₂ i₂ call opens) (t .session) ts (not-asking (t .session .stage) opens) h
+    rests p (afterReply p s f) (deskAfter p f d) d₂ (refills p s f d i asks t d₂ i₂ call opens) (t .session) ts (not-asking (t .session .stage) opens) h

@@ -9,7 +9,7 @@ use Rattle.session.specs.declared.Session.{Session}
 use Rattle.session.specs.Session.{replies, Said, saidOf}
 use Rattle.session.specs.Reader.{Outcome, outcome, readReply}
 use Rattle.conduct.specs.Turns.{Turn, Turns}
-use Rattle.conduct.specs.Round.{opened, ending, answers, RoundOpens, Accepted, SameReplies, Lent, repliesOf, answersOf, leftBy}
+use Rattle.conduct.specs.Round.{roundAt, ending, answers, RoundOpens, Accepted, SameReplies, Lent, repliesOf, answersOf, leftBy}
 use Rattle.conduct.proofs.Round.{any-order-read, any-order-answers}
 
 -- what calls that met their contracts leave and answer is what the definition gives
@@ -29,11 +29,11 @@ calls-are p (t ∷ ts) o h l =
 -- left the same answer, session, desk and item, and every call of it answered as the call in its place.
 pub any-order-calls : (p : Plan) (s : Session) (d i : List ℕ) (ts us : List Turn) → RoundOpens s → Turns p s d ts → Lent i ts → Turns p s d us
     → Lent i us → length (repliesOf ts) ≤ replies p → Accepted (answersOf ts) → SameReplies (repliesOf ts) (repliesOf us)
-    → (leftBy (opened s d i) us ≡ leftBy (opened s d i) ts) × (answersOf us ≡ answersOf ts)
+    → (leftBy (roundAt s d i) us ≡ leftBy (roundAt s d i) ts) × (answersOf us ≡ answersOf ts)
 any-order-calls p s d i ts us q ht lt hu lu few a e =
-    let x = calls-are p ts (opened s d i) ht lt in
-    let y = calls-are p us (opened s d i) hu lu in
-    let b : Accepted (answers p (opened s d i) (repliesOf ts)) = subst Accepted (x .1) a in (
+    let x = calls-are p ts (roundAt s d i) ht lt in
+    let y = calls-are p us (roundAt s d i) hu lu in
+    let b : Accepted (answers p (roundAt s d i) (repliesOf ts)) = subst Accepted (x .1) a in (
       y .0 ∙ any-order-read p s d i q (repliesOf ts) (repliesOf us) few b e ∙ sym (x .0),
       y .1 ∙ any-order-answers p s d i q (repliesOf ts) (repliesOf us) few b e ∙ sym (x .1),
     )

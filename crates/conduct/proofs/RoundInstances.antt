@@ -43,7 +43,7 @@ use Rattle.session.specs.Writer.{crossFor, recordsFor}
 use Rattle.session.proofs.Made.{in-range-facts}
 use Rattle.session.proofs.Openings.{accepted-in-range}
 use Rattle.session.proofs.Writers.{length-records, record-is, record-passes}
-use Rattle.conduct.specs.Round.{opened, ending, answers, RoundOpens, Accepted, Acceptable, SameReplies}
+use Rattle.conduct.specs.Round.{roundAt, ending, answers, RoundOpens, Accepted, Acceptable, SameReplies}
 use Rattle.conduct.proofs.RoundSwaps.{swap, times-kept}
 use Rattle.conduct.proofs.RoundReply.{Ready, acceptable}
 use Rattle.conduct.proofs.Round as theorems
@@ -200,7 +200,7 @@ enough : length replies ≡ plan .n - plan .t
 unfolding replies plan
 enough = refl
 
-pub accepted : Accepted (answers plan (opened session desk item) replies)
+pub accepted : Accepted (answers plan (roundAt session desk item) replies)
 unfolding replies
 accepted =
     theorems.in-turn plan session desk item opens replies (omega (arith, enough)) (first-none, (then-one, tt))
@@ -213,7 +213,7 @@ accepted =
         omega (arith, e, a, b)
 
 -- the third demand holds of them, and the round closes
-pub same-ending : ending plan (opened session desk item) turned ≡ ending plan (opened session desk item) replies
+pub same-ending : ending plan (roundAt session desk item) turned ≡ ending plan (roundAt session desk item) replies
 same-ending = theorems.any-order-read plan session desk item opens replies turned (omega (arith, enough)) accepted same-replies
 
 pub closed-so : theorems.Closes plan session desk item opens replies

@@ -26,7 +26,7 @@ use Rattle.session.specs.Reply.{lengthsOk, awaited, isHeard, bears}
 use Rattle.session.proofs.Rules.{lengths-are}
 use Rattle.session.proofs.Made.{rest-set}
 use Rattle.session.proofs.Slots.{slots-after}
-use Rattle.conduct.specs.Endings.{heardAs, after, deskAfter}
+use Rattle.conduct.specs.Endings.{heardAs, afterReply, deskAfter}
 use Rattle.conduct.proofs.RoundOrder.{length-after}
 use Rattle.conduct.proofs.RoundReply.{Fits, Ready, Taken}
 
@@ -39,22 +39,22 @@ bit-mark p f = go (bears p f)
     go false = refl
 
 module _ (p : Plan) (s : Session) (f : List ℕ) (l : length (s .marks) ≡ 16) (h : frameNode f < 16) where
-  pub count-marked : isHeard s (frameNode f) ≡ false → heardCount (after p s f .marks) ≡ heardCount (s .marks) + 1
+  pub count-marked : isHeard s (frameNode f) ≡ false → heardCount (afterReply p s f .marks) ≡ heardCount (s .marks) + 1
   unfolding isHeard
   count-marked e =
       count-set (s .marks) (frameNode f) (record { is = heardAs p f }) (omega arith) (not-heard (markOf (s .marks) (frameNode f)) e) (bit-mark p f) ∙ omega arith
 
-  pub length-marked : length (after p s f .marks) ≡ 16
+  pub length-marked : length (afterReply p s f .marks) ≡ 16
   length-marked = length-set (s .marks) (frameNode f) (record { is = heardAs p f }) ∙ l
 
   -- the node is heard now, and no other
-  pub heard-same : isHeard (after p s f) (frameNode f) ≡ true
+  pub heard-same : isHeard (afterReply p s f) (frameNode f) ≡ true
   unfolding isHeard
   heard-same =
       ap (λ (m : Mark). eqb (bitOf (m .is)) 1) (getD-set-same (s .marks) (frameNode f) (record { is = heardAs p f }) unheard (omega arith))
       ∙ ap (λ (n : ℕ). eqb n 1) (bit-mark p f)
 
-  pub heard-other : (k : ℕ) → (k ≡ frameNode f → ⊥) → isHeard (after p s f) k ≡ isHeard s k
+  pub heard-other : (k : ℕ) → (k ≡ frameNode f → ⊥) → isHeard (afterReply p s f) k ≡ isHeard s k
   unfolding isHeard
   heard-other k n = ap (λ (m : Mark). eqb (bitOf (m .is)) 1) (getD-set-other (s .marks) (frameNode f) k (record { is = heardAs p f }) unheard n)
 
@@ -84,13 +84,13 @@ module _ (p : Plan) (s : Session) (f d i : List ℕ) (t : Taken p s f d i) where
   desk-is : length d ≡ p .n * r
   desk-is = lengths-are p (length d) (length i) (t .ready .lengths) .desk-is
 
-  pub next : ltb (heardCount (after p s f .marks)) (replies p) ≡ true → Ready p (after p s f) (deskAfter p f d) i
+  pub next : ltb (heardCount (afterReply p s f .marks)) (replies p) ≡ true → Ready p (afterReply p s f) (deskAfter p f d) i
   next few =
       let g = t .ready in
       let o = g .slots in
       let q = g .standing in
       let old : slotsFit (s .marks) d r (s .bound) (p .n) ≡ true = rw (g .round) at (o .slots) in
-      let new : slotsFit (after p s f .marks) (deskAfter p f d) r (s .bound) (p .n) ≡ true =
+      let new : slotsFit (afterReply p s f .marks) (deskAfter p f d) r (s .bound) (p .n) ≡ true =
       slots-after p f d low desk-is (s .marks) (s .bound) (λ e. rw e at (t .fits .timed))
       (λ e. not-false (underOf (s .bound) (stamp (bodyOf f))) (rw e at (t .fits .under))) old (bears p f) refl in
       record {

@@ -17,7 +17,7 @@ use Rattle.frame.specs.Frame.{frameNode, bodyOf}
 use Rattle.session.specs.declared.Session.{Session}
 use Rattle.session.specs.Reply.{bears}
 use Rattle.session.proofs.Slots.{long-body, long-after}
-use Rattle.conduct.specs.Endings.{heardAs, after, deskAfter}
+use Rattle.conduct.specs.Endings.{heardAs, afterReply, deskAfter}
 use Rattle.conduct.specs.Round.{Each, OneANode, allMarked, allSlotted}
 use Rattle.conduct.proofs.Order.{strict}
 use Rattle.conduct.proofs.RoundSwaps.{Reordered, same, swap, keep, chain, each-kept, one-kept}
@@ -57,7 +57,7 @@ slots-comm d x y a b n r ha hb ne l lx ly = go (ltb a b) refl
         sym (put-comm d (b * r) y (a * r) x (omega arith) (omega arith))
 
 -- ---- two replies
-marks-comm : (p : Plan) (s : Session) (f g : List ℕ) → (frameNode g ≡ frameNode f → ⊥) → after p (after p s f) g ≡ after p (after p s g) f
+marks-comm : (p : Plan) (s : Session) (f g : List ℕ) → (frameNode g ≡ frameNode f → ⊥) → afterReply p (afterReply p s f) g ≡ afterReply p (afterReply p s g) f
 marks-comm p s f g n = λ j. record {
   operation = s .operation;
   stage = s .stage;
@@ -98,7 +98,7 @@ module _ (p : Plan) where
   unfolding allMarked
   same-marks same s a = refl
   same-marks (swap f g {l}) s a = ap (λ (x : Session). allMarked p x l) (marks-comm p s f g (a .0 .0))
-  same-marks (keep f r) s a = same-marks r (after p s f) (a .1)
+  same-marks (keep f r) s a = same-marks r (afterReply p s f) (a .1)
   same-marks (chain r q) s a = same-marks r s a ∙ same-marks q s (one-kept r a)
 
   abbrev Low : List (List ℕ) → Type 0

@@ -23,7 +23,7 @@ use Rattle.session.specs.Ranges.{inRange}
 use Rattle.session.specs.Reply.{lengthsOk, awaited, isHeard, bears, recordLadder}
 use Rattle.session.specs.Reader.{Outcome, outcome, closed, settled, accepted, readReply}
 use Rattle.session.proofs.Made.{OpenIs, in-range-facts, open-in-range}
-use Rattle.conduct.specs.Endings.{readLadder, after, deskAfter}
+use Rattle.conduct.specs.Endings.{readLadder, afterReply, deskAfter}
 use Rattle.conduct.specs.Round.{Acceptable}
 use Rattle.terms.proofs.Ladders as ladders
 use Rattle.session.proofs.Closings as shapes
@@ -100,7 +100,7 @@ module _ (p : Plan) (s : Session) (f d i : List ℕ) where
         fresh = a .1 .1 .1 .1 .1 .1 .0;
       }
 
-  pub accepts : Taken p s f d i → readReply p s f d i ≡ settled p (after p s f) (deskAfter p f d) i
+  pub accepts : Taken p s f d i → readReply p s f d i ≡ settled p (afterReply p s f) (deskAfter p f d) i
   unfolding accepted
   accepts k =
       let g = k .ready in
@@ -124,4 +124,4 @@ settled-taken p s d i =
     Well o = isRefused (o .said) ≡ false
 
 pub acceptable : (p : Plan) (s : Session) (f d i : List ℕ) → Taken p s f d i → Acceptable p s d i f
-acceptable p s f d i k = ap (λ (o : Outcome). isRefused (o .said)) (accepts p s f d i k) ∙ settled-taken p (after p s f) (deskAfter p f d) i
+acceptable p s f d i k = ap (λ (o : Outcome). isRefused (o .said)) (accepts p s f d i k) ∙ settled-taken p (afterReply p s f) (deskAfter p f d) i

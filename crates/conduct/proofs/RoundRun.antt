@@ -18,8 +18,8 @@ use Rattle.session.specs.Session.{readRound, replies, Said, stillOpen, isRefuse
 use Rattle.session.specs.Reply.{isHeard}
 use Rattle.session.proofs.Rules.{lengths-are}
 use Rattle.session.specs.Reader.{Outcome, acted, closed, settled, readReply}
-use Rattle.conduct.specs.Endings.{heardAs, after, deskAfter}
-use Rattle.conduct.specs.Round.{opened, ending, answers, openUntil, Accepted, Each, OneANode, allMarked, allSlotted}
+use Rattle.conduct.specs.Endings.{heardAs, afterReply, deskAfter}
+use Rattle.conduct.specs.Round.{roundAt, ending, answers, openUntil, Accepted, Each, OneANode, allMarked, allSlotted}
 use Rattle.conduct.proofs.RoundSwaps.{Reordered, length-kept, each-kept, one-kept}
 use Rattle.conduct.proofs.RoundOrder.{same-marks, same-slots}
 use Rattle.conduct.proofs.RoundReply.{Fits, Ready, Taken, taken, accepts, settled-taken}
@@ -50,48 +50,48 @@ module _ (p : Plan) (i : List ℕ) where
   first-of : (s : Session) (d f : List ℕ) (fs : List (List ℕ)) → Hears s d (f ∷ fs) → Taken p s f d i
   first-of s d f fs h = record { ready = h .ready; fits = h .fits .0; fresh = h .fresh .0 }
 
-  settled-open : (s : Session) (d : List ℕ) → heardCount (s .marks) < replies p → settled p s d i ≡ opened s d i
+  settled-open : (s : Session) (d : List ℕ) → heardCount (s .marks) < replies p → settled p s d i ≡ roundAt s d i
   unfolding settled
   settled-open s d h = rw (lt-ltb (heardCount (s .marks)) (replies p) h)
 
   -- a reply that is not the last leaves the round open, for the others
   module _ (s : Session) (d f g : List ℕ) (fs : List (List ℕ)) (l : length (s .marks) ≡ 16)
       (few : heardCount (s .marks) + length (f ∷ g ∷ fs) ≤ replies p) (k : Taken p s f d i) where
-    counted : heardCount (after p s f .marks) ≡ heardCount (s .marks) + 1
+    counted : heardCount (afterReply p s f .marks) ≡ heardCount (s .marks) + 1
     counted = count-marked p s f l (low-16 p s f d i k) (k .fresh)
 
-    other : (z : List ℕ) → (frameNode z ≡ frameNode f → ⊥) → isHeard (after p s f) (frameNode z) ≡ isHeard s (frameNode z)
+    other : (z : List ℕ) → (frameNode z ≡ frameNode f → ⊥) → isHeard (afterReply p s f) (frameNode z) ≡ isHeard s (frameNode z)
     other z n = heard-other p s f l (low-16 p s f d i k) (frameNode z) n
 
-    step : readReply p s f d i ≡ opened (after p s f) (deskAfter p f d) i
-    step = accepts p s f d i k ∙ settled-open (after p s f) (deskAfter p f d) (omega (arith, counted))
+    step : readReply p s f d i ≡ roundAt (afterReply p s f) (deskAfter p f d) i
+    step = accepts p s f d i k ∙ settled-open (afterReply p s f) (deskAfter p f d) (omega (arith, counted))
 
-    rest : Each (Fits p s) (g ∷ fs) → Each (Unheard s) (g ∷ fs) → OneANode (f ∷ g ∷ fs) → Hears (after p s f) (deskAfter p f d) (g ∷ fs)
+    rest : Each (Fits p s) (g ∷ fs) → Each (Unheard s) (g ∷ fs) → OneANode (f ∷ g ∷ fs) → Hears (afterReply p s f) (deskAfter p f d) (g ∷ fs)
     rest a b o =
         record {
-          ready = next p s f d i k (lt-ltb (heardCount (after p s f .marks)) (replies p) (omega (arith, counted)));
+          ready = next p s f d i k (lt-ltb (heardCount (afterReply p s f .marks)) (replies p) (omega (arith, counted)));
           long = length-marked p s f l (low-16 p s f d i k);
-          fits = each-map (Fits p s) (Fits p (after p s f)) (λ z q. fits-later p s (frameNode f) (heardAs p f) z q) (g ∷ fs) a;
-          fresh = each-map (λ (z : List ℕ). Unheard s z × (frameNode z ≡ frameNode f → ⊥)) (Unheard (after p s f))
+          fits = each-map (Fits p s) (Fits p (afterReply p s f)) (λ z q. fits-later p s (frameNode f) (heardAs p f) z q) (g ∷ fs) a;
+          fresh = each-map (λ (z : List ℕ). Unheard s z × (frameNode z ≡ frameNode f → ⊥)) (Unheard (afterReply p s f))
               (λ z q. other z (q .1) ∙ q .0) (g ∷ fs)
               (each-both (Unheard s) (λ (z : List ℕ). frameNode z ≡ frameNode f → ⊥) (g ∷ fs) b (o .0));
           one = o .1;
           few = omega (arith, counted);
         }
 
-    back : Hears (after p s f) (deskAfter p f d) (g ∷ fs) → Hears s d (f ∷ g ∷ fs)
+    back : Hears (afterReply p s f) (deskAfter p f d) (g ∷ fs) → Hears s d (f ∷ g ∷ fs)
     back h =
         record {
           ready = k .ready;
           long = l;
-          fits = (k .fits, each-map (Fits p (after p s f)) (Fits p s) (λ z q. fits-before p s (frameNode f) (heardAs p f) z q) (g ∷ fs) (h .fits));
-          fresh = (k .fresh, each-map (Unheard (after p s f)) (Unheard s) (λ z q. sym (other z (apart z q)) ∙ q) (g ∷ fs) (h .fresh));
-          one = (each-map (Unheard (after p s f)) (λ (z : List ℕ). frameNode z ≡ frameNode f → ⊥) apart (g ∷ fs) (h .fresh), h .one);
+          fits = (k .fits, each-map (Fits p (afterReply p s f)) (Fits p s) (λ z q. fits-before p s (frameNode f) (heardAs p f) z q) (g ∷ fs) (h .fits));
+          fresh = (k .fresh, each-map (Unheard (afterReply p s f)) (Unheard s) (λ z q. sym (other z (apart z q)) ∙ q) (g ∷ fs) (h .fresh));
+          one = (each-map (Unheard (afterReply p s f)) (λ (z : List ℕ). frameNode z ≡ frameNode f → ⊥) apart (g ∷ fs) (h .fresh), h .one);
           few = few;
         }
       where
-        apart : (z : List ℕ) → Unheard (after p s f) z → frameNode z ≡ frameNode f → ⊥
-        apart z q e = clash (sym (heard-same p s f l (low-16 p s f d i k)) ∙ ap (isHeard (after p s f)) (sym e) ∙ q)
+        apart : (z : List ℕ) → Unheard (afterReply p s f) z → frameNode z ≡ frameNode f → ⊥
+        apart z q e = clash (sym (heard-same p s f l (low-16 p s f d i k)) ∙ ap (isHeard (afterReply p s f)) (sym e) ∙ q)
 
   -- what all replies come to
   abbrev pub last : Session → List ℕ → List (List ℕ) → Outcome
@@ -99,8 +99,8 @@ module _ (p : Plan) (i : List ℕ) where
 
   -- all but the last leave it open
   pub record Ran (s : Session) (d f : List ℕ) (fs : List (List ℕ)) : Type 0 where
-    pub ends : ending p (opened s d i) (f ∷ fs) ≡ last s d (f ∷ fs)
-    pub said : answers p (opened s d i) (f ∷ fs) ≡ openUntil (length fs) (last s d (f ∷ fs) .said)
+    pub ends : ending p (roundAt s d i) (f ∷ fs) ≡ last s d (f ∷ fs)
+    pub said : answers p (roundAt s d i) (f ∷ fs) ≡ openUntil (length fs) (last s d (f ∷ fs) .said)
     pub count : heardCount (allMarked p s (f ∷ fs) .marks) ≡ heardCount (s .marks) + length (f ∷ fs)
 
   pub hear : (f : List ℕ) (fs : List (List ℕ)) (s : Session) (d : List ℕ) → Hears s d (f ∷ fs) → Ran s d f fs
@@ -113,7 +113,7 @@ module _ (p : Plan) (i : List ℕ) where
       let k = first-of s d f (g ∷ fs) h in
       let e = step s d f g fs (h .long) (h .few) k in
       let c = counted s d f g fs (h .long) (h .few) k in
-      let r = hear g fs (after p s f) (deskAfter p f d) (rest s d f g fs (h .long) (h .few) k (h .fits .1) (h .fresh .1) (h .one)) in
+      let r = hear g fs (afterReply p s f) (deskAfter p f d) (rest s d f g fs (h .long) (h .few) k (h .fits .1) (h .fresh .1) (h .one)) in
       record {
         ends = ap (λ (o : Outcome). ending p o (g ∷ fs)) e ∙ r .ends;
         said = ap (λ (o : Outcome). o .said ∷ answers p o (g ∷ fs)) e ∙ ap (λ (l : List Said). stillOpen ∷ l) (r .said);
@@ -122,17 +122,17 @@ module _ (p : Plan) (i : List ℕ) where
 
   -- replies that were accepted in their turn
   pub heard-so : (f : List ℕ) (fs : List (List ℕ)) (s : Session) (d : List ℕ) → readRound s ≡ true → length (s .marks) ≡ 16
-      → heardCount (s .marks) + length (f ∷ fs) ≤ replies p → Accepted (answers p (opened s d i) (f ∷ fs)) → Hears s d (f ∷ fs)
+      → heardCount (s .marks) + length (f ∷ fs) ≤ replies p → Accepted (answers p (roundAt s d i) (f ∷ fs)) → Hears s d (f ∷ fs)
   unfolding answers
   heard-so f [] s d r l few a =
       let k = taken p s f d i r (a .0) in
       record { ready = k .ready; long = l; fits = (k .fits, tt); fresh = (k .fresh, tt); one = (tt, tt); few = few }
   heard-so f (g ∷ fs) s d r l few a =
       let k = taken p s f d i r (a .0) in
-      let b : Accepted (answers p (opened (after p s f) (deskAfter p f d) i) (g ∷ fs)) =
+      let b : Accepted (answers p (roundAt (afterReply p s f) (deskAfter p f d) i) (g ∷ fs)) =
       subst (λ (o : Outcome). Accepted (answers p o (g ∷ fs))) (step s d f g fs l few k) (a .1) in
       back s d f g fs l few k
-      (heard-so g fs (after p s f) (deskAfter p f d) r (length-marked p s f l (low-16 p s f d i k)) (omega (arith, counted s d f g fs l few k)) b)
+      (heard-so g fs (afterReply p s f) (deskAfter p f d) r (length-marked p s f l (low-16 p s f d i k)) (omega (arith, counted s d f g fs l few k)) b)
 
   -- ---- in another order
   pub reordered : (s : Session) (d : List ℕ) {fs gs : List (List ℕ)} → Reordered fs gs → Hears s d fs → Hears s d gs
@@ -162,7 +162,7 @@ open-accepted : (n : ℕ) (a : Said) → isRefused a ≡ false → Accepted (ope
 open-accepted zero a e = (e, tt)
 open-accepted (suc n) a e = (refl, open-accepted n a e)
 
-pub all-accepted : (p : Plan) (i : List ℕ) (s : Session) (d f : List ℕ) (fs : List (List ℕ)) → Ran p i s d f fs → Accepted (answers p (opened s d i) (f ∷ fs))
+pub all-accepted : (p : Plan) (i : List ℕ) (s : Session) (d f : List ℕ) (fs : List (List ℕ)) → Ran p i s d f fs → Accepted (answers p (roundAt s d i) (f ∷ fs))
 all-accepted p i s d f fs h =
     subst Accepted (sym (h .said))
     (open-accepted (length fs) (last p i s d (f ∷ fs) .said) (settled-taken p (allMarked p s (f ∷ fs)) (allSlotted p d (f ∷ fs)) i))

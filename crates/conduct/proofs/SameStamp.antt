@@ -31,7 +31,7 @@ use Rattle.session.specs.Session.{isStoring, done, saidOf}
 use Rattle.session.specs.Reader.{lowest, closed, ReadReplyCall}
 use Rattle.session.specs.Writer.{crossFor, recordsFor}
 use Rattle.session.proofs.Writers.{record-is}
-use Rattle.conduct.specs.Endings.{after, deskAfter}
+use Rattle.conduct.specs.Endings.{afterReply, deskAfter}
 use Rattle.conduct.proofs.ComesBack.{read-comes-back}
 
 -- rec is a record that node z gave, i the item that was written
@@ -93,7 +93,7 @@ module _ (p : Plan) (t : ℕ) (i : List ℕ) (ok : planOk p ≡ true) (bytes : O
   -- bear that timestamp, and their hashes hold
   pub stamp-comes-back : (s : Session) (f d : List ℕ) (took : Took) (d₂ i₂ : List ℕ) → ReadReplyCall p s f d out took d₂ i₂ → (stamp n : ℕ)
       → saidOf (took .answer) ≡ done stamp n → isStoring (s .stage) ≡ false → length (deskAfter p f d) ≡ p .n * recordLength p
-      → All (Bears p t i (deskAfter p f d)) (lowest p (closed p (after p s f) (deskAfter p f d))) → i₂ ≡ i
+      → All (Bears p t i (deskAfter p f d)) (lowest p (closed p (afterReply p s f) (deskAfter p f d))) → i₂ ≡ i
   stamp-comes-back s f d took d₂ i₂ call stamp n says asks long held =
       read-comes-back p t i ok bytes whole out room s f d took d₂ i₂ call stamp n says asks
-      (slots-written (deskAfter p f d) (lowest p (closed p (after p s f) (deskAfter p f d))) long held)
+      (slots-written (deskAfter p f d) (lowest p (closed p (afterReply p s f) (deskAfter p f d))) long held)

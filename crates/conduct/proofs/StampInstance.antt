@@ -30,7 +30,7 @@ use Rattle.session.specs.Ranges.{standingRules, openRules, inRange}
 use Rattle.session.specs.Reply.{lengthsOk, awaited, isHeard, bears}
 use Rattle.session.specs.Reader.{lowest, sound, decoded, actOn, actFor, closed, settled, heard, accepted, readReply, ReadReplyCall}
 use Rattle.session.proofs.Writers.{record-passes}
-use Rattle.conduct.specs.Endings.{after, deskAfter}
+use Rattle.conduct.specs.Endings.{afterReply, deskAfter}
 use Rattle.conduct.specs.Turns.{Turn}
 use Rattle.conduct.proofs.Instances.{small-octets}
 use Rattle.conduct.proofs.SameStamp.{Bears, stamp-comes-back}
@@ -68,7 +68,7 @@ after-so : deskAfter plan second-reply desk-good ≡ desk-two
 unfolding second-reply hash stamp-bytes good desk-good desk-two plan bears recordLength num numFrom part put be beOnto
 after-so = refl
 
-lowest-so : lowest plan (closed plan (after plan first-heard second-reply) desk-two) ≡ 0 ∷ []
+lowest-so : lowest plan (closed plan (afterReply plan first-heard second-reply) desk-two) ≡ 0 ∷ []
 unfolding second-reply hash stamp-bytes good desk-two plan bears recordLength num numFrom part be beOnto closeWith leadOf stepOf aheadOf slotStamp setOf joinsOf alike
 lowest-so = refl
 
@@ -110,5 +110,5 @@ unfolding plan
 item-so =
     stamp-comes-back plan 1 (7 ∷ []) plan-ok (small-octets (7 ∷ []) seven-small) refl (0 ∷ []) refl first-heard second-reply desk-good (call .took) desk-two (7 ∷ []) done-so
     (stampNumber (stampAt desk-good 0)) 1 refl refl (ap length after-so ∙ long-so)
-    (subst (λ (d : List ℕ). All (Bears plan 1 (7 ∷ []) d) (lowest plan (closed plan (after plan first-heard second-reply) d))) (sym after-so)
+    (subst (λ (d : List ℕ). All (Bears plan 1 (7 ∷ []) d) (lowest plan (closed plan (afterReply plan first-heard second-reply) d))) (sym after-so)
     (subst (All (Bears plan 1 (7 ∷ []) desk-two)) (sym lowest-so) (bears-so, tt)))

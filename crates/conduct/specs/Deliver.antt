@@ -3,7 +3,7 @@
 -- record. Then delivering all of them, in any order and with repeats, leaves the same bytes in all N books: the old records and the accepted
 -- ones, each once, by timestamp."
 --   Among                 z is one of a list
---   passes, accepted      a request passes the checks of a node; the records of those that do
+--   passes, acceptedAt      a request passes the checks of a node; the records of those that do
 --   gathered, finalBook   the old records and the accepted ones, each once, by timestamp; laid out over the old book
 --   Delivery sent delivered   a request brought to a node; those that a run brings to one node; the books after a run
 --   Ready, Delivers       what the demand takes of a node's book and a set, and of a run
@@ -25,18 +25,18 @@ use Rattle.terms.specs.declared.Plan.{Plan}
 use Rattle.frame.specs.Frame.{bodyOf, goodRequest}
 use Rattle.book.specs.Records.{holds, kept, rising}
 use Rattle.book.specs.Book.{goodBook, laidOut, nodeOf, recordsOf, usedOf}
-use Rattle.node.specs.Node.{zeroTime, hashFails, writes, served}
+use Rattle.node.specs.Node.{timeFails, hashFails, writes, served}
 
 abbrev pub Among : List ℕ → List (List ℕ) → Type 0
 Among z xs = holds z xs ≡ true
 
 -- a write request that the checks 4, 5 and 6 of a node let through
 unfoldable pub passes : Plan → ℕ → List ℕ → Bool
-passes p node f = goodRequest p node f and writes f and not (zeroTime f) and not (hashFails p f)
+passes p node f = goodRequest p node f and writes f and not (timeFails f) and not (hashFails p f)
 
-unfoldable pub accepted : Plan → ℕ → List (List ℕ) → List (List ℕ)
-accepted p node [] = []
-accepted p node (f ∷ fs) = cond (passes p node f) (bodyOf f ∷ accepted p node fs) (accepted p node fs)
+unfoldable pub acceptedAt : Plan → ℕ → List (List ℕ) → List (List ℕ)
+acceptedAt p node [] = []
+acceptedAt p node (f ∷ fs) = cond (passes p node f) (bodyOf f ∷ acceptedAt p node fs) (acceptedAt p node fs)
 
 -- records put among others, each once and in its place
 unfoldable pub keptAll : List (List ℕ) → List (List ℕ) → List (List ℕ)
@@ -44,7 +44,7 @@ keptAll [] rs = rs
 keptAll (x ∷ xs) rs = keptAll xs (kept x rs)
 
 unfoldable pub gathered : Plan → List ℕ → List (List ℕ) → List (List ℕ)
-gathered p b fs = keptAll (accepted p (nodeOf b) fs) (recordsOf p b)
+gathered p b fs = keptAll (acceptedAt p (nodeOf b) fs) (recordsOf p b)
 
 unfoldable pub finalBook : Plan → List ℕ → List (List ℕ) → List ℕ
 finalBook p b fs = over (laidOut p (nodeOf b) (gathered p b fs)) b
@@ -71,8 +71,8 @@ pub record Ready (p : Plan) (books : ℕ → List ℕ) (fs : List (List ℕ)) (i
   pub node : nodeOf (books i) ≡ i
   pub bytes : Octets (books i)
   pub high : length (books i) ≤ 65536
-  pub requests : (z w : List ℕ) → Among z (accepted p i fs) → Among w (accepted p i fs) → stamp z ≡ stamp w → z ≡ w
-  pub held : (z w : List ℕ) → Among z (accepted p i fs) → Among w (recordsOf p (books i)) → stamp z ≡ stamp w → z ≡ w
+  pub requests : (z w : List ℕ) → Among z (acceptedAt p i fs) → Among w (acceptedAt p i fs) → stamp z ≡ stamp w → z ≡ w
+  pub held : (z w : List ℕ) → Among z (acceptedAt p i fs) → Among w (recordsOf p (books i)) → stamp z ≡ stamp w → z ≡ w
   pub room : 11 + length (gathered p (books i) fs) * recordLength p ≤ length (books i)
 
 -- every reply buffer has room
@@ -90,8 +90,8 @@ pub record Delivers (p : Plan) (fs : List (List ℕ)) (ds : List Delivery) (i : 
 -- "the old records and the accepted ones, each once, by timestamp"; a book as long as before, and past the bytes in use as it was
 pub record Contents (p : Plan) (b : List ℕ) (fs : List (List ℕ)) : Type 0 where
   pub good : goodBook p (finalBook p b fs) ≡ true
-  pub has : (z : List ℕ) → Among z (recordsOf p b) ⊎ Among z (accepted p (nodeOf b) fs) → Among z (recordsOf p (finalBook p b fs))
-  pub only : (z : List ℕ) → Among z (recordsOf p (finalBook p b fs)) → Among z (recordsOf p b) ⊎ Among z (accepted p (nodeOf b) fs)
+  pub has : (z : List ℕ) → Among z (recordsOf p b) ⊎ Among z (acceptedAt p (nodeOf b) fs) → Among z (recordsOf p (finalBook p b fs))
+  pub only : (z : List ℕ) → Among z (recordsOf p (finalBook p b fs)) → Among z (recordsOf p b) ⊎ Among z (acceptedAt p (nodeOf b) fs)
   pub rise : rising (recordsOf p (finalBook p b fs)) ≡ true
   pub size : length (finalBook p b fs) ≡ length b
   pub tail : drop (usedOf p (finalBook p b fs)) (finalBook p b fs) ≡ drop (usedOf p (finalBook p b fs)) b

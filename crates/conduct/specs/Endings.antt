@@ -1,6 +1,6 @@
 -- When a reply call gives each of its answers. Document 01, "The client", "Endings", "Refusal numbers".
 --   Exactly                one thing exactly when another
---   after deskAfter        the session and the desk after an accepted reply of a read round
+--   afterReply deskAfter        the session and the desk after an accepted reply of a read round
 --   Closes                 the reply is accepted in a read round, and is its N-t-th
 --   Candidate size         node a bears the candidate; how many replies its set has
 --   Fails                  incomplete, or validation failed
@@ -42,8 +42,8 @@ Exactly A B = (A → B) × (B → A)
 abbrev pub heardAs : Plan → List ℕ → Heard
 heardAs p f = cond (bears p f) Record First
 
-abbrev pub after : Plan → Session → List ℕ → Session
-after p s f = markedOf s (frameNode f) (heardAs p f)
+abbrev pub afterReply : Plan → Session → List ℕ → Session
+afterReply p s f = markedOf s (frameNode f) (heardAs p f)
 
 abbrev pub deskAfter : Plan → List ℕ → List ℕ → List ℕ
 deskAfter p f d = cond (bears p f) (put d (frameNode f * recordLength p) (bodyOf f)) d
@@ -52,19 +52,19 @@ deskAfter p f d = cond (bears p f) (put d (frameNode f * recordLength p) (bodyOf
 pub record Closes (p : Plan) (s : Session) (f d : List ℕ) (item : ℕ) : Type 0 where
   pub accepted : None (readLadder p s f d item)
   pub asks : isStoring (s .stage) ≡ false
-  pub enough : replies p ≤ heardCount (after p s f .marks)
+  pub enough : replies p ≤ heardCount (afterReply p s f .marks)
 
 -- "the candidate is the greatest timestamp": that of node a, the lowest-numbered that bears it
 abbrev pub Candidate : Plan → Session → List ℕ → List ℕ → ℕ → Type 0
-Candidate p s f d a = leadOf (after p s f .marks) (deskAfter p f d) (recordLength p) (p .n) ≡ Node a
+Candidate p s f d a = leadOf (afterReply p s f .marks) (deskAfter p f d) (recordLength p) (p .n) ≡ Node a
 
 -- "Its set is the replies with this timestamp and the same cross checksum as the lowest-numbered of them"
 abbrev pub size : Plan → Session → List ℕ → List ℕ → ℕ → ℕ
-size p s f d a = length (setOf (after p s f .marks) (deskAfter p f d) (recordLength p) (headLength p) a (p .n))
+size p s f d a = length (setOf (afterReply p s f .marks) (deskAfter p f d) (recordLength p) (headLength p) a (p .n))
 
 -- validation of that set
 abbrev pub valid : Plan → Session → List ℕ → List ℕ → ℕ → Bool
-valid p s f d a = sound p (closed p (after p s f) (deskAfter p f d)) a (deskAfter p f d)
+valid p s f d a = sound p (closed p (afterReply p s f) (deskAfter p f d)) a (deskAfter p f d)
 
 -- "Incomplete, or validation failed": only a complete set, and an unclassifiable one of a repairable member, is validated
 abbrev pub Fails : Plan → ℕ → Bool → Type 0
@@ -73,7 +73,7 @@ Fails p n v = (n < incomplete p) ⊎ ((v ≡ false) × ((complete p ≤ n) ⊎ (
 -- "First triple: never written": no node is marked record
 pub record WhenNever (p : Plan) (s : Session) (f d : List ℕ) (item rounds : ℕ) : Type 0 where
   pub closes : Closes p s f d item
-  pub first : (k : ℕ) → k < p .n → markOf (after p s f .marks) k ≡ Record → ⊥
+  pub first : (k : ℕ) → k < p .n → markOf (afterReply p s f .marks) k ≡ Record → ⊥
   pub counted : rounds ≡ s .round
 
 -- "Unclassifiable: non-repair ends aborted, unvalidated."
@@ -116,7 +116,7 @@ pub record DoneByRepair (p : Plan) (s : Session) (f d : List ℕ) (item stamp ro
 -- the round is not full
 pub record Waits (p : Plan) (s : Session) (f d : List ℕ) (item : ℕ) : Type 0 where
   pub accepted : None (readLadder p s f d item)
-  pub few : heardCount (cond (isStoring (s .stage)) (markedOf s (frameNode f) Record) (after p s f) .marks) < replies p
+  pub few : heardCount (cond (isStoring (s .stage)) (markedOf s (frameNode f) Record) (afterReply p s f) .marks) < replies p
 
 -- "Incomplete, or validation failed: … the next round opens"
 pub record NextOpens (p : Plan) (s : Session) (f d : List ℕ) (item : ℕ) : Type 0 where

@@ -1,7 +1,7 @@
 -- The replies of a read round in whichever order they come: the words of the third demand, for read rounds. "From one session, desk and
 -- sheet buffer, a read round that opens there and hears the same N - t acceptable replies, one a node, ends alike in whichever order they
 -- come." The sheet buffer is document 01's item buffer.
---   opened, ending, answers   a round as it opens; reply frames heard one after another: what the last call leaves, the answers in turn
+--   roundAt, ending, answers   a round as it opens; reply frames heard one after another: what the last call leaves, the answers in turn
 --   openUntil                 answers of which all but the last are "open"
 --   RoundOpens                a read round that opens
 --   Accepted                  no answer of a list is a refusal
@@ -23,12 +23,12 @@ use Rattle.rounds.specs.Rounds.{unheards}
 use Rattle.session.specs.declared.Session.{Session}
 use Rattle.session.specs.Session.{readRound, Said, stillOpen, saidOf, isRefused}
 use Rattle.session.specs.Reader.{Outcome, outcome, readReply}
-use Rattle.conduct.specs.Endings.{after, deskAfter}
+use Rattle.conduct.specs.Endings.{afterReply, deskAfter}
 use Rattle.conduct.specs.Turns.{Turn}
 
 -- ---- the calls, each on the session, the desk and the item that the last one handed back
-abbrev pub opened : Session → List ℕ → List ℕ → Outcome
-opened s d i = outcome stillOpen s d i
+abbrev pub roundAt : Session → List ℕ → List ℕ → Outcome
+roundAt s d i = outcome stillOpen s d i
 
 -- what the last call leaves: its answer, the session, the desk and the item; where there is no call, what the round opened with
 unfoldable pub ending : Plan → Outcome → List (List ℕ) → Outcome
@@ -71,7 +71,7 @@ OneANode (f ∷ fs) = Each (λ (g : List ℕ). frameNode g ≡ frameNode f → �
 -- ---- what accepted replies leave: each a mark, and a record in its slot; "A first triple leaves its slot"
 unfoldable pub allMarked : Plan → Session → List (List ℕ) → Session
 allMarked p s [] = s
-allMarked p s (f ∷ fs) = allMarked p (after p s f) fs
+allMarked p s (f ∷ fs) = allMarked p (afterReply p s f) fs
 
 unfoldable pub allSlotted : Plan → List ℕ → List (List ℕ) → List ℕ
 allSlotted p d [] = d

@@ -38,7 +38,7 @@ use Rattle.session.specs.Owed.{OwedCall, Dues, dues, dueOf, owedTo, owedLadder,
 use Rattle.session.specs.Reader.{ReadReplyCall, Outcome, outcome, accepted, stored}
 use Rattle.session.specs.Writer.{WriteReplyCall, Leaves, leaves, acceptedWrite}
 use Rattle.session.proofs.Closings.{pick}
-use Rattle.conduct.specs.Endings.{readLadder, writeLadder, after, deskAfter}
+use Rattle.conduct.specs.Endings.{readLadder, writeLadder, afterReply, deskAfter}
 use Rattle.terms.proofs.Ladders as ladders
 use Rattle.conduct.proofs.Reading as reading
 use Rattle.conduct.proofs.Writing as writing
@@ -47,15 +47,15 @@ use Rattle.demands.specs.Ends.{Ends, refuses, accepts}
 
 -- ---- the node: order 1 to 8; a reply frame of some length, or nothing but the refusal
 pub node-ends : (p : Plan) (f b y : List ℕ) (a : Answer) (b₂ y₂ : List ℕ) → NodeCall p f b y a b₂ y₂
-    → Ends (nodeLadder p f b y) (λ (k : ℕ). (node.said a ≡ node.refused k) × (b₂ ≡ b) × (y₂ ≡ y))
-    (node.outcome (node.said a) b₂ y₂ ≡ answered p f b y)
+    → Ends (nodeLadder p f b y) (λ (k : ℕ). (node.saidServed a ≡ node.refused k) × (b₂ ≡ b) × (y₂ ≡ y))
+    (node.servedOutcome (node.saidServed a) b₂ y₂ ≡ answered p f b y)
 unfolding served
 node-ends p f b y a b₂ y₂ c =
     ladders.by-ladder
-    (λ (o : node.Outcome). node.outcome (node.said a) b₂ y₂ ≡ o
-    → Ends (nodeLadder p f b y) (λ (k : ℕ). (node.said a ≡ node.refused k) × (b₂ ≡ b) × (y₂ ≡ y)) (node.outcome (node.said a) b₂ y₂ ≡ answered p f b y))
-    (nodeLadder p f b y) (λ (k : ℕ). node.outcome (node.refused k) b y) (answered p f b y)
-    (λ k g h. refuses k g (ap (λ (o : node.Outcome). o .answer) h, ap (λ (o : node.Outcome). o .book) h, ap (λ (o : node.Outcome). o .reply) h))
+    (λ (o : node.ServedOutcome). node.servedOutcome (node.saidServed a) b₂ y₂ ≡ o
+    → Ends (nodeLadder p f b y) (λ (k : ℕ). (node.saidServed a ≡ node.refused k) × (b₂ ≡ b) × (y₂ ≡ y)) (node.servedOutcome (node.saidServed a) b₂ y₂ ≡ answered p f b y))
+    (nodeLadder p f b y) (λ (k : ℕ). node.servedOutcome (node.refused k) b y) (answered p f b y)
+    (λ k g h. refuses k g (ap (λ (o : node.ServedOutcome). o .answer) h, ap (λ (o : node.ServedOutcome). o .book) h, ap (λ (o : node.ServedOutcome). o .reply) h))
     (λ n h. accepts n h)
     (c .is)
 
@@ -123,7 +123,7 @@ pub accepted-taken : (p : Plan) (s : Session) (f d i : List ℕ) → isRefused (
 unfolding accepted stored
 accepted-taken p s f d i =
     pick Taken (isStoring (s .stage)) (pick Taken (ltb (heardCount (markedOf s (frameNode f) Record .marks)) (session.replies p)) refl refl)
-    (subst Taken (sym (reading.heard-settles p s f d i)) (settled-taken p (after p s f) (deskAfter p f d) i))
+    (subst Taken (sym (reading.heard-settles p s f d i)) (settled-taken p (afterReply p s f) (deskAfter p f d) i))
   where
     Taken : Outcome → Type 0
     Taken o = isRefused (o .said) ≡ false

@@ -9,7 +9,7 @@ use Rattle.session.specs.declared.Session.{Session}
 use Rattle.session.specs.Session.{replies}
 use Rattle.conduct.specs.Deliver.{Delivery, delivered, finalBook, Contents}
 use Rattle.conduct.specs.Turns.{Turn, Turns}
-use Rattle.conduct.specs.Round.{opened, RoundOpens, Accepted, SameReplies, Lent, repliesOf, answersOf, leftBy}
+use Rattle.conduct.specs.Round.{roundAt, RoundOpens, Accepted, SameReplies, Lent, repliesOf, answersOf, leftBy}
 use Rattle.conduct.proofs.Books.{Setting, every-book, what-is-left, any-order}
 use Rattle.conduct.proofs.RoundCalls.{any-order-calls}
 
@@ -27,5 +27,5 @@ books-in-any-order p books requests one other g h i l =
 -- order only: none of its calls was refused. At most N-t replies: those beyond meet the next round, or an ended session.
 pub replies-in-any-order : (p : Plan) (s : Session) (desk item : List ℕ) (one other : List Turn) → RoundOpens s → Turns p s desk one → Lent item one
     → Turns p s desk other → Lent item other → length (repliesOf one) ≤ replies p → Accepted (answersOf one) → SameReplies (repliesOf one) (repliesOf other)
-    → (leftBy (opened s desk item) other ≡ leftBy (opened s desk item) one) × (answersOf other ≡ answersOf one)
+    → (leftBy (roundAt s desk item) other ≡ leftBy (roundAt s desk item) one) × (answersOf other ≡ answersOf one)
 replies-in-any-order = any-order-calls

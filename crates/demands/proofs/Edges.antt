@@ -20,7 +20,7 @@ use Rattle.session.specs.Opening.{openWith}
 use Rattle.session.specs.Owed.{owedTo}
 use Rattle.session.specs.Writer.{writeReply}
 use Rattle.session.specs.Reader.{readReply}
-use Rattle.demands.specs.Edges.{Sheet, sheet, planWith, Every, RefusedOne, Hold, firstPlan, secondPlan, table}
+use Rattle.demands.specs.Edges.{Sheet, sheet, planWith, Every, RefusedOne, CasesHold, firstPlan, secondPlan, table}
 
 -- the rules of a plan that F and W have no part in
 sheetOk : Sheet → Bool
@@ -67,7 +67,7 @@ certain-all : (s : Sheet) → sheetOk s ≡ true → s .t ≡ 0
 certain-all s e z F W c f₁ f₂ w₁ w₂ = none-unclassifiable (planWith s F W c) (accepts s e F W c f₁ f₂ w₁ w₂) z
 
 -- EVERY STARRED CASE OF DOCUMENT 01'S TABLE HOLDS
-pub edges : Hold table
+pub edges : CasesHold table
 unfolding sheetOk columnOf all decided classOf
 edges = (
   accepts firstPlan refl,

@@ -39,7 +39,7 @@ use Rattle.packing.specs.PlanBytes.{planOf}
 use Rattle.packing.specs.SessionBytes.{sessionBytes, sessionOf}
 use Rattle.answers.specs.Answers.{lentLadder, bothFit, madeNumber, servedNumber, dueNumber, answerNumber, endingAfter}
 use Rattle.pasis.specs.Store.{FreshBook, NodeServes}
-use Rattle.pasis.specs.Client.{sessionFits, sessionAfter, Opened, opened, openBytes, OpenServes, Asked, asked, owedBytes, OwedServes, Took, took, withItem, tookAs, writeBytes, readBytes, WriteServes, ReadServes}
+use Rattle.pasis.specs.Client.{sessionFits, sessionAfter, OpenedBytes, openedBytes, openBytes, OpenServes, Asked, asked, owedBytes, OwedServes, TookBytes, tookBytes, withItem, tookAs, writeBytes, readBytes, WriteServes, ReadServes}
 use Rattle.demands.proofs.Demand1.{accepted-taken}
 
 pub host-fresh-unique : (x : List ℕ) (n : ℕ) (b : List ℕ) (r r′ : ℕ) (b₂ b₂′ : List ℕ) → FreshBook x n b r b₂ → FreshBook x n b r′ b₂′
@@ -54,7 +54,7 @@ pub host-open-unique : (op : Operation) (x : List ℕ) (a : ℕ) (s : List ℕ) 
     → (r ≡ r′) × (s₂ ≡ s₂′)
 host-open-unique op x a s r r′ s₂ s₂′ c c′ =
     let e = c .is ∙ sym (c′ .is) in
-    (ap (λ (o : Opened). o .number) e, ap (λ (o : Opened). o .session) e)
+    (ap (λ (o : OpenedBytes). o .number) e, ap (λ (o : OpenedBytes). o .session) e)
 
 pub host-owed-unique : (x s : List ℕ) (n : ℕ) (d q : List ℕ) (r r′ : ℕ) (q₂ q₂′ : List ℕ) → OwedServes x s n d q r q₂ → OwedServes x s n d q r′ q₂′
     → (r ≡ r′) × (q₂ ≡ q₂′)
@@ -66,13 +66,13 @@ pub host-write-unique : (x s f d i e : List ℕ) (r r′ : ℕ) (s₂ s₂′ d�
     → WriteServes x s f d i e r′ s₂′ d₂′ e₂′ → (r ≡ r′) × (s₂ ≡ s₂′) × (d₂ ≡ d₂′) × (e₂ ≡ e₂′)
 host-write-unique x s f d i e r r′ s₂ s₂′ d₂ d₂′ e₂ e₂′ c c′ =
     let q = c .is ∙ sym (c′ .is) in
-    (ap (λ (o : Took). o .number) q, ap (λ (o : Took). o .session) q, ap (λ (o : Took). o .desk) q, ap (λ (o : Took). o .ending) q)
+    (ap (λ (o : TookBytes). o .number) q, ap (λ (o : TookBytes). o .session) q, ap (λ (o : TookBytes). o .desk) q, ap (λ (o : TookBytes). o .ending) q)
 
 pub host-read-unique : (x s f d i e : List ℕ) (r r′ : ℕ) (s₂ s₂′ d₂ d₂′ i₂ i₂′ e₂ e₂′ : List ℕ) → ReadServes x s f d i e r s₂ d₂ i₂ e₂
     → ReadServes x s f d i e r′ s₂′ d₂′ i₂′ e₂′ → (r ≡ r′) × (s₂ ≡ s₂′) × (d₂ ≡ d₂′) × (i₂ ≡ i₂′) × (e₂ ≡ e₂′)
 host-read-unique x s f d i e r r′ s₂ s₂′ d₂ d₂′ i₂ i₂′ e₂ e₂′ c c′ =
     let q = c .is ∙ sym (c′ .is) in
-    (ap (λ (o : Took). o .number) q, ap (λ (o : Took). o .session) q, ap (λ (o : Took). o .desk) q, ap (λ (o : Took). o .item) q, ap (λ (o : Took). o .ending) q)
+    (ap (λ (o : TookBytes). o .number) q, ap (λ (o : TookBytes). o .session) q, ap (λ (o : TookBytes). o .desk) q, ap (λ (o : TookBytes). o .item) q, ap (λ (o : TookBytes). o .ending) q)
 
 -- ---- refused calls
 pub host-fresh-stays : (x : List ℕ) (n : ℕ) (b : List ℕ) (r : ℕ) (b₂ : List ℕ) → FreshBook x n b r b₂ → (r ≡ 0 → ⊥) → b₂ ≡ b
@@ -86,7 +86,7 @@ pub host-node-stays : (x f b y : List ℕ) (r : ℕ) (b₂ y₂ : List ℕ) → 
 unfolding served answered sends
 host-node-stays x f b y r b₂ y₂ c h =
     let q =
-    outcome-all (λ (o : node.Outcome). (servedNumber (o .answer) ≡ 0 → ⊥) → (o .book ≡ b) × (o .reply ≡ y)) (nodeLadder (planOf x) f b y) _ _
+    outcome-all (λ (o : node.ServedOutcome). (servedNumber (o .answer) ≡ 0 → ⊥) → (o .book ≡ b) × (o .reply ≡ y)) (nodeLadder (planOf x) f b y) _ _
     (λ k g. (refl, refl)) (λ e g. absurd (g refl)) (λ e. h (c .number ∙ e)) in
     (c .book ∙ q .0, c .reply ∙ q .1)
 
@@ -94,10 +94,10 @@ pub host-open-stays : (op : Operation) (x : List ℕ) (a : ℕ) (s : List ℕ) (
 unfolding openBytes
 host-open-stays op x a s r s₂ c h =
     let o = openWith op Free (planOf x) (record { 0 = a }) in
-    ap (λ (z : Opened). z .session) (c .is)
-    ∙ outcome-all (λ (z : Opened). (z .number ≡ 0 → ⊥) → z .session ≡ s) (lentLadder (planOf x) (sessionFits (length s))) (λ (k : ℕ). opened k s) _
+    ap (λ (z : OpenedBytes). z .session) (c .is)
+    ∙ outcome-all (λ (z : OpenedBytes). (z .number ≡ 0 → ⊥) → z .session ≡ s) (lentLadder (planOf x) (sessionFits (length s))) (λ (k : ℕ). openedBytes k s) _
     (λ k g. refl) (λ e g. ap (λ (t : Bool). cond t (sessionBytes (o .session)) s) (ne-eqb (o .number) 0 g))
-    (λ e. h (ap (λ (z : Opened). z .number) (c .is) ∙ e))
+    (λ e. h (ap (λ (z : OpenedBytes). z .number) (c .is) ∙ e))
 
 pub host-owed-stays : (x s : List ℕ) (n : ℕ) (d q : List ℕ) (r : ℕ) (q₂ : List ℕ) → OwedServes x s n d q r q₂ → (r ≡ 0 → ⊥) → q₂ ≡ q
 unfolding owedBytes owedTo
@@ -120,7 +120,7 @@ not-between (roundsSpent n) e l u = omega arith
 not-between clockSpent e l u = omega arith
 
 -- all bytes of a reply's call are as they came, where its number is a refusal's
-Stays : (s d i e : List ℕ) → Took → Type 0
+Stays : (s d i e : List ℕ) → TookBytes → Type 0
 Stays s d i e z = 1 ≤ z .number → z .number < 101 → (z .session ≡ s) × (z .desk ≡ d) × (z .item ≡ i) × (z .ending ≡ e)
 
 module _ (s d i e : List ℕ) where
@@ -134,10 +134,10 @@ module _ (s d i e : List ℕ) where
   taken-stays o t l u = absurd (not-between (o .said) t l u)
 
   -- 1 and 2 of the lengths come before the call
-  lent-stays : (p : Plan) (t : Took) → Stays s d i e t
-      → Stays s d i e (first (lentLadder p (bothFit (length s) (length e))) (λ (k : ℕ). took k s d i e) t)
+  lent-stays : (p : Plan) (t : TookBytes) → Stays s d i e t
+      → Stays s d i e (first (lentLadder p (bothFit (length s) (length e))) (λ (k : ℕ). tookBytes k s d i e) t)
   lent-stays p t h =
-      outcome-all (Stays s d i e) (lentLadder p (bothFit (length s) (length e))) (λ (k : ℕ). took k s d i e) t
+      outcome-all (Stays s d i e) (lentLadder p (bothFit (length s) (length e))) (λ (k : ℕ). tookBytes k s d i e) t
       (unfold Stays in λ k l u. (refl, refl, refl, refl)) (λ n. h)
 
 pub host-read-stays : (x s f d i e : List ℕ) (r : ℕ) (s₂ d₂ i₂ e₂ : List ℕ) → ReadServes x s f d i e r s₂ d₂ i₂ e₂ → 1 ≤ r → r < 101

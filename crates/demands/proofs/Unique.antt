@@ -33,8 +33,8 @@ use Rattle.conduct.proofs.Client as client
 pub node-unique : (p : Plan) (f b y : List ℕ) (a₁ a₂ : Answer) (b₁ b₂ y₁ y₂ : List ℕ) → NodeCall p f b y a₁ b₁ y₁ → NodeCall p f b y a₂ b₂ y₂
     → (a₁ ≡ a₂) × (b₁ ≡ b₂) × (y₁ ≡ y₂)
 node-unique p f b y a₁ a₂ b₁ b₂ y₁ y₂ c d =
-    let h : node.outcome (node.said a₁) b₁ y₁ ≡ node.outcome (node.said a₂) b₂ y₂ = c .is ∙ sym (d .is) in
-    (nodes.said-one a₁ a₂ (ap (λ (o : node.Outcome). o .answer) h), ap (λ (o : node.Outcome). o .book) h, ap (λ (o : node.Outcome). o .reply) h)
+    let h : node.servedOutcome (node.saidServed a₁) b₁ y₁ ≡ node.servedOutcome (node.saidServed a₂) b₂ y₂ = c .is ∙ sym (d .is) in
+    (nodes.served-one a₁ a₂ (ap (λ (o : node.ServedOutcome). o .answer) h), ap (λ (o : node.ServedOutcome). o .book) h, ap (λ (o : node.ServedOutcome). o .reply) h)
 
 -- The same of the making of a fresh book.
 pub fresh-unique : (p : Plan) (node : ℕ) (b : List ℕ) (a₁ a₂ : Made) (b₁ b₂ : List ℕ) → FreshCall p node b a₁ b₁ → FreshCall p node b a₂ b₂

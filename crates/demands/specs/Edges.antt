@@ -3,7 +3,7 @@
 --   RefusedOne          refused 1, by every call
 --   Every               a sheet's plans for every F and W in their ranges, and both client models
 --   Case, table         the document's cases and what it says of each, in its order
---   Holds Hold          that what is said of a case is so, and of each case of a list
+--   CaseHolds CasesHold          that what is said of a case is so, and of each case of a list
 -- Assumes nothing.
 use Prim.{Unit}
 use Prim.Native.Nat.{ℕ, _≤_}
@@ -20,7 +20,7 @@ use Rattle.terms.specs.declared.Clients.{Clients}
 use Rattle.terms.specs.declared.Class.the-variants.{Unclassifiable}
 use Rattle.terms.specs.declared.Verdict.{Verdict}
 use Rattle.terms.specs.declared.Verdict.the-variants.{Complete, Repair, Aborted, Incomplete}
-use Rattle.node.specs.Node.{served, outcome, refused}
+use Rattle.node.specs.Node.{served, servedOutcome, refused}
 use Rattle.node.specs.Fresh.{freshened, freshOutcome}
 use Rattle.node.specs.Fresh as fresh
 use Rattle.terms.specs.declared.Ask.{Ask}
@@ -55,7 +55,7 @@ Every s P = (F W : ℕ) (c : Clients) → 1 ≤ F → F ≤ 1024 → 1 ≤ W →
 -- refused 1: outside the plan's rules, and every call answers 1 whatever it is lent, and leaves it
 pub record RefusedOne (p : Plan) : Type 0 where
   pub outside : planOk p ≡ false
-  pub node : (f b y : List ℕ) → served p f b y ≡ outcome (refused 1) b y
+  pub node : (f b y : List ℕ) → served p f b y ≡ servedOutcome (refused 1) b y
   pub fresh : (node : ℕ) (b : List ℕ) → freshened p node b ≡ freshOutcome (fresh.refused 1) b
   pub opening : (op : Operation) (b : Bound) (a : Ask) → openWith op b p a ≡ opens 1 (noSession op)
   pub owed : (s : Session) (node : ℕ) (d q : List ℕ) → owedTo p s node d q ≡ dues (owed.refused 1) q
@@ -116,17 +116,17 @@ table =
     constant 0x57 0x57 0x57 ∷ []
 
 -- ---- what a case says
-abbrev pub Holds : Case → Type 0
-Holds (accept s) = Every s (λ (p : Plan). planOk p ≡ true)
-Holds (refuse s) = Every s RefusedOne
-Holds (exclude t b) = (k : Member) (n q m : ℕ) → Every (sheet k n t b q m) RefusedOne
-Holds (certain s) = Every s (λ (p : Plan). (size : ℕ) → classOf (complete p) (incomplete p) size ≡ Unclassifiable → ⊥)
-Holds (decide s size v) = Every s (λ (p : Plan). decided (p .member) (complete p) (incomplete p) size ≡ v)
-Holds (multiply x y product) = mul x y ≡ product
-Holds (column x y k byte) = fragment 2 1 (x ∷ y ∷ []) k ≡ byte ∷ []
-Holds (constant x y byte) = All (λ (k : ℕ). fragment 2 1 (x ∷ y ∷ []) k ≡ byte ∷ []) (from 0 16)
+abbrev pub CaseHolds : Case → Type 0
+CaseHolds (accept s) = Every s (λ (p : Plan). planOk p ≡ true)
+CaseHolds (refuse s) = Every s RefusedOne
+CaseHolds (exclude t b) = (k : Member) (n q m : ℕ) → Every (sheet k n t b q m) RefusedOne
+CaseHolds (certain s) = Every s (λ (p : Plan). (size : ℕ) → classOf (complete p) (incomplete p) size ≡ Unclassifiable → ⊥)
+CaseHolds (decide s size v) = Every s (λ (p : Plan). decided (p .member) (complete p) (incomplete p) size ≡ v)
+CaseHolds (multiply x y product) = mul x y ≡ product
+CaseHolds (column x y k byte) = fragment 2 1 (x ∷ y ∷ []) k ≡ byte ∷ []
+CaseHolds (constant x y byte) = All (λ (k : ℕ). fragment 2 1 (x ∷ y ∷ []) k ≡ byte ∷ []) (from 0 16)
 
 -- that it is so of every case of a list
-abbrev pub Hold : List Case → Type 0
-Hold [] = Unit {0}
-Hold (c ∷ cs) = Holds c × Hold cs
+abbrev pub CasesHold : List Case → Type 0
+CasesHold [] = Unit {0}
+CasesHold (c ∷ cs) = CaseHolds c × CasesHold cs

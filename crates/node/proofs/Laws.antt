@@ -29,7 +29,7 @@ use Rattle.book.proofs.Laws as books
 use Rattle.book.proofs.Back.{long}
 use Rattle.node.specs.declared.Answer.{Answer}
 use Rattle.node.specs.declared.Answer.the-variants.{Refused, Replied}
-use Rattle.node.specs.Node.{lengthsOk, zeroTime, hashFails, otherHeld, noRoom, said, refused, replied, Outcome, outcome, replyTo, replyOf, sends, bookAfter, answered, served, finished, Admitted, Sent, Reply, writes}
+use Rattle.node.specs.Node.{bookReplyOk, timeFails, hashFails, otherHeld, noRoom, saidServed, refused, replied, ServedOutcome, servedOutcome, replyTo, replyOf, sends, bookAfter, answered, served, finished, Admitted, Sent, Reply, writes}
 
 -- a test that a negated `if` passed, and what it says of the definition that the test is of
 pub so : {r s : Bool} → r ≡ s → not r ≡ false → s ≡ true
@@ -39,16 +39,16 @@ pub so-not : {r s : Bool} → r ≡ s → {t : Bool} → not r ≡ t → not s �
 so-not e f = ap not (sym e) ∙ f
 
 -- ---- 2
-pub lengths-low : (p : Plan) (book reply : ℕ) → book < 11 → false ≡ lengthsOk p book reply
-unfolding lengthsOk
+pub lengths-low : (p : Plan) (book reply : ℕ) → book < 11 → false ≡ bookReplyOk p book reply
+unfolding bookReplyOk
 lengths-low p book reply h = rw (lt-leb 11 book h)
 
-pub lengths-high : (p : Plan) (book reply : ℕ) → 11 ≤ book → 65536 < book → false ≡ lengthsOk p book reply
-unfolding lengthsOk
+pub lengths-high : (p : Plan) (book reply : ℕ) → 11 ≤ book → 65536 < book → false ≡ bookReplyOk p book reply
+unfolding bookReplyOk
 lengths-high p book reply h k = rw (le-leb 11 book h, lt-leb book 65536 k)
 
-pub lengths-last : (p : Plan) (book reply r : ℕ) → 11 ≤ book → book ≤ 65536 → r ≡ recordLength p → leb (r + 15) reply ≡ lengthsOk p book reply
-unfolding lengthsOk
+pub lengths-last : (p : Plan) (book reply r : ℕ) → 11 ≤ book → book ≤ 65536 → r ≡ recordLength p → leb (r + 15) reply ≡ bookReplyOk p book reply
+unfolding bookReplyOk
 lengths-last p book reply r h k e = rw (le-leb 11 book h, le-leb book 65536 k, ← e)
 
 pub record LengthsAre (p : Plan) (book reply : ℕ) : Type 0 where
@@ -56,21 +56,21 @@ pub record LengthsAre (p : Plan) (book reply : ℕ) : Type 0 where
   pub high : book ≤ 65536
   pub room : recordLength p + 15 ≤ reply
 
-pub lengths-are : (p : Plan) (book reply : ℕ) → lengthsOk p book reply ≡ true → LengthsAre p book reply
-unfolding lengthsOk
+pub lengths-are : (p : Plan) (book reply : ℕ) → bookReplyOk p book reply ≡ true → LengthsAre p book reply
+unfolding bookReplyOk
 lengths-are p book reply e =
     let e1 = both (bookLent book) _ e in
     let e2 = both (leb 11 book) _ (e1 .0) in
     record { low = leb-true _ _ (e2 .0); high = leb-true _ _ (e2 .1); room = leb-true _ _ (e1 .1) }
 
 -- ---- 5 and 6
-pub zero-yes : (f : List ℕ) (r : Bool) → (kindOf f ≡ 3) ⊎ (kindOf f ≡ 6) → r ≡ timeZero (bodyOf f) → r ≡ zeroTime f
-unfolding zeroTime
+pub zero-yes : (f : List ℕ) (r : Bool) → (kindOf f ≡ 3) ⊎ (kindOf f ≡ 6) → r ≡ timeZero (bodyOf f) → r ≡ timeFails f
+unfolding timeFails
 zero-yes f r h e =
     ⊎-elim (λ k. rw (eq-eqb (kindOf f) 3 k) e) (λ k. rw (ne-eqb (kindOf f) 3 (λ z. omega arith), eq-eqb (kindOf f) 6 k) e) h
 
-pub zero-no : (f : List ℕ) → (kindOf f ≡ 3 → ⊥) → (kindOf f ≡ 6 → ⊥) → false ≡ zeroTime f
-unfolding zeroTime
+pub zero-no : (f : List ℕ) → (kindOf f ≡ 3 → ⊥) → (kindOf f ≡ 6 → ⊥) → false ≡ timeFails f
+unfolding timeFails
 zero-no f a b = rw (ne-eqb (kindOf f) 3 a, ne-eqb (kindOf f) 6 b)
 
 -- a write request has the length of its record, a read previous that of its bound
@@ -136,9 +136,9 @@ module _ (p : Plan) (f b y : List ℕ) where
 
   sent-out : (kind : ℕ) (body : List ℕ) (a : Answer) (b₂ y₂ : List ℕ) → replyTo (kindOf f) (bodyOf f) (recordsOf p b) ≡ replyOf kind body
       → b₂ ≡ bookAfter p f b → Sent f kind body y a y₂
-      → outcome (said a) b₂ y₂ ≡ answered p f b y
+      → servedOutcome (saidServed a) b₂ y₂ ≡ answered p f b y
   unfolding answered sends
-  sent-out kind body a b₂ y₂ r e q = (λ i. outcome (q .answer i) (e i) (q .bytes i)) ∙ ap (λ (z : Reply). sends f z (bookAfter p f b) y) (sym r)
+  sent-out kind body a b₂ y₂ r e q = (λ i. servedOutcome (q .answer i) (e i) (q .bytes i)) ∙ ap (λ (z : Reply). sends f z (bookAfter p f b) y) (sym r)
 
   reply-1 : kindOf f ≡ 1 → replyTo (kindOf f) (bodyOf f) (recordsOf p b) ≡ replyOf 2 (be 8 (time (lastOf (recordsOf p b))))
   unfolding replyTo
@@ -158,16 +158,16 @@ module _ (p : Plan) (f b y : List ℕ) where
   reply-6 k1 k3 k5 = rw (ne-eqb (kindOf f) 1 k1, ne-eqb (kindOf f) 3 k3, ne-eqb (kindOf f) 5 k5)
 
   pub tells : (a : Answer) (y₂ : List ℕ) → kindOf f ≡ 1 → Sent f 2 (be 8 (time (lastOf (recordsOf p b)))) y a y₂
-      → outcome (said a) b y₂ ≡ answered p f b y
+      → servedOutcome (saidServed a) b y₂ ≡ answered p f b y
   tells a y₂ k q = sent-out 2 _ a b y₂ (reply-1 k) (after-not (λ z. omega arith)) q
 
   pub reads-last : (x : List ℕ) (a : Answer) (y₂ : List ℕ) → kindOf f ≡ 5 → x ≡ lastOf (recordsOf p b) → Sent f 7 x y a y₂
-      → outcome (said a) b y₂ ≡ answered p f b y
+      → servedOutcome (saidServed a) b y₂ ≡ answered p f b y
   reads-last x a y₂ k e q = sent-out 7 x a b y₂ (reply-5 k ∙ ap (λ (l : List ℕ). replyOf 7 l) (sym e)) (after-not (λ z. omega arith)) q
 
   pub reads-below : (x : List ℕ) (a : Answer) (y₂ : List ℕ) → (kindOf f ≡ 1 → ⊥) → (kindOf f ≡ 3 → ⊥) → (kindOf f ≡ 5 → ⊥)
       → x ≡ lastBelow (num (part f 15 40)) (recordsOf p b) → Sent f 7 x y a y₂
-      → outcome (said a) b y₂ ≡ answered p f b y
+      → servedOutcome (saidServed a) b y₂ ≡ answered p f b y
   reads-below x a y₂ k1 k3 k5 e q =
       let s : num (part f 15 40) ≡ stamp (bodyOf f) = ap num (sym (frames.body-part 15 f 0 40)) in
       sent-out 7 x a b y₂ (reply-6 k1 k3 k5 ∙ ap (λ (l : List ℕ). replyOf 7 l) (sym (e ∙ ap (λ (t : ℕ). lastBelow t (recordsOf p b)) s)))
@@ -175,21 +175,21 @@ module _ (p : Plan) (f b y : List ℕ) where
 
   -- ---- down the ladder
   -- the first four tests
-  pub admits : {r1 r2 r3 r4 : Bool} {node : ℕ} → r1 ≡ planOk p → not r1 ≡ false → r2 ≡ lengthsOk p (length b) (length y) → not r2 ≡ false
+  pub admits : {r1 r2 r3 r4 : Bool} {node : ℕ} → r1 ≡ planOk p → not r1 ≡ false → r2 ≡ bookReplyOk p (length b) (length y) → not r2 ≡ false
       → Checked p b r3 → not r3 ≡ false
       → r4 ≡ goodRequest p node f → node ≡ nodeOf b → not r4 ≡ false → Admitted p f b y
   admits {r1} {r2} {r3} e1 t1 e2 t2 e3 t3 e4 n t4 =
       record { plan = so e1 t1; lengths = so e2 t2; good = so (e3 .is) t3; laid = e3 .laid (not-false r3 t3); request = so (here p f b e4 n) t4 }
 
-  pub admitted : {z : Outcome} → Admitted p f b y
-      → z ≡ first (on 5 (zeroTime f) ∷ on 6 (hashFails p f) ∷ on 7 (otherHeld p f b) ∷ on 8 (noRoom p f b) ∷ []) (λ (k : ℕ). outcome (refused k) b y) (answered p f b y) → z ≡ served p f b y
+  pub admitted : {z : ServedOutcome} → Admitted p f b y
+      → z ≡ first (on 5 (timeFails f) ∷ on 6 (hashFails p f) ∷ on 7 (otherHeld p f b) ∷ on 8 (noRoom p f b) ∷ []) (λ (k : ℕ). servedOutcome (refused k) b y) (answered p f b y) → z ≡ served p f b y
   unfolding served
   admitted A e =
       rungs.go-on 1 _ _ _ (ap not (A .plan))
       (rungs.go-on 2 _ _ _ (ap not (A .lengths)) (rungs.go-on 3 _ _ _ (ap not (A .good)) (rungs.go-on 4 _ _ _ (ap not (A .request)) e)))
 
   -- 7 and 8 are of writes
-  pub not-write : (z : Outcome) → (kindOf f ≡ 3 → ⊥) → z ≡ answered p f b y → z ≡ finished p f b y
+  pub not-write : (z : ServedOutcome) → (kindOf f ≡ 3 → ⊥) → z ≡ answered p f b y → z ≡ finished p f b y
   unfolding finished otherHeld noRoom
   not-write z h e = rungs.go-on 7 _ _ _ (rw (ne-eqb (kindOf f) 3 h)) (rungs.go-on 8 _ _ _ (rw (ne-eqb (kindOf f) 3 h)) (rungs.passed _ _ e))
 
@@ -216,7 +216,7 @@ module _ (p : Plan) (f b y : List ℕ) where
     after-new e = rw (eq-eqb (kindOf f) 3 k, e)
 
     pub write-held : (a : Answer) (y₂ : List ℕ) → fates.Held ≡ fateOf (part f 15 (recordLength p)) (recordsOf p b)
-        → Sent f 4 (part (bodyOf f) 0 40) y a y₂ → outcome (said a) b y₂ ≡ finished p f b y
+        → Sent f 4 (part (bodyOf f) 0 40) y a y₂ → servedOutcome (saidServed a) b y₂ ≡ finished p f b y
     unfolding finished noRoom
     write-held a y₂ e q =
         let h = lists.fate-held (bodyOf f) (recordsOf p b) (of-body _ e) in
@@ -224,12 +224,12 @@ module _ (p : Plan) (f b y : List ℕ) where
         rungs.go-on 7 _ _ _ (no-other o)
         (rungs.go-on 8 _ _ _ (rw (eq-eqb (kindOf f) 3 k, h)) (rungs.passed _ _ (sent-out 4 _ a b y₂ (reply-3 k) (after-held h) q)))
 
-    pub write-other : fates.Other ≡ fateOf (part f 15 (recordLength p)) (recordsOf p b) → outcome (said (Refused OtherBytes)) b y ≡ finished p f b y
+    pub write-other : fates.Other ≡ fateOf (part f 15 (recordLength p)) (recordsOf p b) → servedOutcome (saidServed (Refused OtherBytes)) b y ≡ finished p f b y
     unfolding finished otherHeld
     write-other e = rungs.stop 7 _ _ _ (rw (eq-eqb (kindOf f) 3 k) (lists.fate-other (bodyOf f) (recordsOf p b) (of-body _ e))) refl
 
     pub write-full : (i : ℕ) → fates.Free i ≡ fateOf (part f 15 (recordLength p)) (recordsOf p b)
-        → leb (usedOf p b + recordLength p) (length b) ≡ false → outcome (said (Refused NoRoom)) b y ≡ finished p f b y
+        → leb (usedOf p b + recordLength p) (length b) ≡ false → servedOutcome (saidServed (Refused NoRoom)) b y ≡ finished p f b y
     unfolding finished noRoom
     write-full i e full =
         let q = lists.fate-free (bodyOf f) (recordsOf p b) i (of-body _ e) in
@@ -238,7 +238,7 @@ module _ (p : Plan) (f b y : List ℕ) where
 
     pub write-new : (i : ℕ) (a : Answer) (b₂ y₂ : List ℕ) → fates.Free i ≡ fateOf (part f 15 (recordLength p)) (recordsOf p b)
         → leb (usedOf p b + recordLength p) (length b) ≡ true
-        → b₂ ≡ grown p (part f 15 (recordLength p)) b → Sent f 4 (part (bodyOf f) 0 40) y a y₂ → outcome (said a) b₂ y₂ ≡ finished p f b y
+        → b₂ ≡ grown p (part f 15 (recordLength p)) b → Sent f 4 (part (bodyOf f) 0 40) y a y₂ → servedOutcome (saidServed a) b₂ y₂ ≡ finished p f b y
     unfolding finished noRoom
     write-new i a b₂ y₂ e room eb q =
         let r = lists.fate-free (bodyOf f) (recordsOf p b) i (of-body _ e) in

@@ -1,8 +1,8 @@
 -- The node. Document 01, "The node" and "Refusal numbers": one request frame f, the book b and a reply buffer y.
---   lengthsOk zeroTime hashFails otherHeld noRoom   the conditions of 2, 5, 6, 7 and 8
+--   bookReplyOk timeFails hashFails otherHeld noRoom   the conditions of 2, 5, 6, 7 and 8
 --   nodeLadder         the refusals in their order, 1 to 8
---   Said, said         an answer in the paper's terms: a refusal's number, or the length of the frame written
---   Outcome, outcome   the answer, the book and the reply buffer as a call leaves them
+--   SaidServed, saidServed         an answer in the paper's terms: a refusal's number, or the length of the frame written
+--   ServedOutcome, servedOutcome   the answer, the book and the reply buffer as a call leaves them
 --   replyTo            what a node that holds some records replies to a kind and a body
 --   bookAfter          the book after a request that is not refused
 --   served, NodeCall   the call, and its contract
@@ -27,15 +27,15 @@ use Rattle.node.specs.declared.Answer.the-variants.{Refused, Replied}
 
 -- ---- the conditions of the refusals
 -- 2: "Lent book: 11 to 65,536 bytes", "a reply buffer of at least R+15 bytes"
-unfoldable pub lengthsOk : Plan → ℕ → ℕ → Bool
-lengthsOk p book reply = bookLent book and leb (recordLength p + 15) reply
+unfoldable pub bookReplyOk : Plan → ℕ → ℕ → Bool
+bookReplyOk p book reply = bookLent book and leb (recordLength p + 15) reply
 
 abbrev pub writes : List ℕ → Bool
 writes f = eqb (kindOf f) 3
 
 -- 5: "time 0 in a record or a bound"
-unfoldable pub zeroTime : List ℕ → Bool
-zeroTime f = (writes f or eqb (kindOf f) 6) and timeZero (bodyOf f)
+unfoldable pub timeFails : List ℕ → Bool
+timeFails f = (writes f or eqb (kindOf f) 6) and timeZero (bodyOf f)
 
 -- 6: "a hash check fails"
 unfoldable pub hashFails : Plan → List ℕ → Bool
@@ -53,30 +53,30 @@ noRoom p f b = writes f and not (holds (bodyOf f) (recordsOf p b)) and ltb (leng
 abbrev pub nodeLadder : Plan → List ℕ → List ℕ → List ℕ → List Rung
 nodeLadder p f b y =
     on 1 (not (planOk p)) ∷
-    on 2 (not (lengthsOk p (length b) (length y))) ∷
+    on 2 (not (bookReplyOk p (length b) (length y))) ∷
     on 3 (not (goodBook p b)) ∷
     on 4 (not (goodRequest p (nodeOf b) f)) ∷
-    on 5 (zeroTime f) ∷
+    on 5 (timeFails f) ∷
     on 6 (hashFails p f) ∷
     on 7 (otherHeld p f b) ∷
     on 8 (noRoom p f b) ∷ []
 
 -- ---- the answer in the paper's terms
-pub data Said : Type 0 where
-  refused : ℕ → Said
-  replied : ℕ → Said
+pub data SaidServed : Type 0 where
+  refused : ℕ → SaidServed
+  replied : ℕ → SaidServed
 
-abbrev pub said : Answer → Said
-said (Refused r) = refused (refusalNumber r)
-said (Replied n) = replied n
+abbrev pub saidServed : Answer → SaidServed
+saidServed (Refused r) = refused (refusalNumber r)
+saidServed (Replied n) = replied n
 
-pub record Outcome : Type 0 where
-  pub answer : Said
+pub record ServedOutcome : Type 0 where
+  pub answer : SaidServed
   pub book : List ℕ
   pub reply : List ℕ
 
-abbrev pub outcome : Said → List ℕ → List ℕ → Outcome
-outcome a b y = record { answer = a; book = b; reply = y }
+abbrev pub servedOutcome : SaidServed → List ℕ → List ℕ → ServedOutcome
+servedOutcome a b y = record { answer = a; book = b; reply = y }
 
 -- ---- what is done
 pub record Reply : Type 0 where
@@ -102,34 +102,34 @@ bookAfter p f b =
     cond (writes f and not (holds (bodyOf f) (recordsOf p b))) (grown p (bodyOf f) b) b
 
 -- "A reply repeats the ask number of its request"; "bytes past a written frame stay"
-unfoldable pub sends : List ℕ → Reply → List ℕ → List ℕ → Outcome
-sends f r b y = outcome (replied (15 + length (r .body))) b (over (frame (r .kind) (frameNode f) (askOf f) (r .body)) y)
+unfoldable pub sends : List ℕ → Reply → List ℕ → List ℕ → ServedOutcome
+sends f r b y = servedOutcome (replied (15 + length (r .body))) b (over (frame (r .kind) (frameNode f) (askOf f) (r .body)) y)
 
-unfoldable pub answered : Plan → List ℕ → List ℕ → List ℕ → Outcome
+unfoldable pub answered : Plan → List ℕ → List ℕ → List ℕ → ServedOutcome
 answered p f b y = sends f (replyTo (kindOf f) (bodyOf f) (recordsOf p b)) (bookAfter p f b) y
 
 -- the first refusal that applies leaves all as it came; where none does, the answer
-unfoldable pub served : Plan → List ℕ → List ℕ → List ℕ → Outcome
-served p f b y = first (nodeLadder p f b y) (λ (k : ℕ). outcome (refused k) b y) (answered p f b y)
+unfoldable pub served : Plan → List ℕ → List ℕ → List ℕ → ServedOutcome
+served p f b y = first (nodeLadder p f b y) (λ (k : ℕ). servedOutcome (refused k) b y) (answered p f b y)
 
 -- the contract of the call: its inputs, then its outcome
 pub record NodeCall (p : Plan) (f b y : List ℕ) (a : Answer) (b₂ y₂ : List ℕ) : Type 0 where
-  pub is : outcome (said a) b₂ y₂ ≡ served p f b y
+  pub is : servedOutcome (saidServed a) b₂ y₂ ≡ served p f b y
 
 -- ---- for the functions below the call
 -- what the first four refusals leave; a good book is its records laid out
 pub record Admitted (p : Plan) (f b y : List ℕ) : Type 0 where
   pub plan : planOk p ≡ true
-  pub lengths : lengthsOk p (length b) (length y) ≡ true
+  pub lengths : bookReplyOk p (length b) (length y) ≡ true
   pub good : goodBook p b ≡ true
   pub laid : Itself p b
   pub request : goodRequest p (nodeOf b) f ≡ true
 
 -- the last two refusals, and the answer
-unfoldable pub finished : Plan → List ℕ → List ℕ → List ℕ → Outcome
-finished p f b y = first (drop 6 (nodeLadder p f b y)) (λ (k : ℕ). outcome (refused k) b y) (answered p f b y)
+unfoldable pub finished : Plan → List ℕ → List ℕ → List ℕ → ServedOutcome
+finished p f b y = first (drop 6 (nodeLadder p f b y)) (λ (k : ℕ). servedOutcome (refused k) b y) (answered p f b y)
 
 -- a reply to f was written
 pub record Sent (f : List ℕ) (kind : ℕ) (body y : List ℕ) (a : Answer) (y₂ : List ℕ) : Type 0 where
-  pub answer : said a ≡ replied (15 + length body)
+  pub answer : saidServed a ≡ replied (15 + length body)
   pub bytes : y₂ ≡ over (frame kind (frameNode f) (askOf f) body) y

@@ -7,7 +7,7 @@ ghost use lib.ListN.{length};
 ghost use Rattle.octets.specs.Bytes.{part};
 ghost use Rattle.terms.specs.Terms.{planOk};
 ghost use Rattle.frame.specs.Frame.{kindOf, bodyOf, goodRequest};
-ghost use Rattle.node.specs.Node.{lengthsOk, zeroTime, hashFails, outcome, said, answered, finished, Admitted, Sent, NodeCall};
+ghost use Rattle.node.specs.Node.{bookReplyOk, timeFails, hashFails, servedOutcome, saidServed, answered, finished, Admitted, Sent, NodeCall};
 ghost use Rattle.node.specs.Fresh.{FreshCall};
 use book::Fate;
 use book::Span;
@@ -29,7 +29,7 @@ pub enum Made {
 // 2: the lengths of the lent book and reply buffer.
 fn lengths_ok(p: Plan, book: usize, reply: usize) -> bool
     requires { ⌜ planOk p ≡ true ⌝ }
-    ensures { λ r. ⌜ r ≡ lengthsOk p book reply ⌝ }
+    ensures { λ r. ⌜ r ≡ bookReplyOk p book reply ⌝ }
 {
     if book < 11 {
         return false;
@@ -44,7 +44,7 @@ fn lengths_ok(p: Plan, book: usize, reply: usize) -> bool
 // 5: time 0 in a record or a bound.
 fn zero_time(p: Plan, node: u64, request: &[u8]) -> bool
     requires { ⌜ (planOk p ≡ true) × (goodRequest p node (now request) ≡ true) ⌝ }
-    ensures { λ r. ⌜ r ≡ zeroTime (now (request .entry)) ⌝ }
+    ensures { λ r. ⌜ r ≡ timeFails (now (request .entry)) ⌝ }
 {
     match frame::kind_of(request) {
         3 | 6 => record::time_zero(request, 15),
@@ -89,7 +89,7 @@ fn send(request: &[u8], book: &[u8], s: Span, reply: &mut [u8]) -> Answer
 // The reply to a time request: the time of the last record.
 fn tell_time(p: Plan, request: &[u8], book: &[u8], reply: &mut [u8]) -> Answer
     requires { ⌜ Admitted p (now request) (now book) (now reply) × (kindOf (now request) ≡ 1) ⌝ }
-    ensures { λ a. ⌜ outcome (said a) (now (book .entry)) (now (reply .exit)) ≡ answered p (now (request .entry)) (now (book .entry)) (now (reply .entry)) ⌝ }
+    ensures { λ a. ⌜ servedOutcome (saidServed a) (now (book .entry)) (now (reply .exit)) ≡ answered p (now (request .entry)) (now (book .entry)) (now (reply .entry)) ⌝ }
 {
     let node = frame::node_of(request);
     let ask = frame::ask_of(request);
@@ -101,7 +101,7 @@ fn tell_time(p: Plan, request: &[u8], book: &[u8], reply: &mut [u8]) -> Answer
 // Kinds 5 and 6: the last record, the last one strictly below the bound.
 fn read(p: Plan, request: &[u8], book: &[u8], reply: &mut [u8]) -> Answer
     requires { ⌜ Admitted p (now request) (now book) (now reply) × (kindOf (now request) ≡ 1 → ⊥) × (kindOf (now request) ≡ 3 → ⊥) ⌝ }
-    ensures { λ a. ⌜ outcome (said a) (now (book .entry)) (now (reply .exit)) ≡ answered p (now (request .entry)) (now (book .entry)) (now (reply .entry)) ⌝ }
+    ensures { λ a. ⌜ servedOutcome (saidServed a) (now (book .entry)) (now (reply .exit)) ≡ answered p (now (request .entry)) (now (book .entry)) (now (reply .entry)) ⌝ }
 {
     if frame::kind_of(request) == 5 {
         let s = book::last(p, book);
@@ -114,7 +114,7 @@ fn read(p: Plan, request: &[u8], book: &[u8], reply: &mut [u8]) -> Answer
 // Kind 3. The record finds its place once: refusals 7 and 8, the acknowledgement and the insertion go by that one fate.
 fn write(p: Plan, request: &[u8], book: &mut [u8], reply: &mut [u8]) -> Answer
     requires { ⌜ Admitted p (now request) (now book) (now reply) × (kindOf (now request) ≡ 3) ⌝ }
-    ensures { λ a. ⌜ outcome (said a) (now (book .exit)) (now (reply .exit)) ≡ finished p (now (request .entry)) (now (book .entry)) (now (reply .entry)) ⌝ }
+    ensures { λ a. ⌜ servedOutcome (saidServed a) (now (book .exit)) (now (reply .exit)) ≡ finished p (now (request .entry)) (now (book .entry)) (now (reply .entry)) ⌝ }
 {
     let fate = book::fate_of(p, book, request, 15);
     match fate {
@@ -133,7 +133,7 @@ fn write(p: Plan, request: &[u8], book: &mut [u8], reply: &mut [u8]) -> Answer
 // A request that refusals 1 to 6 do not meet, by its kind.
 fn respond(p: Plan, request: &[u8], book: &mut [u8], reply: &mut [u8]) -> Answer
     requires { ⌜ Admitted p (now request) (now book) (now reply) ⌝ }
-    ensures { λ a. ⌜ outcome (said a) (now (book .exit)) (now (reply .exit)) ≡ finished p (now (request .entry)) (now (book .entry)) (now (reply .entry)) ⌝ }
+    ensures { λ a. ⌜ servedOutcome (saidServed a) (now (book .exit)) (now (reply .exit)) ≡ finished p (now (request .entry)) (now (book .entry)) (now (reply .entry)) ⌝ }
 {
     let kind = frame::kind_of(request);
     if kind == 3 {

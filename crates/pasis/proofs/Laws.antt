@@ -34,7 +34,7 @@ use Rattle.packing.specs.PlanBytes.{planOf}
 use Rattle.packing.specs.SessionBytes.{sessionBytes, sessionOf}
 use Rattle.answers.specs.Answers.{answerNumber, bothFit, dueNumber, endingAfter, lentLadder, madeNumber, servedNumber}
 use Rattle.pasis.specs.Store.{FreshBook, NodeServes}
-use Rattle.pasis.specs.Client.{sessionFits, sessionAfter, opened, openedAs, openBytes, OpenServes, asked, askedAs, owedBytes, OwedServes, took, tookAs, withItem, readBytes, writeBytes, WriteServes, ReadServes}
+use Rattle.pasis.specs.Client.{sessionFits, sessionAfter, openedBytes, openedAs, openBytes, OpenServes, asked, askedAs, owedBytes, OwedServes, tookBytes, tookAs, withItem, readBytes, writeBytes, WriteServes, ReadServes}
 
 -- ---- the storage-node
 pub fresh-book : (x : List ℕ) (n : ℕ) (b : List ℕ) (p : Plan) (m : Made) (r : ℕ) (b₂ : List ℕ) → p ≡ planOf x → FreshCall p n b m b₂
@@ -44,13 +44,13 @@ fresh-book x n b p m r b₂ e c k =
     record { number = k ∙ ap (λ (o : FreshOutcome). madeNumber (o .answer)) q; book = ap (λ (o : FreshOutcome). o .book) q }
 
 pub node-serves : (x f b y : List ℕ) (p : Plan) (a : nodes.Answer) (r : ℕ) (b₂ y₂ : List ℕ) → p ≡ planOf x → NodeCall p f b y a b₂ y₂
-    → r ≡ servedNumber (node.said a) → NodeServes x f b y r b₂ y₂
+    → r ≡ servedNumber (node.saidServed a) → NodeServes x f b y r b₂ y₂
 node-serves x f b y p a r b₂ y₂ e c k =
     let q = c .is ∙ ap (λ (w : Plan). served w f b y) e in
     record {
-      number = k ∙ ap (λ (o : node.Outcome). servedNumber (o .answer)) q;
-      book = ap (λ (o : node.Outcome). o .book) q;
-      reply = ap (λ (o : node.Outcome). o .reply) q;
+      number = k ∙ ap (λ (o : node.ServedOutcome). servedNumber (o .answer)) q;
+      book = ap (λ (o : node.ServedOutcome). o .book) q;
+      reply = ap (λ (o : node.ServedOutcome). o .reply) q;
     }
 
 -- ---- 1 and 2
@@ -104,14 +104,14 @@ kept-accepted o s s₂ e h =
 module _ (op : Operation) (x : List ℕ) (a : ℕ) (s : List ℕ) (k : ℕ) (l : Lent x (sessionFits (length s)) k) where
   pub open-refused : (k ≡ 0 → ⊥) → OpenServes op x a s k s
   unfolding openBytes
-  open-refused h = record { is = lent-refuses x _ k l (λ (j : ℕ). opened j s) _ h }
+  open-refused h = record { is = lent-refuses x _ k l (λ (j : ℕ). openedBytes j s) _ h }
 
   pub open-kept : (p : Plan) (o : Opened) (r : ℕ) (s₂ : List ℕ) → k ≡ 0 → p ≡ planOf x → OpenCall op p (record { 0 = a }) o → KeptOpened o s r s₂
       → OpenServes op x a s r s₂
   unfolding openBytes
   open-kept p o r s₂ e f c h =
       let q = c .is ∙ ap (λ (w : Plan). openWith op Free w (record { 0 = a })) f in
-      record { is = (λ i. opened (h .0 i) (h .1 i)) ∙ ap (λ (z : Opens). openedAs z s) q ∙ lent-passes x _ k l (λ (j : ℕ). opened j s) _ e }
+      record { is = (λ i. openedBytes (h .0 i) (h .1 i)) ∙ ap (λ (z : Opens). openedAs z s) q ∙ lent-passes x _ k l (λ (j : ℕ). openedBytes j s) _ e }
 
 -- ---- the request owed
 module _ (x s : List ℕ) (n : ℕ) (d q : List ℕ) (k : ℕ) (l : Lent x (sessionFits (length s)) k) where
@@ -136,11 +136,11 @@ pub record Handed (t : Took) (s e : List ℕ) (r : ℕ) (s₂ e₂ : List ℕ) :
 module _ (x s f d i e : List ℕ) (k : ℕ) (l : Lent x (bothFit (length s) (length e)) k) where
   pub write-refused : (k ≡ 0 → ⊥) → WriteServes x s f d i e k s d e
   unfolding writeBytes
-  write-refused h = record { is = lent-refuses x _ k l (λ (j : ℕ). took j s d i e) _ h }
+  write-refused h = record { is = lent-refuses x _ k l (λ (j : ℕ). tookBytes j s d i e) _ h }
 
   pub read-refused : (k ≡ 0 → ⊥) → ReadServes x s f d i e k s d i e
   unfolding readBytes
-  read-refused h = record { is = lent-refuses x _ k l (λ (j : ℕ). took j s d i e) _ h }
+  read-refused h = record { is = lent-refuses x _ k l (λ (j : ℕ). tookBytes j s d i e) _ h }
 
   module _ (p : Plan) (w : Session) (t : Took) (r : ℕ) (s₂ d₂ e₂ : List ℕ) (z : k ≡ 0) (ep : p ≡ planOf x) (es : w ≡ sessionOf s) (h : Handed t s e r s₂ e₂) where
     pub write-served : WriteReplyCall p w f d i t d₂ → WriteServes x s f d i e r s₂ d₂ e₂
@@ -148,8 +148,8 @@ module _ (x s f d i e : List ℕ) (k : ℕ) (l : Lent x (bothFit (length s) (len
     write-served c =
         let q = c .is ∙ (λ j. writeReply (ep j) (es j) f d i) in
         record {
-          is = (λ j. took (h .number j) (h .session j) d₂ i (h .ending j)) ∙ ap (λ (o : Leaves). tookAs (withItem o i) s e) q
-              ∙ lent-passes x _ k l (λ (j : ℕ). took j s d i e) _ z;
+          is = (λ j. tookBytes (h .number j) (h .session j) d₂ i (h .ending j)) ∙ ap (λ (o : Leaves). tookAs (withItem o i) s e) q
+              ∙ lent-passes x _ k l (λ (j : ℕ). tookBytes j s d i e) _ z;
         }
 
     pub read-served : (i₂ : List ℕ) → ReadReplyCall p w f d i t d₂ i₂ → ReadServes x s f d i e r s₂ d₂ i₂ e₂
@@ -157,6 +157,6 @@ module _ (x s f d i e : List ℕ) (k : ℕ) (l : Lent x (bothFit (length s) (len
     read-served i₂ c =
         let q = c .is ∙ (λ j. readReply (ep j) (es j) f d i) in
         record {
-          is = (λ j. took (h .number j) (h .session j) d₂ i₂ (h .ending j)) ∙ ap (λ (o : Outcome). tookAs o s e) q
-              ∙ lent-passes x _ k l (λ (j : ℕ). took j s d i e) _ z;
+          is = (λ j. tookBytes (h .number j) (h .session j) d₂ i₂ (h .ending j)) ∙ ap (λ (o : Outcome). tookAs o s e) q
+              ∙ lent-passes x _ k l (λ (j : ℕ). tookBytes j s d i e) _ z;
         }

@@ -21,7 +21,7 @@ use Rattle.packing.specs.PlanBytes.{planOf}
 use Rattle.packing.specs.SessionBytes.{sessionShaped, sessionOf}
 use Rattle.packing.proofs.Inverse.{no-session}
 use Rattle.answers.specs.Answers.{bothFit, endingAfter, lentLadder}
-use Rattle.pasis.specs.Client.{sessionFits, sessionAfter, asked, askedAs, owedBytes, took, tookAs, withItem, writeBytes, readBytes}
+use Rattle.pasis.specs.Client.{sessionFits, sessionAfter, asked, askedAs, owedBytes, tookBytes, tookAs, withItem, writeBytes, readBytes}
 
 -- 1 and 2 of the lengths of session and ending do not apply
 lent-none : {A : Type 0} (p : Plan) (fits : Bool) (refuse : ℕ → A) (pass : A) {z : A} → planOk p ≡ true → fits ≡ true → z ≡ pass
@@ -48,12 +48,12 @@ module _ (x s : List ℕ) (none : sessionShaped s ≡ false) (plan : planOk (pla
         rungs.go-on 1 _ _ _ (ap not plan) (rungs.go-on 2 _ _ _ (ap not l)
         (rungs.stop 9 _ _ _ (ap not (and-false (sameOperation op (sessionOf s .operation)) _ (no-session (planOf x) s d none))) refl))
 
-    pub write-nine : writeBytes x s f d i e ≡ took 9 s d i e
+    pub write-nine : writeBytes x s f d i e ≡ tookBytes 9 s d i e
     unfolding writeBytes writeReply sessionAfter endingAfter
     write-nine =
         sym (lent-none (planOf x) _ _ _ plan fits (ap (λ (o : Leaves). tookAs (withItem o i) s e) (nine Write [] (λ (k : ℕ). leaves (refused k) (sessionOf s) d) _)))
 
-    pub read-nine : readBytes x s f d i e ≡ took 9 s d i e
+    pub read-nine : readBytes x s f d i e ≡ tookBytes 9 s d i e
     unfolding readBytes readReply sessionAfter endingAfter
     read-nine =
         sym (lent-none (planOf x) _ _ _ plan fits (ap (λ (o : Outcome). tookAs o s e) (nine Read (recordLadder (planOf x) (sessionOf s) f) (λ (k : ℕ). outcome (refused k) (sessionOf s) d i) _)))

@@ -38,23 +38,23 @@ unfoldable pub sessionAfter : Said → Session → List ℕ → List ℕ
 sessionAfter a s old = cond (isRefused a) old (sessionBytes s)
 
 -- ---- opening: 1, 2, 13. a refused opening leaves the session bytes as they came
-pub record Opened : Type 0 where
+pub record OpenedBytes : Type 0 where
   pub number : ℕ
   pub session : List ℕ
 
-abbrev pub opened : ℕ → List ℕ → Opened
-opened k s = record { number = k; session = s }
+abbrev pub openedBytes : ℕ → List ℕ → OpenedBytes
+openedBytes k s = record { number = k; session = s }
 
-abbrev pub openedAs : Opens → List ℕ → Opened
-openedAs o s = opened (o .number) (cond (eqb (o .number) 0) (sessionBytes (o .session)) s)
+abbrev pub openedAs : Opens → List ℕ → OpenedBytes
+openedAs o s = openedBytes (o .number) (cond (eqb (o .number) 0) (sessionBytes (o .session)) s)
 
-unfoldable pub openBytes : Operation → List ℕ → ℕ → List ℕ → Opened
+unfoldable pub openBytes : Operation → List ℕ → ℕ → List ℕ → OpenedBytes
 openBytes op x a s =
-    first (lentLadder (planOf x) (sessionFits (length s))) (λ (k : ℕ). opened k s) (openedAs (openWith op Free (planOf x) (record { 0 = a })) s)
+    first (lentLadder (planOf x) (sessionFits (length s))) (λ (k : ℕ). openedBytes k s) (openedAs (openWith op Free (planOf x) (record { 0 = a })) s)
 
 -- operation, plan bytes, opening ask number, session bytes; then the number answered and the session bytes as the call leaves them
 pub record OpenServes (op : Operation) (x : List ℕ) (a : ℕ) (s : List ℕ) (r : ℕ) (s₂ : List ℕ) : Type 0 where
-  pub is : opened r s₂ ≡ openBytes op x a s
+  pub is : openedBytes r s₂ ≡ openBytes op x a s
 
 -- ---- the request owed: 1, 2, 9, 14, 4, 11
 pub record Asked : Type 0 where
@@ -76,36 +76,36 @@ pub record OwedServes (x s : List ℕ) (n : ℕ) (d q : List ℕ) (r : ℕ) (q�
   pub is : asked r q₂ ≡ owedBytes x s n d q
 
 -- ---- a reply: 1, 2, 9, 14, 4, 10, 11, 5, 6, 12
-pub record Took : Type 0 where
+pub record TookBytes : Type 0 where
   pub number : ℕ
   pub session : List ℕ
   pub desk : List ℕ
   pub item : List ℕ
   pub ending : List ℕ
 
-abbrev pub took : ℕ → List ℕ → List ℕ → List ℕ → List ℕ → Took
-took k s d i e = record { number = k; session = s; desk = d; item = i; ending = e }
+abbrev pub tookBytes : ℕ → List ℕ → List ℕ → List ℕ → List ℕ → TookBytes
+tookBytes k s d i e = record { number = k; session = s; desk = d; item = i; ending = e }
 
-abbrev pub tookAs : Outcome → List ℕ → List ℕ → Took
-tookAs o s e = took (answerNumber (o .said)) (sessionAfter (o .said) (o .session) s) (o .desk) (o .item) (endingAfter (o .said) e)
+abbrev pub tookAs : Outcome → List ℕ → List ℕ → TookBytes
+tookAs o s e = tookBytes (answerNumber (o .said)) (sessionAfter (o .said) (o .session) s) (o .desk) (o .item) (endingAfter (o .said) e)
 
-unfoldable pub readBytes : (x s f d i e : List ℕ) → Took
+unfoldable pub readBytes : (x s f d i e : List ℕ) → TookBytes
 readBytes x s f d i e =
-    first (lentLadder (planOf x) (bothFit (length s) (length e))) (λ (k : ℕ). took k s d i e) (tookAs (readReply (planOf x) (sessionOf s) f d i) s e)
+    first (lentLadder (planOf x) (bothFit (length s) (length e))) (λ (k : ℕ). tookBytes k s d i e) (tookAs (readReply (planOf x) (sessionOf s) f d i) s e)
 
 -- a writer's item stays
 abbrev pub withItem : Leaves → List ℕ → Outcome
 withItem l i = outcome (l .said) (l .session) (l .desk) i
 
-unfoldable pub writeBytes : (x s f d i e : List ℕ) → Took
+unfoldable pub writeBytes : (x s f d i e : List ℕ) → TookBytes
 writeBytes x s f d i e =
-    first (lentLadder (planOf x) (bothFit (length s) (length e))) (λ (k : ℕ). took k s d i e)
+    first (lentLadder (planOf x) (bothFit (length s) (length e))) (λ (k : ℕ). tookBytes k s d i e)
     (tookAs (withItem (writeReply (planOf x) (sessionOf s) f d i) i) s e)
 
 -- plan, session, reply, desk, item and ending bytes; then the number answered and the bytes as the call leaves them. A writer's item comes
 -- as a slice that cannot be written, so it is not among the outcomes.
 pub record WriteServes (x s f d i e : List ℕ) (r : ℕ) (s₂ d₂ e₂ : List ℕ) : Type 0 where
-  pub is : took r s₂ d₂ i e₂ ≡ writeBytes x s f d i e
+  pub is : tookBytes r s₂ d₂ i e₂ ≡ writeBytes x s f d i e
 
 pub record ReadServes (x s f d i e : List ℕ) (r : ℕ) (s₂ d₂ i₂ e₂ : List ℕ) : Type 0 where
-  pub is : took r s₂ d₂ i₂ e₂ ≡ readBytes x s f d i e
+  pub is : tookBytes r s₂ d₂ i₂ e₂ ≡ readBytes x s f d i e

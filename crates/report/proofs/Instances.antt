@@ -40,7 +40,7 @@ use Rattle.book.specs.Records.{timed, rising, some}
 use Rattle.book.specs.Book.{recordsFrom, header, joined, laidAs, laidOut, headed, filled, goodBook}
 use Rattle.node.specs.declared.Answer.the-variants.{Replied}
 use Rattle.node.specs.Node as node
-use Rattle.node.specs.Node.{NodeCall, served, answered, sends, replyTo, replied, zeroTime, hashFails, otherHeld, noRoom}
+use Rattle.node.specs.Node.{NodeCall, served, answered, sends, replyTo, replied, timeFails, hashFails, otherHeld, noRoom}
 use Rattle.node.specs.declared.Made.the-variants.{Fresh}
 use Rattle.node.specs.Fresh.{FreshCall, freshened}
 use Rattle.conduct.specs.History.{Call}
@@ -50,8 +50,8 @@ use Rattle.report.specs.Figure1.{INITIALIZE}
 use Rattle.report.specs.Ours.{history, bearing, responseOf, responses}
 use Rattle.conduct.specs.Turns as turns
 use Rattle.conduct.proofs.Instances.{small, small-octets}
-use Rattle.report.specs.Run.{received, Reads, closing, closedOver, EachTells, AllClose, Apart, AllApart}
-use Rattle.report.specs.WriteRun.{Writes, untimed, EachWrites}
+use Rattle.report.specs.Run.{received, ReadCalls, closing, closedOver, EachTells, AllClose, Apart, AllApart}
+use Rattle.report.specs.WriteRun.{WriteCalls, untimed, EachWrites}
 use Rattle.report.proofs.Node.{Executes, write-acts, Added, fresh-run}
 use Rattle.report.proofs.Run.{opened-read}
 use Rattle.report.proofs.Write.{opened-write}
@@ -109,7 +109,7 @@ met : ReadReplyCall plan start reply desk (0 ∷ []) (record { answer = Done (st
 unfolding left
 met = record { is = λ j. outcome (sym said-is j) (left .session) (left .desk) (left .item) }
 
-calls : Reads plan start desk (call ∷ [])
+calls : ReadCalls plan start desk (call ∷ [])
 unfolding call
 calls = (small-octets reply reply-small, met, tt)
 
@@ -165,7 +165,7 @@ write-met : WriteReplyCall plan start-to-write time-reply desk (7 ∷ []) (recor
 unfolding after-time
 write-met = record { is = λ j. leaves (sym still-is j) (after-time .session) (after-time .desk) }
 
-write-calls : Writes plan start-to-write desk (write-call ∷ [])
+write-calls : WriteCalls plan start-to-write desk (write-call ∷ [])
 unfolding write-call
 write-calls = (small-octets time-reply time-small, write-met, tt)
 
@@ -194,16 +194,16 @@ request-small : small request ≡ true
 unfolding request rec small be beOnto
 request-small = refl
 
-pub taken : node.Outcome
+pub taken : node.ServedOutcome
 taken = served plan request book (replicate 88 0)
 
 replied-is : taken .answer ≡ replied 55
-unfolding taken request book rec served first planOk tableOk columnOf all recordLength node.lengthsOk goodBook headed filled rising timed recordsFrom goodRequest goodFrame shaped forParty oneOf bodyFits zeroTime hashFails otherHeld noRoom some fragmentHash hashesOk timeZero answered sends replyTo over laidAs header joined num numFrom part be beOnto alike sha256 after compressOf addedOf roundsOf roundOf T1 T2 scheduleOf words padding bigEndian K
+unfolding taken request book rec served first planOk tableOk columnOf all recordLength node.bookReplyOk goodBook headed filled rising timed recordsFrom goodRequest goodFrame shaped forParty oneOf bodyFits timeFails hashFails otherHeld noRoom some fragmentHash hashesOk timeZero answered sends replyTo over laidAs header joined num numFrom part be beOnto alike sha256 after compressOf addedOf roundsOf roundOf T1 T2 scheduleOf words padding bigEndian K
 replied-is = refl
 
 node-met : NodeCall plan request book (replicate 88 0) (Replied 55) (taken .book) (taken .reply)
 unfolding taken
-node-met = record { is = λ j. node.outcome (sym replied-is j) (taken .book) (taken .reply) }
+node-met = record { is = λ j. node.servedOutcome (sym replied-is j) (taken .book) (taken .reply) }
 
 kind-is : kindOf request ≡ 3
 unfolding request rec num numFrom part be beOnto

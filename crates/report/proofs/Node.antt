@@ -34,7 +34,7 @@ use Rattle.book.proofs.Laid as laid
 use Rattle.book.proofs.Laws as books
 use Rattle.node.specs.declared.Answer.the-variants.{Refused, Replied}
 use Rattle.node.specs.declared.Answer.{Answer}
-use Rattle.node.specs.Node.{NodeCall, served, answered, sends, replyTo, said, replied, refused, Outcome, outcome, nodeLadder, writes, lengthsOk, zeroTime, hashFails, otherHeld, noRoom}
+use Rattle.node.specs.Node.{NodeCall, served, answered, sends, replyTo, saidServed, replied, refused, ServedOutcome, servedOutcome, nodeLadder, writes, bookReplyOk, timeFails, hashFails, otherHeld, noRoom}
 use Rattle.node.specs.declared.Made.the-variants.{Fresh}
 use Rattle.node.specs.Fresh.{FreshCall, FreshOutcome, freshOutcome, made, freshened, freshLadder}
 use Rattle.node.specs.Fresh as fresh
@@ -135,7 +135,7 @@ module _ (p : Plan) (f b y : List ℕ) (ob : Octets b) (of : Octets f) where
       ∙ rw (eq-eqb (kindOf f) 3 k)
 
   module _ (n : ℕ) (b₂ y₂ : List ℕ) (c : NodeCall p f b y (Replied n) b₂ y₂) where
-    told : rungs.None (nodeLadder p f b y) × (outcome (replied n) b₂ y₂ ≡ answered p f b y)
+    told : rungs.None (nodeLadder p f b y) × (servedOutcome (replied n) b₂ y₂ ≡ answered p f b y)
     told = calls.replied-is p f b y n b₂ y₂ c
 
     clear : calls.Clear p f b y
@@ -146,10 +146,10 @@ module _ (p : Plan) (f b y : List ℕ) (ob : Octets b) (of : Octets f) where
 
     bytes : y₂ ≡ over (frame (replyTo (kindOf f) (bodyOf f) (recordsOf p b) .kind) (frameNode f) (askOf f) (replyTo (kindOf f) (bodyOf f) (recordsOf p b) .body)) y
     unfolding answered sends
-    bytes = ap (λ (o : Outcome). o .reply) (told .1)
+    bytes = ap (λ (o : ServedOutcome). o .reply) (told .1)
 
     left : writes f ≡ false → b₂ ≡ b
-    left w = ap (λ (o : Outcome). o .book) (told .1) ∙ one.answered-book p f b y ∙ nodes.after-other p f b w
+    left w = ap (λ (o : ServedOutcome). o .book) (told .1) ∙ one.answered-book p f b y ∙ nodes.after-other p f b w
 
     read-only : (k : ℕ) → kindOf f ≡ k → eqb k 3 ≡ false → b₂ ≡ b
     read-only k e h = left (ap (λ (j : ℕ). eqb j 3) e ∙ h)
@@ -179,7 +179,7 @@ module _ (p : Plan) (f b y : List ℕ) (ob : Octets b) (of : Octets f) where
 
     -- RECEIVE_READ_PREVIOUS
     pub previous-acts : kindOf f ≡ 6 → Sends p f y y₂ (RECEIVE-READ-PREVIOUS (history p b) (stamp (bodyOf f))) × (b₂ ≡ b)
-    unfolding replyTo zeroTime timeZero
+    unfolding replyTo timeFails timeZero
     previous-acts k = (
       record {
         body = lastBelow (stamp (bodyOf f)) (recordsOf p b);
@@ -201,7 +201,7 @@ module _ (p : Plan) (f b y : List ℕ) (ob : Octets b) (of : Octets f) where
         let w : writes f ≡ true = eq-eqb (kindOf f) 3 k in
         let v : VALIDATE (family p) (nodeOf b) (tripleOf p (bodyOf f)) ≡ true = not-false _ (validates (clear .request) k ∙ clear .hash) in
         let e : recordsOf p b₂ ≡ kept (bodyOf f) (recordsOf p b) =
-        ap (λ (x : List ℕ). recordsOf p x) (ap (λ (o : Outcome). o .book) (c .is)) ∙ one.is-records (keeps.executed p f b y (clear .good) ob clear w) in
+        ap (λ (x : List ℕ). recordsOf p x) (ap (λ (o : ServedOutcome). o .book) (c .is)) ∙ one.is-records (keeps.executed p f b y (clear .good) ob clear w) in
         let q = keeps.call-keeps p f b y (clear .good) ob (Replied n) b₂ y₂ c in
         let h = keeps.call-stores p f b y (clear .good) ob n b₂ y₂ c w in
         record {
@@ -229,19 +229,19 @@ module _ (p : Plan) (f b y : List ℕ) (ob : Octets b) (of : Octets f) where
   -- frame; 5, a time of 0; 7, other bytes held at this timestamp; 8, no room
   pub record Added : Type 0 where
     pub plan : planOk p ≡ true
-    pub lengths : lengthsOk p (length b) (length y) ≡ true
+    pub lengths : bookReplyOk p (length b) (length y) ≡ true
     pub book : goodBook p b ≡ true
     pub request : goodRequest p (nodeOf b) f ≡ true
-    pub time : zeroTime f ≡ false
+    pub time : timeFails f ≡ false
     pub other : otherHeld p f b ≡ false
     pub room : noRoom p f b ≡ false
 
   pub valid-acts : Added → kindOf f ≡ 3 → VALIDATE (family p) (nodeOf b) (tripleOf p (bodyOf f)) ≡ true
-      → (a : Answer) (b₂ y₂ : List ℕ) → NodeCall p f b y a b₂ y₂ → outcome (said a) b₂ y₂ ≡ answered p f b y
+      → (a : Answer) (b₂ y₂ : List ℕ) → NodeCall p f b y a b₂ y₂ → servedOutcome (saidServed a) b₂ y₂ ≡ answered p f b y
   unfolding served
   valid-acts h k v a b₂ y₂ c =
       c .is
-      ∙ ladders.is-passed (nodeLadder p f b y) (λ (j : ℕ). outcome (refused j) b y) (answered p f b y)
+      ∙ ladders.is-passed (nodeLadder p f b y) (λ (j : ℕ). servedOutcome (refused j) b y) (answered p f b y)
       (ap not (h .plan), (ap not (h .lengths), (ap not (h .book), (ap not (h .request), (h .time, (sym (validates (h .request) k) ∙ ap not v, (h .other, (h .room, tt))))))))
 
 -- ---- a fresh book is INITIALIZE
@@ -316,7 +316,7 @@ module _ (p : Plan) (f b y : List ℕ) (ob : Octets b) (of : Octets f) (g : good
       go true w =
           let e = write-acts p f b y ob of n b₂ y₂ c (eqb-true (kindOf f) 3 w) in
           let q = keeps.executed p f b y g ob (calls.clear p f b y (calls.replied-is p f b y n b₂ y₂ c .0)) w in
-          let l : b₂ ≡ served p f b y .book = ap (λ (o : Outcome). o .book) (c .is) in
+          let l : b₂ ≡ served p f b y .book = ap (λ (o : ServedOutcome). o .book) (c .is) in
           record {
             good = keeps.call-keeps p f b y g ob (Replied n) b₂ y₂ c .good;
             node = ap (λ (x : List ℕ). nodeOf x) l ∙ one.is-node q;
@@ -325,7 +325,7 @@ module _ (p : Plan) (f b y : List ℕ) (ob : Octets b) (of : Octets f) (g : good
           }
       go false w =
           follows-still p b b₂ H g
-          (ap (λ (o : Outcome). o .book) (calls.replied-is p f b y n b₂ y₂ c .1) ∙ one.answered-book p f b y ∙ nodes.after-other p f b w) same
+          (ap (λ (o : ServedOutcome). o .book) (calls.replied-is p f b y n b₂ y₂ c .1) ∙ one.answered-book p f b y ∙ nodes.after-other p f b w) same
 
 -- OVER ANY CALLS A NODE'S HISTORY IS THE ONE THAT FIGURE 1 HOLDS after the write requests that were answered
 pub node-run : (p : Plan) (b : List ℕ) (H : List Triple) (cs : List Call) → goodBook p b ≡ true → Same (history p b) H → History b cs → OfPlan p cs

@@ -47,11 +47,11 @@ use Rattle.session.proofs.Closings.{Led, led, Lowest, lowest-are, heads-alike}
 use Rattle.report.specs.Triple.{Triple, Message, null, each, strung}
 use Rattle.report.specs.Figure2.{MAKE-CROSS-CHECKSUM, DO-WRITE}
 use Rattle.report.specs.Figure3.{READ-PREVIOUS, Decision, returned, repaired, ABORT, reading, ts-candidate, CandidateSet, CC-of, of-first-triple, VALIDATE-CANDIDATE-SET, repairs, choose, LOOP}
-use Rattle.report.specs.Ours.{family, lies, repairs as repairable, generated, generatedBy, decodedFrom, bearing, responses, tripleOf}
+use Rattle.report.specs.Ours.{family, lies, isRepairable as repairable, generated, generatedBy, decodedFrom, bearing, responses, tripleOf}
 use Rattle.report.specs.Decides.{Repairs, Reads, Decides, OneCross}
 use Rattle.report.proofs.Lists.{take-each, length-each, strung-row, strung-same, listed-same}
 use Rattle.report.proofs.Triples.{stamp-low}
-use Rattle.report.proofs.Sets.{size-is, slot-stamp, max-is, all-first, heads-first, in-responses, set-is}
+use Rattle.report.proofs.Sets.{size-is, slot-stamp, max-is, all-first, heads-first, in-responses, candidate-set-is}
 use Rattle.report.proofs.Erasure.{generated-is, laid-is, request, requests-decode}
 
 abbrev message : ℕ → Triple → Message
@@ -149,7 +149,7 @@ module _ (p : Plan) (s : Session) (d i : List ℕ) (u : Full p s d i) where
     set-cand : CandidateSet set ≡ cs
     unfolding CandidateSet
     set-cand =
-        set-is p (s .marks) d (u .desk) (u .octets) a (ts-candidate set) ha stamp-cand (omega (arith, stamp-cand, low))
+        candidate-set-is p (s .marks) d (u .desk) (u .octets) a (ts-candidate set) ha stamp-cand (omega (arith, stamp-cand, low))
         (λ k hk m z. u .cross (bearing p d k) (bearing p d a) (in-responses p (s .marks) d (p .n) k hk m)
         (in-responses p (s .marks) d (p .n) a ha (candidate (s .marks) d r (p .n) a e .marked))
         (slot-stamp p (s .marks) d k ∙ z ∙ sym (slot-stamp p (s .marks) d a)))

@@ -526,7 +526,7 @@ repairing p s d sets e k =
 
 -- EACH CALL OF A READ TELLS WHAT FIGURE 3'S READ DECIDES OF THE RESPONSE SETS OF THE ROUNDS CLOSED SO FAR, cut at W
 pub read-run : (p : Plan) (s : Session) (d : List ℕ) (sets : List (List Message)) (cs : List turns.Turn) → Keeps p s d sets → AllClose p sets
-    → run.Reads p s d cs → AllApart (closedOver p s d sets cs) → EachTells p s d sets cs × AllClose p (closedOver p s d sets cs)
+    → run.ReadCalls p s d cs → AllApart (closedOver p s d sets cs) → EachTells p s d sets cs × AllClose p (closedOver p s d sets cs)
 read-run p s d sets [] k sz r a = (tt, sz)
 read-run p s d sets (c ∷ cs) k sz r a =
     let q : Leaves p (outcome (saidOf (c .took .answer)) (c .took .session) (c .deskLeft) (c .itemLeft)) (closing p s (c .reply) d (length (c .item)) sets) =
@@ -537,7 +537,7 @@ read-run p s d sets (c ∷ cs) k sz r a =
 
 -- FROM OPENING: no round is closed yet
 pub opened-read : (p : Plan) (a : Ask) (r : Opened) (d : List ℕ) (cs : List turns.Turn) → OpenCall Read p a r → r .answer ≡ Accepted
-    → length d ≡ p .n * recordLength p → Octets d → run.Reads p (r .session) d cs
+    → length d ≡ p .n * recordLength p → Octets d → run.ReadCalls p (r .session) d cs
     → AllApart (closedOver p (r .session) d [] cs) → EachTells p (r .session) d [] cs × AllClose p (closedOver p (r .session) d [] cs)
 opened-read p a r d cs call e ld od h apart = read-run p (r .session) d [] cs start tt h apart
   where

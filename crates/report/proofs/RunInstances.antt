@@ -33,8 +33,8 @@ use Rattle.conduct.proofs.WriteInstance as writes
 use Rattle.report.specs.Triple.{Message}
 use Rattle.report.specs.Figure1.{initial}
 use Rattle.report.specs.Ours.{bearing, responseOf, responses}
-use Rattle.report.specs.Run.{Reads, closing, closedOver, EachTells, AllClose, Apart, AllApart}
-use Rattle.report.specs.WriteRun.{Writes, untimed, EachWrites}
+use Rattle.report.specs.Run.{ReadCalls, closing, closedOver, EachTells, AllClose, Apart, AllApart}
+use Rattle.report.specs.WriteRun.{WriteCalls, untimed, EachWrites}
 use Rattle.report.proofs.Run.{opened-read}
 use Rattle.report.proofs.Write.{opened-write}
 
@@ -42,7 +42,7 @@ use Rattle.report.proofs.Write.{opened-write}
 abbrev pub read-calls : List Turn
 read-calls = reads.call-1 ∷ reads.call-2 ∷ reads.call-3 ∷ reads.call-4 ∷ reads.call-5 ∷ reads.call-6 ∷ []
 
-read-met : Reads plan reads.start desk read-calls
+read-met : ReadCalls plan reads.start desk read-calls
 read-met =
     let b = reads.replies-so in
     let c = reads.calls in
@@ -149,5 +149,5 @@ write-calls = writes.call-1 ∷ writes.call-2 ∷ writes.call-3 ∷ writes.call-
 pub write-done-so : EachWrites plan writes.start desk untimed write-calls
 write-done-so = opened-write plan ask writes.opened desk write-calls writes.opened-so refl write-met
   where
-    write-met : Writes plan writes.start desk write-calls
+    write-met : WriteCalls plan writes.start desk write-calls
     write-met = let b = writes.calls in (b .0, writes.met-1, (b .2 .0, writes.met-2, (b .2 .2 .0, writes.met-3, (b .2 .2 .2 .0, writes.met-4, tt))))

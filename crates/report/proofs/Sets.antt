@@ -1,5 +1,5 @@
 -- Marks and desk as a response set: its size is the number of nodes heard (size-is), its greatest timestamp is the candidate's (max-is), and
--- those that bear it are the candidate's set, where one timestamp is one cross checksum (set-is). Assumes nothing.
+-- those that bear it are the candidate's set, where one timestamp is one cross checksum (candidate-set-is). Assumes nothing.
 use Prim.Native.Nat.{ℕ, zero, suc, _+_, _*_, _≤_, _<_}
 use mathlib.Core.Path.{_≡_, refl, sym, ap, ap₂, _∙_, subst}
 use mathlib.Core.Bool.{Bool, true, false, cond}
@@ -211,8 +211,8 @@ module _ (p : Plan) (ms : List Mark) (d : List ℕ) where
           go true = ap (λ (l : List Message). l ++ (bearing p d n ∷ [])) ih ∙ sym (each-append (bearing p d) qs (n ∷ []))
           go false = append-nil (bears (responses p ms d n)) ∙ ih
 
-      pub set-is : (n : ℕ) → n ≤ p .n → bears (responses p ms d n) ≡ each (bearing p d) (setOf ms d (recordLength p) (40 + 32 * p .n) a n)
+      pub candidate-set-is : (n : ℕ) → n ≤ p .n → bears (responses p ms d n) ≡ each (bearing p d) (setOf ms d (recordLength p) (40 + 32 * p .n) a n)
       unfolding responses setOf
-      set-is zero h = unfold those each in refl
-      set-is (suc n) h =
-          set-step n (setOf ms d (recordLength p) (40 + 32 * p .n) a n) (markOf ms n) refl (omega arith) (set-is n (omega arith))
+      candidate-set-is zero h = unfold those each in refl
+      candidate-set-is (suc n) h =
+          set-step n (setOf ms d (recordLength p) (40 + 32 * p .n) a n) (markOf ms n) refl (omega arith) (candidate-set-is n (omega arith))

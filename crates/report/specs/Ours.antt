@@ -35,9 +35,9 @@ use Rattle.report.specs.Figure1.{initial}
 use Rattle.report.specs.Figure3.{Command, READ-LATEST, READ-PREVIOUS, of-first-triple}
 
 -- ---- the member
-abbrev pub repairs : Member → Bool
-repairs Repairable = true
-repairs NonRepair = false
+abbrev pub isRepairable : Member → Bool
+isRepairable Repairable = true
+isRepairable NonRepair = false
 
 abbrev pub lies : Clients → Bool
 lies Crash = false
@@ -79,7 +79,7 @@ family p =
       t = p .t;
       COMPLETE = complete p;
       INCOMPLETE = incomplete p;
-      Repair = repairs (p .member);
+      Repair = isRepairable (p .member);
       ByzantineClients = lies (p .clients);
       HASH = sha256;
       entry = λ cross node. entryOf node cross;

@@ -1,9 +1,9 @@
 -- Whole runs of a node and of a read: calls one after another, each on the book, or the session and the desk, that the one before it handed
 -- back; and what the figures are given from them. Writes are in WriteRun.
 --   OfPlan received      the calls of a node under one plan; what Figure 1 makes of them
---   Reads closing closedOver     the calls of a read; the response sets of its closed rounds, the last one first
+--   ReadCalls closing closedOver     the calls of a read; the response sets of its closed rounds, the last one first
 --   Tells EachTells      what an answer says, and that Figure 3's READ says it of the rounds closed so far; the same of each call of a run
---   Gathers Closes AllClose      what DO_READ gathered; so is each closed set, and it has N-t responses
+--   Gathers IsGathered AllClose      what DO_READ gathered; so is each closed set, and it has N-t responses
 --   Apart AllApart       (01) no two cross checksums of a response set share a hash; so of each closed set
 -- Assumes nothing.
 use Prim.{Unit}
@@ -60,10 +60,10 @@ received p S History (c ∷ cs) =
 -- ---- a client
 -- ---- reading
 -- each call met its contract; a frame is bytes
-abbrev pub Reads : Plan → Session → List ℕ → List Turn → Type 0
-Reads p s d [] = Unit {0}
-Reads p s d (c ∷ cs) =
-    Octets (c .reply) × ReadReplyCall p s (c .reply) d (c .item) (c .took) (c .deskLeft) (c .itemLeft) × Reads p (c .took .session) (c .deskLeft) cs
+abbrev pub ReadCalls : Plan → Session → List ℕ → List Turn → Type 0
+ReadCalls p s d [] = Unit {0}
+ReadCalls p s d (c ∷ cs) =
+    Octets (c .reply) × ReadReplyCall p s (c .reply) d (c .item) (c .took) (c .deskLeft) (c .itemLeft) × ReadCalls p (c .took .session) (c .deskLeft) cs
 
 -- a round that has N-t replies is closed
 abbrev pub closedBy : Plan → Session → List ℕ → List (List Message) → List (List Message)
@@ -123,7 +123,7 @@ pub record Gathers (p : Plan) (command : Command) (set : List Message) : Type 0 
   pub is : Same set (DO-READ (family p) command received)
 
 -- a closed set: READ was to send a command, DO_READ gathered the set for it, and it has N - t responses (line 16)
-pub record Closes (p : Plan) (set : List Message) (before : List (List Message)) : Type 0 where
+pub record IsGathered (p : Plan) (set : List Message) (before : List (List Message)) : Type 0 where
   pub command : Command
   pub asked : READ (family p) before ≡ reading command
   pub gathered : Gathers p command set
@@ -131,7 +131,7 @@ pub record Closes (p : Plan) (set : List Message) (before : List (List Message))
 
 abbrev pub AllClose : Plan → List (List Message) → Type 0
 AllClose p [] = Unit {0}
-AllClose p (set ∷ before) = Closes p set before × AllClose p before
+AllClose p (set ∷ before) = IsGathered p set before × AllClose p before
 
 -- of these strings, no two with one hash
 abbrev pub Apart : List Message → Type 0

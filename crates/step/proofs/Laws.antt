@@ -31,7 +31,7 @@ use Rattle.frame.proofs.Built.{length-frame}
 use Rattle.book.specs.Book.{nodeOf, recordsOf}
 use Rattle.node.specs.declared.Answer.{Answer}
 use Rattle.node.specs.declared.Answer.the-variants.{Refused, Replied}
-use Rattle.node.specs.Node.{NodeCall, Said, said, refused, replied, Outcome, outcome, Reply, replyTo, sends, bookAfter, answered, served, nodeLadder}
+use Rattle.node.specs.Node.{NodeCall, SaidServed, saidServed, refused, replied, ServedOutcome, servedOutcome, Reply, replyTo, sends, bookAfter, answered, served, nodeLadder}
 use Rattle.io.specs.Counts.{Counts}
 use Rattle.io.proofs.Counting.{counts}
 use Rattle.step.specs.declared.Next.{Next}
@@ -41,13 +41,13 @@ use Rattle.step.specs.declared.Due.the-variants as due
 use Rattle.step.specs.Step.{asksToWrite, answerOf, lengthOf, Looked, Stepped, dueAfter}
 
 module _ (p : Plan) (f b y : List ℕ) where
-  by-verdict : (P : Outcome → Type 0) → ((k : ℕ) → P (outcome (refused k) b y)) → (rungs.None (nodeLadder p f b y) → P (answered p f b y)) → P (served p f b y)
+  by-verdict : (P : ServedOutcome → Type 0) → ((k : ℕ) → P (servedOutcome (refused k) b y)) → (rungs.None (nodeLadder p f b y) → P (answered p f b y)) → P (served p f b y)
   unfolding served
   by-verdict P r a =
-      subst P (sym (rungs.first-read (nodeLadder p f b y) (λ (k : ℕ). outcome (refused k) b y) (answered p f b y)))
+      subst P (sym (rungs.first-read (nodeLadder p f b y) (λ (k : ℕ). servedOutcome (refused k) b y) (answered p f b y)))
       (go (first (nodeLadder p f b y) rungs.refused rungs.passes) refl)
     where
-      go : (v : rungs.Came) → first (nodeLadder p f b y) rungs.refused rungs.passes ≡ v → P (rungs.read v (λ (k : ℕ). outcome (refused k) b y) (answered p f b y))
+      go : (v : rungs.Came) → first (nodeLadder p f b y) rungs.refused rungs.passes ≡ v → P (rungs.read v (λ (k : ℕ). servedOutcome (refused k) b y) (answered p f b y))
       go (rungs.refused k) e = r k
       go rungs.passes e = a (rungs.passes-is (nodeLadder p f b y) e)
 
@@ -59,37 +59,37 @@ unfolding over
 over-long new old = let e = length-append new (drop (length new) old) in omega (arith, e)
 
 -- the reply r, written over y
-reply-fits : (f : List ℕ) (r : Reply) (b y b₂ y₂ : List ℕ) (k : ℕ) → outcome (replied k) b₂ y₂ ≡ sends f r b y → k ≤ length y₂
+reply-fits : (f : List ℕ) (r : Reply) (b y b₂ y₂ : List ℕ) (k : ℕ) → servedOutcome (replied k) b₂ y₂ ≡ sends f r b y → k ≤ length y₂
 unfolding sends
 reply-fits f r b y b₂ y₂ k h =
-    let s : replied k ≡ replied (15 + length (r .body)) = ap (λ (o : Outcome). o .answer) h in
+    let s : replied k ≡ replied (15 + length (r .body)) = ap (λ (o : ServedOutcome). o .answer) h in
     let e : k ≡ 15 + length (r .body) = cc in
     let new = frame (r .kind) (frameNode f) (askOf f) (r .body) in
-    let t : y₂ ≡ over new y = ap (λ (o : Outcome). o .reply) h in
+    let t : y₂ ≡ over new y = ap (λ (o : ServedOutcome). o .reply) h in
     let l : length new ≡ 15 + length (r .body) = length-frame (r .kind) (frameNode f) (askOf f) (r .body) in
     subst (λ (z : List ℕ). k ≤ length z) (sym t) (omega (arith, over-long new y, l, e))
 
-reply-is : (f : List ℕ) (r : Reply) (b y b₂ y₂ : List ℕ) (k : ℕ) → outcome (refused k) b₂ y₂ ≡ sends f r b y → ⊥
+reply-is : (f : List ℕ) (r : Reply) (b y b₂ y₂ : List ℕ) (k : ℕ) → servedOutcome (refused k) b₂ y₂ ≡ sends f r b y → ⊥
 unfolding sends
-reply-is f r b y b₂ y₂ k h = no-reply (15 + length (r .body)) k (sym (ap (λ (o : Outcome). o .answer) h))
+reply-is f r b y b₂ y₂ k h = no-reply (15 + length (r .body)) k (sym (ap (λ (o : ServedOutcome). o .answer) h))
 
-reply-book : (f : List ℕ) (r : Reply) (s : Said) (b y b₂ y₂ : List ℕ) → outcome s b₂ y₂ ≡ sends f r b y → b₂ ≡ b
+reply-book : (f : List ℕ) (r : Reply) (s : SaidServed) (b y b₂ y₂ : List ℕ) → servedOutcome s b₂ y₂ ≡ sends f r b y → b₂ ≡ b
 unfolding sends
-reply-book f r s b y b₂ y₂ h = ap (λ (o : Outcome). o .book) h
+reply-book f r s b y b₂ y₂ h = ap (λ (o : ServedOutcome). o .book) h
 
 fits : (p : Plan) (f b y : List ℕ) (k : ℕ) (b₂ y₂ : List ℕ) → NodeCall p f b y (Replied k) b₂ y₂ → k ≤ length y₂
 unfolding answered
 fits p f b y k b₂ y₂ c =
-    by-verdict p f b y (λ (o : Outcome). outcome (replied k) b₂ y₂ ≡ o → k ≤ length y₂)
-    (λ j h. absurd (no-reply k j (ap (λ (o : Outcome). o .answer) h)))
+    by-verdict p f b y (λ (o : ServedOutcome). servedOutcome (replied k) b₂ y₂ ≡ o → k ≤ length y₂)
+    (λ j h. absurd (no-reply k j (ap (λ (o : ServedOutcome). o .answer) h)))
     (λ n h. reply-fits f (replyTo (kindOf f) (bodyOf f) (recordsOf p b)) (bookAfter p f b) y b₂ y₂ k h)
     (c .is)
 
 refused-stays : (p : Plan) (f b y : List ℕ) (r : Refusal) (b₂ y₂ : List ℕ) → NodeCall p f b y (Refused r) b₂ y₂ → b₂ ≡ b
 unfolding answered
 refused-stays p f b y r b₂ y₂ c =
-    by-verdict p f b y (λ (o : Outcome). outcome (refused (refusalNumber r)) b₂ y₂ ≡ o → b₂ ≡ b)
-    (λ j h. ap (λ (o : Outcome). o .book) h)
+    by-verdict p f b y (λ (o : ServedOutcome). servedOutcome (refused (refusalNumber r)) b₂ y₂ ≡ o → b₂ ≡ b)
+    (λ j h. ap (λ (o : ServedOutcome). o .book) h)
     (λ n h. absurd (reply-is f (replyTo (kindOf f) (bodyOf f) (recordsOf p b)) (bookAfter p f b) y b₂ y₂ (refusalNumber r) h))
     (c .is)
 
@@ -105,12 +105,12 @@ book-stays p f b e = rw e
 look-stays : (p : Plan) (f b y : List ℕ) (a : Answer) (b₂ y₂ : List ℕ) → asksToWrite f ≡ false → NodeCall p f b y a b₂ y₂ → b₂ ≡ b
 unfolding answered
 look-stays p f b y a b₂ y₂ w c =
-    by-verdict p f b y (λ (o : Outcome). outcome (said a) b₂ y₂ ≡ o → b₂ ≡ b)
-    (λ j h. ap (λ (o : Outcome). o .book) h)
+    by-verdict p f b y (λ (o : ServedOutcome). servedOutcome (saidServed a) b₂ y₂ ≡ o → b₂ ≡ b)
+    (λ j h. ap (λ (o : ServedOutcome). o .book) h)
     (λ n h.
     let q = request-is p (nodeOf b) f (not-false _ (n .1 .1 .1 .0)) in
     let e : eqb (kindOf f) 3 ≡ false = sym (long-enough f (q .frame-is .low)) ∙ w in
-    reply-book f (replyTo (kindOf f) (bodyOf f) (recordsOf p b)) (said a) (bookAfter p f b) y b₂ y₂ h ∙ book-stays p f b e)
+    reply-book f (replyTo (kindOf f) (bodyOf f) (recordsOf p b)) (saidServed a) (bookAfter p f b) y b₂ y₂ h ∙ book-stays p f b e)
     (c .is)
 
 -- ---- the comparison

@@ -86,17 +86,18 @@ const K: [u32; 64] = [
     0xc671_78f2,
 ];
 
-// 4.1.2: the six functions of words.
+// 4.1.2: the six functions of words. Ch and Maj are worked out with fewer operations than the standard writes them with: what y and z
+// share need not be looked at.
 fn ch(x: u32, y: u32, z: u32) -> u32
     ensures { λ r. ⌜ r ≡ Ch x y z ⌝ }
 {
-    (x & y) ^ (!x & z)
+    z ^ (x & (y ^ z))
 }
 
 fn maj(x: u32, y: u32, z: u32) -> u32
     ensures { λ r. ⌜ r ≡ Maj x y z ⌝ }
 {
-    (x & y) ^ (x & z) ^ (y & z)
+    y ^ ((x ^ y) & (y ^ z))
 }
 
 fn big0(x: u32) -> u32

@@ -26,7 +26,7 @@ use Rattle.text.specs.declared.Numeral.{Numeral}
 use Rattle.text.specs.declared.Numeral.the-variants.{Is, Not}
 use Rattle.text.specs.declared.Reading.{Reading}
 use Rattle.text.specs.declared.Reading.the-variants.{Good, Wrong}
-use Rattle.text.specs.Lines.{blank, until, past, linesOf, wordsOf, afterName, chosen, written, valueOf, isNot, listOf, wrongIn, givenBy, planOf, readLines, planText}
+use Rattle.text.specs.Lines.{blank, until, past, linesOf, wordsOf, afterName, chosen, written, valueOf, isNot, listOf, wrongIn, givenBy, planFrom, readLines, planText}
 use Rattle.text.proofs.Words.{from-none, rest-is}
 
 -- ---- a blank
@@ -200,9 +200,9 @@ module _ (s vs : List ℕ) (at k lines : ℕ) (here : readLines lines (take k vs
   pub end-short : length s ≤ at → k < 9 → Wrong lines k ≡ planText s
   end-short h n = sym (short-end n) ∙ ended h
 
-  good-end : 9 ≤ k → take k vs ≡ vs → readLines lines (take k vs) [] ≡ Good (planOf vs)
+  good-end : 9 ≤ k → take k vs ≡ vs → readLines lines (take k vs) [] ≡ Good (planFrom vs)
   unfolding readLines
   good-end h e = rw (count, le-ltb k 9 h, e)
 
-  pub end-good : length s ≤ at → 9 ≤ k → length vs ≡ 9 → (p : Plan) → p ≡ planOf vs → Good p ≡ planText s
+  pub end-good : length s ≤ at → 9 ≤ k → length vs ≡ 9 → (p : Plan) → p ≡ planFrom vs → Good p ≡ planText s
   end-good h n e p q = ap Good q ∙ sym (good-end n (take-all k vs (omega arith))) ∙ ended h

@@ -6,7 +6,7 @@
 --   Form forms           how a value is written; the nine
 --   valueOf              value k of the nine, as the words of a line give it
 --   wrongIn givenBy      whether the words of a line are wrong where value k belongs; the value that they give, if they give one
---   planOf               which value goes to which field
+--   planFrom               which value goes to which field
 --   readLines planText   what a text says: a plan, or the line and the value that is not to be had there
 -- Assumes nothing.
 use Prim.Native.Nat.{ℕ, _+_}
@@ -113,14 +113,14 @@ givenBy k [] = []
 givenBy k (c ∷ w) = listOf (valueOf k (c ∷ w))
 
 -- ---- a text
-unfoldable pub memberOf : ℕ → Member
-memberOf x = cond (eqb x 0) Repairable NonRepair
+unfoldable pub memberFrom : ℕ → Member
+memberFrom x = cond (eqb x 0) Repairable NonRepair
 
-unfoldable pub clientsOf : ℕ → Clients
-clientsOf x = cond (eqb x 0) Crash Byzantine
+unfoldable pub clientsFrom : ℕ → Clients
+clientsFrom x = cond (eqb x 0) Crash Byzantine
 
-unfoldable pub planOf : List ℕ → Plan
-planOf v =
+unfoldable pub planFrom : List ℕ → Plan
+planFrom v =
     record {
       n = getD v 0 0;
       t = getD v 1 0;
@@ -128,14 +128,14 @@ planOf v =
       q = getD v 3 0;
       m = getD v 4 0;
       f = getD v 5 0;
-      member = memberOf (getD v 6 0);
-      clients = clientsOf (getD v 7 0);
+      member = memberFrom (getD v 6 0);
+      clients = clientsFrom (getD v 7 0);
       w = getD v 8 0;
     }
 
 -- the lines that are left, after n lines that gave the values v
 unfoldable pub readLines : ℕ → List ℕ → List (List ℕ) → Reading
-readLines n v [] = cond (ltb (length v) 9) (Wrong n (length v)) (Good (planOf v))
+readLines n v [] = cond (ltb (length v) 9) (Wrong n (length v)) (Good (planFrom v))
 readLines n v (l ∷ ls) =
     cond (wrongIn (length v) (wordsOf l)) (Wrong (n + 1) (length v)) (readLines (n + 1) (v ++ givenBy (length v) (wordsOf l)) ls)
 

@@ -18,7 +18,7 @@ ghost use mathlib.Core.List.{_∷_, _++_};
 ghost use lib.ListN.{length, take, drop};
 ghost use Rattle.octets.specs.Bytes.{part, alike};
 ghost use Rattle.text.specs.Text.{numeralOf};
-ghost use Rattle.text.specs.Lines.{blank, until, past, chop, linesOf, wordsOf, afterName, chosen, valueOf, wrongIn, givenBy, memberOf, clientsOf, planOf, planText};
+ghost use Rattle.text.specs.Lines.{blank, until, past, chop, linesOf, wordsOf, afterName, chosen, valueOf, wrongIn, givenBy, memberFrom, clientsFrom, planFrom, planText};
 use terms::Clients;
 use terms::Member;
 use terms::Plan;
@@ -306,7 +306,7 @@ pub fn read_plan(s: &[u8]) -> Reading
 }
 
 fn member(x: u64) -> Member
-    ensures { λ r. ⌜ r ≡ memberOf x ⌝ }
+    ensures { λ r. ⌜ r ≡ memberFrom x ⌝ }
 {
     match x {
         0 => Member::Repairable,
@@ -315,7 +315,7 @@ fn member(x: u64) -> Member
 }
 
 fn clients(x: u64) -> Clients
-    ensures { λ r. ⌜ r ≡ clientsOf x ⌝ }
+    ensures { λ r. ⌜ r ≡ clientsFrom x ⌝ }
 {
     match x {
         0 => Clients::Crash,
@@ -325,7 +325,7 @@ fn clients(x: u64) -> Clients
 
 // The plan of nine values.
 fn plan_of(v: &[u64; 9]) -> Plan
-    ensures { λ p. ⌜ p ≡ planOf (now (v .entry)) ⌝ }
+    ensures { λ p. ⌜ p ≡ planFrom (now (v .entry)) ⌝ }
 {
     let who = member(v[6]);
     let what = clients(v[7]);

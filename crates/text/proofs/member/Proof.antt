@@ -2,16 +2,16 @@
 use mathlib.Core.Path.{_≡_}
 use native.Mathlib.Omega.{arith}
 use borrow.Author.Tests.{eq-eqb, ne-eqb}
-use Rattle.text.specs.Lines.{memberOf}
+use Rattle.text.specs.Lines.{memberFrom}
 use Rattle.text.proofs.member.Statement.{statement}
 use Rattle.text.proofs.member.Tie as tie
 
 returns : tie.Need-returns
-unfolding memberOf
+unfolding memberFrom
 returns c = rw (eq-eqb (c .before .args .x) 0 (omega arith))
 
 returns-2 : tie.Need-returns-2
-unfolding memberOf
+unfolding memberFrom
 returns-2 c = rw (ne-eqb (c .before .args .x) 0 (λ (e : c .before .args .x ≡ 0). omega arith))
 
 pub member-spec : {M : Type 1} → statement M

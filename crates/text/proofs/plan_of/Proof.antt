@@ -1,5 +1,5 @@
 -- `text::plan_of` puts each value into its field. Assumes nothing.
-use Rattle.text.specs.Lines.{planOf}
+use Rattle.text.specs.Lines.{planFrom}
 use borrow.Author.Needs.{needs}
 use Rattle.text.proofs.plan_of.Statement.{statement}
 use Rattle.text.proofs.plan_of.Tie as tie
@@ -38,7 +38,7 @@ element-copy-out-t28 : tie.Need-element-copy-out-t28
 element-copy-out-t28 c = search needs
 
 returns : tie.Need-returns
-unfolding planOf
+unfolding planFrom
 returns c = let w = c .before .before .before .before .before .before .before .before .before .member .ensures in let z = c .before .before .before .before .before .before .before .clients .ensures in cc
 
 pub plan-of-spec : {M : Type 1} → statement M

@@ -21,7 +21,7 @@ use Rattle.fragments.proofs.Interp.{all-map, value-ext}
 use Rattle.record.specs.Desk.{fragmentIn}
 use Rattle.record.proofs.Records.{fragment-at}
 use Rattle.recover.proofs.Filled.{each-source}
-use Rattle.report.specs.Triple.{Message, each, listed, strung}
+use Rattle.report.specs.Triple.{Message, each, upTo, strung}
 use Rattle.report.specs.Figure3.{of-first-triple}
 use Rattle.report.specs.Ours.{numbers, fragmentFrom, generatedBy, generated, decodedFrom, bearing}
 use Rattle.report.proofs.Lists.{each-append, take-listed, strung-same}
@@ -113,30 +113,30 @@ module _ (D : ℕ → List ℕ) (T : ℕ) (C : List ℕ) where
       go true e = refl
       go false e = e
 
-  none-from : (n k : ℕ) → n ≤ k → among k (numbers (listed request n)) ≡ false
-  unfolding listed
+  none-from : (n k : ℕ) → n ≤ k → among k (numbers (upTo request n)) ≡ false
+  unfolding upTo
   none-from zero k h = unfold each among in refl
   none-from (suc n) k h =
-      ap (among k) (each-append (λ (x : Message). x .S) (listed request n) (request n ∷ [])) ∙ among-append k (numbers (listed request n)) _
+      ap (among k) (each-append (λ (x : Message). x .S) (upTo request n) (request n ∷ [])) ∙ among-append k (numbers (upTo request n)) _
       ∙ rw (none-from n k (omega arith)) (last n k (omega arith))
     where
       last : (n k : ℕ) → (n ≡ k → ⊥) → among k (numbers (request n ∷ [])) ≡ false
       last n k q = unfold each among in rw (ne-eqb n k q)
 
   record Has (n k : ℕ) : Type 0 where
-    is-there : among k (numbers (listed request n)) ≡ true
-    fragment : fragmentFrom (listed request n) k ≡ D k
+    is-there : among k (numbers (upTo request n)) ≡ true
+    fragment : fragmentFrom (upTo request n) k ≡ D k
 
   one-there : (n k : ℕ) → k < n → Has n k
-  unfolding listed
+  unfolding upTo
   one-there zero k h = absurd (omega arith)
   one-there (suc n) k h = go (ℕ-discrete k n) (λ l. one-there n k l)
     where
-      a : among k (numbers (listed request n ++ (request n ∷ []))) ≡ cond (among k (numbers (listed request n))) true (among k (numbers (request n ∷ [])))
-      a = ap (among k) (each-append (λ (x : Message). x .S) (listed request n) (request n ∷ [])) ∙ among-append k (numbers (listed request n)) _
+      a : among k (numbers (upTo request n ++ (request n ∷ []))) ≡ cond (among k (numbers (upTo request n))) true (among k (numbers (request n ∷ [])))
+      a = ap (among k) (each-append (λ (x : Message). x .S) (upTo request n) (request n ∷ [])) ∙ among-append k (numbers (upTo request n)) _
 
-      b : fragmentFrom (listed request n ++ (request n ∷ [])) k ≡ cond (among k (numbers (listed request n))) (fragmentFrom (listed request n) k) (fragmentFrom (request n ∷ []) k)
-      b = from-append k (listed request n) (request n ∷ [])
+      b : fragmentFrom (upTo request n ++ (request n ∷ [])) k ≡ cond (among k (numbers (upTo request n))) (fragmentFrom (upTo request n) k) (fragmentFrom (request n ∷ []) k)
+      b = from-append k (upTo request n) (request n ∷ [])
 
       go : Dec (k ≡ n) → (k < n → Has n k) → Has (suc n) k
       go (no q) more =
@@ -157,14 +157,14 @@ module _ (D : ℕ → List ℕ) (T : ℕ) (C : List ℕ) where
   not-first-append [] m e g = g
   not-first-append (x ∷ l) m e g = e
 
-  not-first : 1 ≤ T → (n : ℕ) → of-first-triple (listed request n) ≡ false
-  unfolding listed of-first-triple
+  not-first : 1 ≤ T → (n : ℕ) → of-first-triple (upTo request n) ≡ false
+  unfolding upTo of-first-triple
   not-first h zero = refl
-  not-first h (suc n) = not-first-append (listed request n) (request n ∷ []) (not-first h n) (ne-eqb T 0 (λ z. omega arith))
+  not-first h (suc n) = not-first-append (upTo request n) (request n ∷ []) (not-first h n) (ne-eqb T 0 (λ z. omega arith))
 
-  pub requests-decode : (p : Plan) → 1 ≤ T → p .m ≤ p .n → decodedFrom p (listed request (p .n)) ≡ strung D (p .m)
+  pub requests-decode : (p : Plan) → 1 ≤ T → p .m ≤ p .n → decodedFrom p (upTo request (p .n)) ≡ strung D (p .m)
   unfolding decodedFrom generatedBy
   requests-decode p h l =
       rw (not-first h (p .n))
-      (strung-same (generated p (listed request (p .n))) D (p .m)
+      (strung-same (generated p (upTo request (p .n))) D (p .m)
       (λ k hk. rw (take-listed request (p .m) (p .n) l) (let u = one-there (p .m) k hk in rw (u .is-there) (u .fragment))))

@@ -7,7 +7,7 @@ use mathlib.Core.Bool.{Bool, true, false}
 use mathlib.Core.List.{List, [], _∷_}
 use lib.ListN.{length}
 use Rattle.octets.specs.Bytes.{alike}
-use Rattle.report.specs.Triple.{Triple, Message, null, those, each, MAX, listed, strung, Family}
+use Rattle.report.specs.Triple.{Triple, Message, null, suchThat, each, MAX, upTo, strung, Family}
 use Rattle.report.specs.Figure1 as node
 use Rattle.report.specs.Figure1.{initial, RECEIVE-TIME-REQUEST, RECEIVE-WRITE-REQUEST, Latest, RECEIVE-READ-LATEST, PreHistory, RECEIVE-READ-PREVIOUS}
 use Rattle.report.specs.Figure2.{READ-TIMESTAMP, MAKE-CROSS-CHECKSUM, DO-WRITE}
@@ -48,15 +48,15 @@ unfolding RECEIVE-TIME-REQUEST each MAX
 time-9 = refl
 
 latest-9 : RECEIVE-READ-LATEST held ≡ at 9 ∷ []
-unfolding RECEIVE-READ-LATEST Latest those each MAX
+unfolding RECEIVE-READ-LATEST Latest suchThat each MAX
 latest-9 = refl
 
 previous-5 : RECEIVE-READ-PREVIOUS held 9 ≡ at 5 ∷ []
-unfolding RECEIVE-READ-PREVIOUS PreHistory Latest those each MAX
+unfolding RECEIVE-READ-PREVIOUS PreHistory Latest suchThat each MAX
 previous-5 = refl
 
 previous-first : RECEIVE-READ-PREVIOUS held 5 ≡ initial ∷ []
-unfolding RECEIVE-READ-PREVIOUS PreHistory Latest those each MAX
+unfolding RECEIVE-READ-PREVIOUS PreHistory Latest suchThat each MAX
 previous-first = refl
 
 -- a fragment of two bytes has another hash than the cross checksum says
@@ -91,38 +91,38 @@ first : ℕ → Message
 first S = record { S = S; Response = initial }
 
 four-complete : LOOP (toy true false) four ≡ returned 9 (4 ∷ [])
-unfolding LOOP CandidateSet ts-candidate VALIDATE-CANDIDATE-SET those each MAX toy
+unfolding LOOP CandidateSet ts-candidate VALIDATE-CANDIDATE-SET suchThat each MAX toy
 four-complete = refl
 
 three-repaired : LOOP (toy true false) three ≡ repaired (DO-WRITE (toy true false) (λ k. k ∷ []) 9 (1 ∷ [])) 9 (5 ∷ [])
-unfolding LOOP CandidateSet ts-candidate VALIDATE-CANDIDATE-SET CC-of those each MAX DO-WRITE listed toy
+unfolding LOOP CandidateSet ts-candidate VALIDATE-CANDIDATE-SET CC-of suchThat each MAX DO-WRITE upTo toy
 three-repaired = refl
 
 two-repaired : LOOP (toy true false) two ≡ repaired (DO-WRITE (toy true false) (λ k. k ∷ []) 9 (1 ∷ [])) 9 (5 ∷ [])
-unfolding LOOP CandidateSet ts-candidate VALIDATE-CANDIDATE-SET CC-of those each MAX DO-WRITE listed toy
+unfolding LOOP CandidateSet ts-candidate VALIDATE-CANDIDATE-SET CC-of suchThat each MAX DO-WRITE upTo toy
 two-repaired = refl
 
 three-aborted : LOOP (toy false false) three ≡ ABORT
-unfolding LOOP CandidateSet ts-candidate those each MAX toy
+unfolding LOOP CandidateSet ts-candidate suchThat each MAX toy
 three-aborted = refl
 
 one-incomplete : LOOP (toy false false) one ≡ reading (READ-PREVIOUS 9)
-unfolding LOOP CandidateSet ts-candidate those each MAX toy
+unfolding LOOP CandidateSet ts-candidate suchThat each MAX toy
 one-incomplete = refl
 
 -- five hashes of fragments of one byte are not the cross checksum that says it once
 four-invalid : LOOP (toy true true) four ≡ reading (READ-PREVIOUS 9)
-unfolding LOOP CandidateSet ts-candidate VALIDATE-CANDIDATE-SET of-first-triple MAKE-CROSS-CHECKSUM strung CC-of alike those each MAX toy
+unfolding LOOP CandidateSet ts-candidate VALIDATE-CANDIDATE-SET of-first-triple MAKE-CROSS-CHECKSUM strung CC-of alike suchThat each MAX toy
 four-invalid = refl
 
 -- the first triple has COMPLETE responses and is returned, also where clients may be Byzantine
 never-written : LOOP (toy true true) (first 0 ∷ first 1 ∷ first 2 ∷ first 4 ∷ []) ≡ returned 0 (4 ∷ [])
-unfolding LOOP CandidateSet ts-candidate VALIDATE-CANDIDATE-SET of-first-triple those each MAX first toy
+unfolding LOOP CandidateSet ts-candidate VALIDATE-CANDIDATE-SET of-first-triple suchThat each MAX first toy
 never-written = refl
 
 -- one round that goes on and one that returns, the last one first; a further set changes nothing
 two-rounds : READ (toy true false) (one ∷ four ∷ one ∷ []) ≡ returned 9 (4 ∷ [])
-unfolding READ LOOP CandidateSet ts-candidate VALIDATE-CANDIDATE-SET those each MAX toy
+unfolding READ LOOP CandidateSet ts-candidate VALIDATE-CANDIDATE-SET suchThat each MAX toy
 two-rounds = refl
 
 -- DO_READ: put in; not below the bound; of a node that is heard; not valid

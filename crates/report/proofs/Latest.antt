@@ -12,7 +12,7 @@ use Rattle.terms.specs.Stamp.{stamp, time}
 use Rattle.terms.specs.declared.Plan.{Plan}
 use Rattle.book.specs.Records as records
 use Rattle.book.specs.Records.{rising, above, timed, lastOf, lastBelow}
-use Rattle.report.specs.Triple.{Triple, those, each, MAX}
+use Rattle.report.specs.Triple.{Triple, suchThat, each, MAX}
 use Rattle.report.specs.Figure1.{initial, stamps, RECEIVE-TIME-REQUEST, Latest, RECEIVE-READ-LATEST, PreHistory, RECEIVE-READ-PREVIOUS}
 use Rattle.report.specs.Ours.{tripleOf}
 use Rattle.report.proofs.Lists.{larger-low, larger-high}
@@ -43,8 +43,8 @@ module _ (p : Plan) where
       larger-low (MAX (stamps (triples (y ∷ rs)))) (stamp x) (omega arith) ∙ e
 
   only-last : (m : ℕ) (x : List ℕ) (rs : List (List ℕ)) → above (stamp x) rs ≡ true → m ≡ stamp (lastOf (x ∷ rs))
-      → those (λ (X : Triple). eqb (X .ts) m) (triples (x ∷ rs)) ≡ tripleOf p (lastOf (x ∷ rs)) ∷ []
-  unfolding each those above lastOf
+      → suchThat (λ (X : Triple). eqb (X .ts) m) (triples (x ∷ rs)) ≡ tripleOf p (lastOf (x ∷ rs)) ∷ []
+  unfolding each suchThat above lastOf
   only-last m x [] a e = rw (eq-eqb (stamp x) m (sym e))
   only-last m x (y ∷ rs) a e =
       let q = both (ltb (stamp x) (stamp y)) (above (stamp y) rs) a in
@@ -88,13 +88,13 @@ module _ (p : Plan) where
       go true ih = rw (q .0) ih
       go false ih = let l : low < stamp x = ltb-true _ _ (q .0) in above-less low (stamp x) (records.those t rs) (omega arith) ih
 
-  below-is : (s : ℕ) (rs : List (List ℕ)) → those (λ (X : Triple). ltb (X .ts) s) (triples rs) ≡ triples (records.those (λ (x : List ℕ). ltb (stamp x) s) rs)
-  unfolding each those records.those
+  below-is : (s : ℕ) (rs : List (List ℕ)) → suchThat (λ (X : Triple). ltb (X .ts) s) (triples rs) ≡ triples (records.those (λ (x : List ℕ). ltb (stamp x) s) rs)
+  unfolding each suchThat records.those
   below-is s [] = refl
   below-is s (x ∷ rs) = go (ltb (stamp x) s) (below-is s rs)
     where
-      go : (b : Bool) → those (λ (X : Triple). ltb (X .ts) s) (triples rs) ≡ triples (records.those (λ (x : List ℕ). ltb (stamp x) s) rs)
-          → cond b (tripleOf p x ∷ those (λ (X : Triple). ltb (X .ts) s) (triples rs)) (those (λ (X : Triple). ltb (X .ts) s) (triples rs))
+      go : (b : Bool) → suchThat (λ (X : Triple). ltb (X .ts) s) (triples rs) ≡ triples (records.those (λ (x : List ℕ). ltb (stamp x) s) rs)
+          → cond b (tripleOf p x ∷ suchThat (λ (X : Triple). ltb (X .ts) s) (triples rs)) (suchThat (λ (X : Triple). ltb (X .ts) s) (triples rs))
           ≡ triples (cond b (x ∷ records.those (λ (x : List ℕ). ltb (stamp x) s) rs) (records.those (λ (x : List ℕ). ltb (stamp x) s) rs))
       go true e = ap (λ (l : List Triple). tripleOf p x ∷ l) e
       go false e = e
@@ -131,7 +131,7 @@ module _ (p : Plan) where
     pub previous-of : (s : ℕ) → 1 ≤ s → RECEIVE-READ-PREVIOUS (initial ∷ triples rs) s ≡ tripleOf p (lastBelow s rs) ∷ []
     unfolding RECEIVE-READ-PREVIOUS PreHistory
     previous-of s h =
-        ap (λ (l : List Triple). Latest (those (λ (X : Triple). ltb (X .ts) s) l)) (history-is rs)
+        ap (λ (l : List Triple). Latest (suchThat (λ (X : Triple). ltb (X .ts) s) l)) (history-is rs)
         ∙ ap Latest (below-is s ([] ∷ rs) ∙ ap (λ (l : List (List ℕ)). triples l) (with-first s h))
         ∙ latest-last [] (under s) (above-those (λ (x : List ℕ). ltb (stamp x) s) (stamp []) rs above-none)
         ∙ ap (λ (x : List ℕ). tripleOf p x ∷ []) (last-more (under s))

@@ -10,7 +10,7 @@ use lib.Dec.{ltb, leb}
 use lib.ListN.{length, take, length-append}
 use lib.Seq.{take-append-le, take-all}
 use Rattle.record.specs.Desk.{row}
-use Rattle.report.specs.Triple.{those, each, In, Same, larger, MAX, listed, strung}
+use Rattle.report.specs.Triple.{suchThat, each, In, Same, larger, MAX, upTo, strung}
 
 -- ---- the greatest
 pub larger-is : (a b : ℕ) → larger a b ≡ a + (b - a)
@@ -38,13 +38,13 @@ max-snoc (y ∷ l) x = ap (λ (m : ℕ). larger m y) (max-snoc l x) ∙ larger-s
 
 -- ---- lists one after the other
 module _ {A : Type 0} where
-  pub those-append : (t : A → Bool) (l k : List A) → those t (l ++ k) ≡ those t l ++ those t k
-  unfolding those
+  pub those-append : (t : A → Bool) (l k : List A) → suchThat t (l ++ k) ≡ suchThat t l ++ suchThat t k
+  unfolding suchThat
   those-append t [] k = refl
   those-append t (x ∷ l) k = go (t x) (those-append t l k)
     where
-      go : (b : Bool) → those t (l ++ k) ≡ those t l ++ those t k
-          → cond b (x ∷ those t (l ++ k)) (those t (l ++ k)) ≡ cond b (x ∷ those t l) (those t l) ++ those t k
+      go : (b : Bool) → suchThat t (l ++ k) ≡ suchThat t l ++ suchThat t k
+          → cond b (x ∷ suchThat t (l ++ k)) (suchThat t (l ++ k)) ≡ cond b (x ∷ suchThat t l) (suchThat t l) ++ suchThat t k
       go true e = ap (λ (z : List A). x ∷ z) e
       go false e = e
 
@@ -70,8 +70,8 @@ unfolding strung
 strung-same f g zero h = refl
 strung-same f g (suc n) h = ap₂ (λ (a b : List ℕ). a ++ b) (strung-same f g n (λ k i. h k (omega arith))) (h n (omega arith))
 
-pub listed-same : {A : Type 0} (f g : ℕ → A) (n : ℕ) → ((k : ℕ) → k < n → f k ≡ g k) → listed f n ≡ listed g n
-unfolding listed
+pub listed-same : {A : Type 0} (f g : ℕ → A) (n : ℕ) → ((k : ℕ) → k < n → f k ≡ g k) → upTo f n ≡ upTo g n
+unfolding upTo
 listed-same f g zero h = refl
 listed-same {A} f g (suc n) h = ap₂ (λ (l : List A) (x : A). l ++ (x ∷ [])) (listed-same f g n (λ k i. h k (omega arith))) (h n (omega arith))
 
@@ -84,24 +84,24 @@ module _ {A B : Type 0} where
   take-each (suc n) f (x ∷ l) = ap (λ (z : List B). f x ∷ z) (take-each n f l)
 
 module _ {A : Type 0} (f : ℕ → A) where
-  pub length-listed : (n : ℕ) → length (listed f n) ≡ n
-  unfolding listed
+  pub length-listed : (n : ℕ) → length (upTo f n) ≡ n
+  unfolding upTo
   length-listed zero = refl
-  length-listed (suc n) = length-append (listed f n) (f n ∷ []) ∙ omega (arith, length-listed n)
+  length-listed (suc n) = length-append (upTo f n) (f n ∷ []) ∙ omega (arith, length-listed n)
 
-  pub take-listed : (m n : ℕ) → m ≤ n → take m (listed f n) ≡ listed f m
-  unfolding listed
+  pub take-listed : (m n : ℕ) → m ≤ n → take m (upTo f n) ≡ upTo f m
+  unfolding upTo
   take-listed m zero h = let z : m ≡ 0 = omega arith in rw z
   take-listed m (suc n) h = go (leb m n) refl (λ l. take-listed m n l)
     where
-      go : (t : Bool) → leb m n ≡ t → (m ≤ n → take m (listed f n) ≡ listed f m) → take m (listed f n ++ (f n ∷ [])) ≡ listed f m
+      go : (t : Bool) → leb m n ≡ t → (m ≤ n → take m (upTo f n) ≡ upTo f m) → take m (upTo f n ++ (f n ∷ [])) ≡ upTo f m
       go true e ih =
           let l = leb-true m n e in
-          take-append-le m (listed f n) (f n ∷ []) (omega (arith, length-listed n)) ∙ ih l
+          take-append-le m (upTo f n) (f n ∷ []) (omega (arith, length-listed n)) ∙ ih l
       go false e ih =
           let l = leb-false m n e in
           let z : m ≡ suc n = omega arith in
-          take-all m (listed f n ++ (f n ∷ [])) (omega (arith, length-append (listed f n) (f n ∷ []), length-listed n)) ∙ ap (listed f) (sym z)
+          take-all m (upTo f n ++ (f n ∷ [])) (omega (arith, length-append (upTo f n) (f n ∷ []), length-listed n)) ∙ ap (upTo f) (sym z)
 
 -- ---- members
 module _ {A : Type 0} where

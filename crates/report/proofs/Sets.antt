@@ -27,7 +27,7 @@ use Rattle.rounds.specs.declared.Mark.{Mark}
 use Rattle.rounds.specs.declared.Lead.{Lead}
 use Rattle.rounds.specs.declared.Lead.the-variants.{Nobody, Node}
 use Rattle.rounds.specs.Rounds.{bitOf, heardCount, markOf, slotStamp, aheadOf, stepOf, leadOf, joinsOf, setOf, every, isUnheard}
-use Rattle.report.specs.Triple.{Message, those, each, larger, MAX, In}
+use Rattle.report.specs.Triple.{Message, suchThat, each, larger, MAX, In}
 use Rattle.report.specs.Figure3.{of-first-triple}
 use Rattle.report.specs.Ours.{bearing, responseOf, responses}
 use Rattle.report.proofs.Lists.{larger-low, larger-high, max-snoc, those-append, each-append, in-append}
@@ -113,30 +113,30 @@ module _ (p : Plan) (ms : List Mark) (d : List ℕ) where
   NoRecord n = (i : ℕ) → i < n → markOf ms i ≡ Record → ⊥
 
   first-one : (n : ℕ) (h : Heard) → markOf ms n ≡ h → (markOf ms n ≡ Record → ⊥)
-      → those (λ (x : Message). eqb (x .Response .ts) 0) (responseOf p d n h) ≡ responseOf p d n h
-  unfolding responseOf those
+      → suchThat (λ (x : Message). eqb (x .Response .ts) 0) (responseOf p d n h) ≡ responseOf p d n h
+  unfolding responseOf suchThat
   first-one n Unheard e k = refl
   first-one n First e k = refl
   first-one n Record e k = absurd (k e)
 
-  pub all-first : (n : ℕ) → NoRecord n → those (λ (x : Message). eqb (x .Response .ts) 0) (responses p ms d n) ≡ responses p ms d n
+  pub all-first : (n : ℕ) → NoRecord n → suchThat (λ (x : Message). eqb (x .Response .ts) 0) (responses p ms d n) ≡ responses p ms d n
   unfolding responses
-  all-first zero k = unfold those in refl
+  all-first zero k = unfold suchThat in refl
   all-first (suc n) k =
       those-append (λ (x : Message). eqb (x .Response .ts) 0) (responses p ms d n) (responseOf p d n (markOf ms n))
       ∙ ap₂ (λ (a b : List Message). a ++ b) (all-first n (λ i l. k i (omega arith))) (first-one n (markOf ms n) refl (k n (omega arith)))
 
   -- the first of those that bear time 0 bears it
-  pub heads-first : (l : List Message) → 1 ≤ length (those (λ (x : Message). eqb (x .Response .ts) 0) l)
-      → of-first-triple (those (λ (x : Message). eqb (x .Response .ts) 0) l) ≡ true
-  unfolding those of-first-triple
+  pub heads-first : (l : List Message) → 1 ≤ length (suchThat (λ (x : Message). eqb (x .Response .ts) 0) l)
+      → of-first-triple (suchThat (λ (x : Message). eqb (x .Response .ts) 0) l) ≡ true
+  unfolding suchThat of-first-triple
   heads-first [] h = absurd (omega arith)
   heads-first (x ∷ l) h = go (eqb (x .Response .ts) 0) refl h (heads-first l)
     where
       go : (t : Bool) → eqb (x .Response .ts) 0 ≡ t
-          → 1 ≤ length (cond t (x ∷ those (λ (x : Message). eqb (x .Response .ts) 0) l) (those (λ (x : Message). eqb (x .Response .ts) 0) l))
-          → (1 ≤ length (those (λ (x : Message). eqb (x .Response .ts) 0) l) → of-first-triple (those (λ (x : Message). eqb (x .Response .ts) 0) l) ≡ true)
-          → of-first-triple (cond t (x ∷ those (λ (x : Message). eqb (x .Response .ts) 0) l) (those (λ (x : Message). eqb (x .Response .ts) 0) l)) ≡ true
+          → 1 ≤ length (cond t (x ∷ suchThat (λ (x : Message). eqb (x .Response .ts) 0) l) (suchThat (λ (x : Message). eqb (x .Response .ts) 0) l))
+          → (1 ≤ length (suchThat (λ (x : Message). eqb (x .Response .ts) 0) l) → of-first-triple (suchThat (λ (x : Message). eqb (x .Response .ts) 0) l) ≡ true)
+          → of-first-triple (cond t (x ∷ suchThat (λ (x : Message). eqb (x .Response .ts) 0) l) (suchThat (λ (x : Message). eqb (x .Response .ts) 0) l)) ≡ true
       go true e k ih = e
       go false e k ih = ih k
 
@@ -189,12 +189,12 @@ module _ (p : Plan) (ms : List Mark) (d : List ℕ) where
         (one : (i : ℕ) → i < p .n → markOf ms i ≡ Record → slotStamp d (recordLength p) i ≡ slotStamp d (recordLength p) a
         → crossOf p (slotOf p d i) ≡ crossOf p (slotOf p d a)) where
       abbrev bears : List Message → List Message
-      bears l = those (λ (x : Message). eqb (x .Response .ts) m) l
+      bears l = suchThat (λ (x : Message). eqb (x .Response .ts) m) l
 
       set-step : (n : ℕ) (qs : List ℕ) (h : Heard) → markOf ms n ≡ h → n < p .n → bears (responses p ms d n) ≡ each (bearing p d) qs
           → bears (responses p ms d n ++ responseOf p d n h)
           ≡ each (bearing p d) (cond (joinsOf d (recordLength p) (40 + 32 * p .n) a n h) (qs ++ (n ∷ [])) qs)
-      unfolding responseOf joinsOf those each
+      unfolding responseOf joinsOf suchThat each
       set-step n qs Unheard e hn ih = ap bears (append-nil (responses p ms d n)) ∙ ih
       set-step n qs First e hn ih =
           those-append (λ (x : Message). eqb (x .Response .ts) m) (responses p ms d n) _
@@ -213,6 +213,6 @@ module _ (p : Plan) (ms : List Mark) (d : List ℕ) where
 
       pub candidate-set-is : (n : ℕ) → n ≤ p .n → bears (responses p ms d n) ≡ each (bearing p d) (setOf ms d (recordLength p) (40 + 32 * p .n) a n)
       unfolding responses setOf
-      candidate-set-is zero h = unfold those each in refl
+      candidate-set-is zero h = unfold suchThat each in refl
       candidate-set-is (suc n) h =
           set-step n (setOf ms d (recordLength p) (40 + 32 * p .n) a n) (markOf ms n) refl (omega arith) (candidate-set-is n (omega arith))

@@ -7,7 +7,7 @@ use mathlib.Core.List.{List, [], _∷_}
 use lib.Dec.{ltb, eqb}
 use Rattle.octets.specs.Bytes.{alike}
 use Rattle.terms.specs.Ladder.{_or_}
-use Rattle.report.specs.Triple.{Triple, null, those, each, MAX, Family}
+use Rattle.report.specs.Triple.{Triple, null, suchThat, each, MAX, Family}
 
 abbrev pub initial : Triple
 initial = record { ts = 0; D = null; CC = null }
@@ -45,13 +45,13 @@ RECEIVE-WRITE-REQUEST f S History X =
 
 -- (X : X.ts = MAX[History.ts], X ∈ History); "Note, Latest is a singleton"
 unfoldable pub Latest : List Triple → List Triple
-Latest History = those (λ (X : Triple). eqb (X .ts) (MAX (stamps History))) History
+Latest History = suchThat (λ (X : Triple). eqb (X .ts) (MAX (stamps History))) History
 
 unfoldable pub RECEIVE-READ-LATEST : List Triple → List Triple
 RECEIVE-READ-LATEST History = Latest History  -- 2, 3
 
 unfoldable pub PreHistory : List Triple → ℕ → List Triple
-PreHistory History ts = those (λ (X : Triple). ltb (X .ts) ts) History  -- 1
+PreHistory History ts = suchThat (λ (X : Triple). ltb (X .ts) ts) History  -- 1
 
 unfoldable pub RECEIVE-READ-PREVIOUS : List Triple → ℕ → List Triple
 RECEIVE-READ-PREVIOUS History ts = Latest (PreHistory History ts)  -- 3, 4

@@ -4,7 +4,7 @@
 -- Assumes nothing.
 use Prim.Native.Nat.{ℕ, _+_, _-_}
 use mathlib.Core.List.{List}
-use Rattle.report.specs.Triple.{Message, MAX, listed, strung, Family}
+use Rattle.report.specs.Triple.{Message, MAX, upTo, strung, Family}
 
 -- line 12 of both loops: until (|ResponseSet| = N - t)
 abbrev pub enough : Family → ℕ
@@ -22,7 +22,7 @@ MAKE-TIMESTAMP f Time CC = f .stamped Time (f .HASH CC)  -- 1, 2
 
 -- line 4: SEND(Si, WRITE_REQUEST, ts, Di, CC), for all Si
 unfoldable pub DO-WRITE : Family → (ℕ → List ℕ) → ℕ → List ℕ → List Message
-DO-WRITE f D ts CC = listed (λ (i : ℕ). record { S = i; Response = record { ts = ts; D = D i; CC = CC } }) (f .N)
+DO-WRITE f D ts CC = upTo (λ (i : ℕ). record { S = i; Response = record { ts = ts; D = D i; CC = CC } }) (f .N)
 
 -- the write's timestamp, lines 2 to 5, and what DO_WRITE sends, line 6
 abbrev pub crossed : Family → List ℕ → List ℕ

@@ -12,7 +12,7 @@ use lib.ListN.{length}
 use lib.Dec.{ltb, leb, eqb}
 use Rattle.octets.specs.Bytes.{alike}
 use Rattle.terms.specs.Ladder.{_and_, _or_}
-use Rattle.report.specs.Triple.{Triple, Message, null, those, each, MAX, Family}
+use Rattle.report.specs.Triple.{Triple, Message, null, suchThat, each, MAX, Family}
 use Rattle.report.specs.Figure1 as node
 use Rattle.report.specs.Figure2.{MAKE-CROSS-CHECKSUM, DO-WRITE}
 
@@ -63,7 +63,7 @@ unfoldable pub ts-candidate : List Message → ℕ
 ts-candidate ResponseSet = MAX (each (λ (x : Message). x .Response .ts) ResponseSet)
 
 unfoldable pub CandidateSet : List Message → List Message
-CandidateSet ResponseSet = those (λ (x : Message). eqb (x .Response .ts) (ts-candidate ResponseSet)) ResponseSet
+CandidateSet ResponseSet = suchThat (λ (x : Message). eqb (x .Response .ts) (ts-candidate ResponseSet)) ResponseSet
 
 -- CandidateSet.CC, which its members share
 unfoldable pub CC-of : List Message → List ℕ

@@ -30,7 +30,7 @@ use Rattle.rounds.specs.declared.Mark.{Mark}
 use Rattle.rounds.specs.declared.Bound.{Bound}
 use Rattle.rounds.specs.declared.Bound.the-variants.{Free, Under}
 use Rattle.rounds.specs.Rounds.{markOf}
-use Rattle.report.specs.Triple.{Triple, Message, null, each, listed, strung, Family}
+use Rattle.report.specs.Triple.{Triple, Message, null, each, upTo, strung, Family}
 use Rattle.report.specs.Figure1.{initial}
 use Rattle.report.specs.Figure3.{Command, READ-LATEST, READ-PREVIOUS, of-first-triple}
 
@@ -114,7 +114,7 @@ responses p ms d zero = []
 responses p ms d (suc i) = responses p ms d i ++ responseOf p d i (markOf ms i)
 
 abbrev pub sending : Plan → List ℕ → List Message
-sending p d = listed (bearing p d) (p .n)
+sending p d = upTo (bearing p d) (p .n)
 
 abbrev pub commandOf : Bound → Command
 commandOf Free = READ-LATEST

@@ -3,9 +3,9 @@
 -- The figures' names are kept, with a hyphen where they have a low line, which is a place for an argument here.
 --   Triple, null          ⟨logical time, data value, cross checksum⟩; the null value, ⊥
 --   Message               ⟨S, Response⟩: a triple from a storage-node, or to it
---   those each MAX        {X : test, X ∈ set}; {f X : X ∈ set}; the greatest
+--   suchThat each MAX        {X : test, X ∈ set}; {f X : X ∈ set}; the greatest
 --   In Same               X ∈ set; two lists of one set
---   listed strung         f 0, f 1, .., n of them; f 0 | f 1 | .., one string
+--   upTo strung         f 0, f 1, .., n of them; f 0 | f 1 | .., one string
 --   Family                the member of the family, the hash and the erasure code
 -- Assumes nothing.
 use Prim.Native.Nat.{ℕ, zero, suc}
@@ -31,9 +31,9 @@ pub record Message : Type 0 where
   pub Response : Triple
 
 -- ---- sets
-unfoldable pub those : {A : Type 0} → (A → Bool) → List A → List A
-those test [] = []
-those test (x ∷ xs) = cond (test x) (x ∷ those test xs) (those test xs)
+unfoldable pub suchThat : {A : Type 0} → (A → Bool) → List A → List A
+suchThat test [] = []
+suchThat test (x ∷ xs) = cond (test x) (x ∷ suchThat test xs) (suchThat test xs)
 
 unfoldable pub each : {A B : Type 0} → (A → B) → List A → List B
 each f [] = []
@@ -54,9 +54,9 @@ unfoldable pub MAX : List ℕ → ℕ
 MAX [] = 0
 MAX (x ∷ xs) = larger (MAX xs) x
 
-unfoldable pub listed : {A : Type 0} → (ℕ → A) → ℕ → List A
-listed f zero = []
-listed f (suc k) = listed f k ++ (f k ∷ [])
+unfoldable pub upTo : {A : Type 0} → (ℕ → A) → ℕ → List A
+upTo f zero = []
+upTo f (suc k) = upTo f k ++ (f k ∷ [])
 
 -- the operator '|' is concatenation
 unfoldable pub strung : (ℕ → List ℕ) → ℕ → List ℕ

@@ -12,9 +12,9 @@
 #include <stdio.h>
 #include <stdlib.h>
 #include <string.h>
-#include <time.h>
 
 #include "fec.h"
+#include "pace.h"
 
 // The calls of the crate `ground`: a slice is its pointer and then its length.
 uint32_t ground_sha256(const uint8_t *p, size_t p_len, const uint8_t *s, size_t s_len, uint8_t *out, size_t out_len);
@@ -28,30 +28,8 @@ static void fail(const char *why) {
   exit(1);
 }
 
-static double seconds(void) {
-  struct timespec t;
-  clock_gettime(CLOCK_PROCESS_CPUTIME_ID, &t);
-  return t.tv_sec + t.tv_nsec / 1e9;
-}
-
-// MB/s of `work`, of which each call serves `bytes` bytes, after a twentieth of a second of calls: the best of twenty stretches of a
-// hundredth of a second, so that what else the machine does meanwhile counts little.
-static double rate(void (*work)(void), size_t bytes) {
-  unsigned long calls = 0;
-  double start = seconds(), best = 0;
-  do {
-    work();
-    calls++;
-  } while (seconds() - start < 0.05);
-  calls = calls / 5 + 1;
-  for (int stretch = 0; stretch < 20; stretch++) {
-    start = seconds();
-    for (unsigned long i = 0; i < calls; i++) work();
-    double took = seconds() - start;
-    if (stretch == 0 || took < best) best = took;
-  }
-  return calls * (double)bytes / best / 1e6;
-}
+// MB/s of `work`, of which each call serves `bytes` bytes.
+static double rate(void (*work)(void), size_t bytes) { return (double)bytes / pace(work) / 1e6; }
 
 // Bytes that look like any others, the same in each run.
 static void fill(uint8_t *at, size_t n) {

@@ -15,9 +15,9 @@
 #include <stdio.h>
 #include <stdlib.h>
 #include <string.h>
-#include <time.h>
 
 #include "../pasis.h"
+#include "pace.h"
 
 enum { MOST = 16, HELD = 20 };
 
@@ -29,31 +29,6 @@ static uint64_t ask = 1;
 static void fail(const char *why) {
   fprintf(stderr, "calls: %s\n", why);
   exit(1);
-}
-
-static double seconds(void) {
-  struct timespec now;
-  clock_gettime(CLOCK_PROCESS_CPUTIME_ID, &now);
-  return (double)now.tv_sec + (double)now.tv_nsec / 1e9;
-}
-
-// Microseconds a call of `work`, after a twentieth of a second of calls: the best of twenty stretches of a hundredth of a second, so that what
-// else the machine does meanwhile counts little.
-static double pace(void (*work)(void)) {
-  unsigned long calls = 0;
-  double start = seconds(), best = 0;
-  do {
-    work();
-    calls++;
-  } while (seconds() - start < 0.05);
-  calls = calls / 5 + 1;
-  for (int stretch = 0; stretch < 20; stretch++) {
-    start = seconds();
-    for (unsigned long i = 0; i < calls; i++) work();
-    double took = seconds() - start;
-    if (stretch == 0 || took < best) best = took;
-  }
-  return best / (double)calls * 1e6;
 }
 
 // ---- ours
@@ -160,13 +135,14 @@ static void floor_open(void) {
   memcpy(back, item, m * f);
 }
 
+// The seconds that a call of this work takes.
 static double timed(int ours, const char *what) {
   if (!strcmp(what, "save")) return pace(ours ? ours_first_save : floor_save);
   if (!strcmp(what, "open")) {
     if (!ours) return pace(floor_open);
-    double us = pace(ours_open);
+    double took = pace(ours_open);
     if (memcmp(back, item, m * f) != 0) fail("what was opened is not what was saved");
-    return us;
+    return took;
   }
   if (!strcmp(what, "time")) return make(1, desk, 0), pace(ours ? ours_request : floor_nothing);
   if (!strcmp(what, "latest")) return make(5, desk, 0), pace(ours ? ours_request : floor_copy);
@@ -196,6 +172,6 @@ int main(int count, char **words) {
     item[0] = (uint8_t)i;
     ours_save();
   }
-  printf("%.3f\n", timed(!strcmp(words[1], "ours"), words[2]));
+  printf("%.3f\n", timed(!strcmp(words[1], "ours"), words[2]) * 1e6);
   return 0;
 }

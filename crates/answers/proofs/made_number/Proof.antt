@@ -2,21 +2,12 @@ use borrow.Author.Needs.{needs}
 use Rattle.answers.proofs.made_number.Statement.{statement}
 use Rattle.answers.proofs.made_number.Tie as tie
 
-enum-known-m : tie.Need-enum-known-m
-enum-known-m c = search needs
-
-refusal-number-requires : tie.Need-refusal-number-requires
-refusal-number-requires c κs = search needs
-
-enum-told : tie.Need-enum-told
-enum-told c = search needs
-
-returns : tie.Need-returns
-returns c = search needs
-
-returns-2 : tie.Need-returns-2
-returns-2 c = search needs
-
 pub made-number-spec : {M : Type 1} → statement M
 made-number-spec =
-    tie.close (tie.spec enum-known-m refusal-number-requires enum-told returns returns-2)
+    tie.close
+    (tie.spec
+    (λ c. search needs)
+    (λ c κs. search needs)
+    (λ c. search needs)
+    (λ c. search needs)
+    (λ c. search needs))

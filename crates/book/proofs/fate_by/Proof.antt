@@ -6,23 +6,20 @@ use borrow.Author.Needs.{needs}
 use Rattle.book.proofs.fate_by.Statement.{statement}
 use Rattle.book.proofs.fate_by.Tie as tie
 
-same-requires : tie.Need-same-requires
-same-requires c κs = search needs
-
-returns : tie.Need-returns
-returns c =
+pub fate-by-spec : {M : Type 1} → statement M
+fate-by-spec =
+    tie.close
+    (tie.spec
+    (λ c κs. search needs)
+    (λ c.
     let pre = c .before .before .before .before .pre in
     let shared-slice-known = c .before .before .before .shared-slice-known in
     let shared-slice-known2 = c .before .before .shared-slice-known2 in
     let same = c .before .same in
     laws.by-free _ _ _ _ _ _ (pre .2) (λ i. omega (arith, shared-slice-known .given i)) (λ i. omega (arith, shared-slice-known2 .given i)) (pre .0)
-    (pre .1) (sym (same .ensures) ∙ not-true (same .result) (c .if1 .taken))
-
-same-requires-2 : tie.Need-same-requires-2
-same-requires-2 c κs = search needs
-
-returns-2 : tie.Need-returns-2
-returns-2 c =
+    (pre .1) (sym (same .ensures) ∙ not-true (same .result) (c .if1 .taken)))
+    (λ c κs. search needs)
+    (λ c.
     let pre = c .before .before .before .before .before .before .pre in
     let shared-slice-known = c .before .before .before .before .before .shared-slice-known in
     let shared-slice-known2 = c .before .before .before .before .shared-slice-known2 in
@@ -30,10 +27,8 @@ returns-2 c =
     let if1 = c .before .before .if1 in
     let same2 = c .before .same2 in
     laws.by-held _ _ _ _ _ _ (pre .2) (λ i. omega (arith, shared-slice-known .given i)) (λ i. omega (arith, shared-slice-known2 .given i)) (pre .0)
-    (pre .1) (sym (same .ensures) ∙ not-false (same .result) (if1 .left)) (sym (same2 .ensures) ∙ c .if2 .taken)
-
-returns-3 : tie.Need-returns-3
-returns-3 c =
+    (pre .1) (sym (same .ensures) ∙ not-false (same .result) (if1 .left)) (sym (same2 .ensures) ∙ c .if2 .taken))
+    (λ c.
     let pre = c .before .before .before .before .before .before .pre in
     let shared-slice-known = c .before .before .before .before .before .shared-slice-known in
     let shared-slice-known2 = c .before .before .before .before .shared-slice-known2 in
@@ -41,7 +36,4 @@ returns-3 c =
     let if1 = c .before .before .if1 in
     let same2 = c .before .same2 in
     laws.by-other _ _ _ _ _ _ (pre .2) (λ i. omega (arith, shared-slice-known .given i)) (λ i. omega (arith, shared-slice-known2 .given i)) (pre .0)
-    (pre .1) (sym (same .ensures) ∙ not-false (same .result) (if1 .left)) (sym (same2 .ensures) ∙ c .if2 .left)
-
-pub fate-by-spec : {M : Type 1} → statement M
-fate-by-spec = tie.close (tie.spec same-requires returns same-requires-2 returns-2 returns-3)
+    (pre .1) (sym (same .ensures) ∙ not-false (same .result) (if1 .left)) (sym (same2 .ensures) ∙ c .if2 .left)))

@@ -9,45 +9,32 @@ use borrow.Author.Needs.{needs}
 use Rattle.book.proofs.filled.Statement.{statement}
 use Rattle.book.proofs.filled.Tie as tie
 
-record-length-requires : tie.Need-record-length-requires
-record-length-requires c κs = search needs
-
-count-requires : tie.Need-count-requires
-count-requires c κs = search needs
-
-mul-if1 : tie.Need-mul-if1
-mul-if1 c =
+pub filled-spec : {M : Type 1} → statement M
+filled-spec =
+    tie.close
+    (tie.spec
+    (λ c κs. search needs)
+    (λ c κs. search needs)
+    (λ c.
     let record-length = c .before .record-length in
     let l = turns.mul-small (c .count .result) (record-length .result) (c .count .ensures .1) (record-length .ensures .1) in
-    omega arith
-
-add-if1 : tie.Need-add-if1
-add-if1 c =
+    omega arith)
+    (λ c.
     let record-length = c .before .record-length in
     let l = turns.mul-small (c .count .result) (record-length .result) (c .count .ensures .1) (record-length .ensures .1) in
-    omega arith
-
-returns : tie.Need-returns
-returns c =
+    omega arith)
+    (λ c.
     let count = c .before .count in
     let record-length = c .before .before .record-length in
-    laws.fill-no _ _ _ (λ q. let e = turns.times (count .ensures .0) (record-length .ensures .0) in let i = q .inside in let t = c .if1 .taken in omega arith)
-
-rising-requires : tie.Need-rising-requires
-rising-requires c κs = search needs
-
-returns-2 : tie.Need-returns-2
-returns-2 c =
+    laws.fill-no _ _ _ (λ q. let e = turns.times (count .ensures .0) (record-length .ensures .0) in let i = q .inside in let t = c .if1 .taken in omega arith))
+    (λ c κs. search needs)
+    (λ c.
     let record-length = c .before .before .before .before .record-length in
     let count = c .before .before .before .count in
     let rising-call = c .before .rising in
-    laws.fill-no _ _ _ (λ q. clash (sym (q .rise) ∙ sym (ap rising (laws.same-records _ _ _ _ _ (record-length .ensures .0) (count .ensures .0))) ∙ sym (rising-call .ensures) ∙ not-true (rising-call .result) (c .if2 .taken)))
-
-timed-requires : tie.Need-timed-requires
-timed-requires c κs = search needs
-
-returns-3 : tie.Need-returns-3
-returns-3 c =
+    laws.fill-no _ _ _ (λ q. clash (sym (q .rise) ∙ sym (ap rising (laws.same-records _ _ _ _ _ (record-length .ensures .0) (count .ensures .0))) ∙ sym (rising-call .ensures) ∙ not-true (rising-call .result) (c .if2 .taken))))
+    (λ c κs. search needs)
+    (λ c.
     let count = c .before .before .before .before .count in
     let record-length = c .before .before .before .before .before .record-length in
     let args = c .before .before .before .before .before .before .before .args in
@@ -58,18 +45,4 @@ returns-3 c =
     let a = args in
     let s = laws.same-records (a .h) (a .p) (a .book .now) _ _ (record-length .ensures .0) (count .ensures .0) in
     laws.fill-last _ _ _ _ (omega (arith, if1 .left)) (sym (ap rising s) ∙ sym (rising-call .ensures) ∙ not-false (rising-call .result) (if2 .left))
-    (c .timed .ensures ∙ ap timed s)
-
-pub filled-spec : {M : Type 1} → statement M
-filled-spec =
-    tie.close
-    (tie.spec
-    record-length-requires
-    count-requires
-    mul-if1
-    add-if1
-    returns
-    rising-requires
-    returns-2
-    timed-requires
-    returns-3)
+    (c .timed .ensures ∙ ap timed s)))

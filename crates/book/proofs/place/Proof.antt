@@ -18,69 +18,45 @@ Inv-loop book at left r src s p₀ k₀ p k =
 abbrev μ-loop : tie.MeasureT-loop
 μ-loop book at left r src s p₀ k₀ p k = left - k
 
-loop-holds : tie.Need-loop-holds Inv-loop μ-loop
-loop-holds c =
-    let args = c .before .before .args in
-    let pre = c .before .before .pre in
-    let a = args in
-    let q = turns.place-start (a .book .now) (a .r) (pre .1) (num (part (a .src .now) (a .s) 40)) 0 (a .left) (a .at) in
-    (omega arith, q .0, q .1)
-
-is-below-requires : tie.Need-is-below-requires Inv-loop μ-loop
-is-below-requires c κs =
-    let args = c .before .before .before .before .args in
-    let loop = c .before .loop in
-    let a = args in
-    let l = slot-fits (loop .k) (a .left) (a .r) (c .loop-test .taken) in
-    (omega arith, omega arith)
-
-returns : tie.Need-returns Inv-loop μ-loop
-returns c =
-    let loop-test = c .before .before .loop-test in
-    let is-below = c .before .is-below in
-    let loop = c .before .before .before .loop in
-    turns.place-stop _ _ (omega arith) _ _ _ _ _ (loop-test .taken) (sym (is-below .ensures) ∙ not-true (is-below .result) (c .if1 .taken)) (loop .inv .2)
-
-add-p : tie.Need-add-p Inv-loop μ-loop
-add-p c =
-    let args = c .before .before .before .before .before .before .args in
-    let loop = c .before .before .before .loop in
-    let loop-test = c .before .before .loop-test in
-    let a = args in
-    let l = slot-fits (loop .k) (a .left) (a .r) (loop-test .taken) in
-    omega arith
-
-add-k : tie.Need-add-k Inv-loop μ-loop
-add-k c = omega arith
-
-loop-less : tie.Need-loop-less Inv-loop μ-loop
-loop-less c = omega arith
-
-loop-again : tie.Need-loop-again Inv-loop μ-loop
-loop-again c =
-    let args = c .before .before .before .before .before .before .args in
-    let loop = c .before .before .before .loop in
-    let loop-test = c .before .before .loop-test in
-    let is-below = c .before .is-below in
-    let a = args in
-    (omega arith, (let n = turns.next (loop .k) (a .r) in omega arith), turns.place-on _ _ (omega arith) _ _ _ _ _ (loop-test .taken) (sym (is-below .ensures) ∙ not-false (is-below .result) (c .if1 .left)) (loop .inv .2))
-
-returns-2 : tie.Need-returns-2 Inv-loop μ-loop
-returns-2 c =
-    let loop = c .before .loop in
-    turns.place-end _ _ (omega arith) _ _ _ _ _ (omega arith) (loop .inv .2)
-
 pub place-spec : {M : Type 1} → statement M
 place-spec =
     tie.close
     (tie.spec
     Inv-loop
     μ-loop
-    loop-holds
-    is-below-requires
-    returns
-    add-p
-    add-k
-    loop-less
-    loop-again
-    returns-2)
+    (λ c.
+    let args = c .before .before .args in
+    let pre = c .before .before .pre in
+    let a = args in
+    let q = turns.place-start (a .book .now) (a .r) (pre .1) (num (part (a .src .now) (a .s) 40)) 0 (a .left) (a .at) in
+    (omega arith, q .0, q .1))
+    (λ c κs.
+    let args = c .before .before .before .before .args in
+    let loop = c .before .loop in
+    let a = args in
+    let l = slot-fits (loop .k) (a .left) (a .r) (c .loop-test .taken) in
+    (omega arith, omega arith))
+    (λ c.
+    let loop-test = c .before .before .loop-test in
+    let is-below = c .before .is-below in
+    let loop = c .before .before .before .loop in
+    turns.place-stop _ _ (omega arith) _ _ _ _ _ (loop-test .taken) (sym (is-below .ensures) ∙ not-true (is-below .result) (c .if1 .taken)) (loop .inv .2))
+    (λ c.
+    let args = c .before .before .before .before .before .before .args in
+    let loop = c .before .before .before .loop in
+    let loop-test = c .before .before .loop-test in
+    let a = args in
+    let l = slot-fits (loop .k) (a .left) (a .r) (loop-test .taken) in
+    omega arith)
+    (λ c. omega arith)
+    (λ c. omega arith)
+    (λ c.
+    let args = c .before .before .before .before .before .before .args in
+    let loop = c .before .before .before .loop in
+    let loop-test = c .before .before .loop-test in
+    let is-below = c .before .is-below in
+    let a = args in
+    (omega arith, (let n = turns.next (loop .k) (a .r) in omega arith), turns.place-on _ _ (omega arith) _ _ _ _ _ (loop-test .taken) (sym (is-below .ensures) ∙ not-false (is-below .result) (c .if1 .left)) (loop .inv .2)))
+    (λ c.
+    let loop = c .before .loop in
+    turns.place-end _ _ (omega arith) _ _ _ _ _ (omega arith) (loop .inv .2)))

@@ -14,59 +14,35 @@ Inv-loop book at left r p₀ m₀ p m = (p + m * r ≤ length book) × (timed (r
 abbrev μ-loop : tie.MeasureT-loop
 μ-loop book at left r p₀ m₀ p m = m
 
-loop-holds : tie.Need-loop-holds Inv-loop μ-loop
-loop-holds c =
-    let pre = c .before .pre in
-    (pre .0, refl)
-
-get-requires : tie.Need-get-requires Inv-loop μ-loop
-get-requires c κs =
-    let loop = c .before .loop in
-    let e = laws.room _ _ _ _ (c .loop-test .taken) (loop .inv .0) in
-    omega arith
-
-returns : tie.Need-returns Inv-loop μ-loop
-returns c =
-    let get = c .before .get in
-    let loop = c .before .before .before .loop in
-    laws.timed-stop _ _ (omega arith) _ _ _ (omega arith) (subst (λ (x : ℕ). x < 1) (get .ensures .0) (c .if1 .taken)) (loop .inv .1)
-
-add-p : tie.Need-add-p Inv-loop μ-loop
-add-p c =
-    let loop-test = c .before .before .loop-test in
-    let loop = c .before .before .before .loop in
-    let e = laws.room _ _ _ _ (loop-test .taken) (loop .inv .0) in
-    omega arith
-
-sub-m : tie.Need-sub-m Inv-loop μ-loop
-sub-m c = omega arith
-
-loop-less : tie.Need-loop-less Inv-loop μ-loop
-loop-less c = omega arith
-
-loop-again : tie.Need-loop-again Inv-loop μ-loop
-loop-again c =
-    let loop-test = c .before .before .loop-test in
-    let loop = c .before .before .before .loop in
-    let get = c .before .get in
-    (laws.room _ _ _ _ (loop-test .taken) (loop .inv .0) .1, laws.timed-on _ _ (omega arith) _ _ _ (omega arith) (subst (λ (x : ℕ). 1 ≤ x) (get .ensures .0) (c .if1 .left)) (loop .inv .1))
-
-returns-2 : tie.Need-returns-2 Inv-loop μ-loop
-returns-2 c =
-    let loop = c .before .loop in
-    laws.timed-end _ _ (omega arith) _ _ _ (omega arith) (loop .inv .1)
-
 pub timed-spec : {M : Type 1} → statement M
 timed-spec =
     tie.close
     (tie.spec
     Inv-loop
     μ-loop
-    loop-holds
-    get-requires
-    returns
-    add-p
-    sub-m
-    loop-less
-    loop-again
-    returns-2)
+    (λ c.
+    let pre = c .before .pre in
+    (pre .0, refl))
+    (λ c κs.
+    let loop = c .before .loop in
+    let e = laws.room _ _ _ _ (c .loop-test .taken) (loop .inv .0) in
+    omega arith)
+    (λ c.
+    let get = c .before .get in
+    let loop = c .before .before .before .loop in
+    laws.timed-stop _ _ (omega arith) _ _ _ (omega arith) (subst (λ (x : ℕ). x < 1) (get .ensures .0) (c .if1 .taken)) (loop .inv .1))
+    (λ c.
+    let loop-test = c .before .before .loop-test in
+    let loop = c .before .before .before .loop in
+    let e = laws.room _ _ _ _ (loop-test .taken) (loop .inv .0) in
+    omega arith)
+    (λ c. omega arith)
+    (λ c. omega arith)
+    (λ c.
+    let loop-test = c .before .before .loop-test in
+    let loop = c .before .before .before .loop in
+    let get = c .before .get in
+    (laws.room _ _ _ _ (loop-test .taken) (loop .inv .0) .1, laws.timed-on _ _ (omega arith) _ _ _ (omega arith) (subst (λ (x : ℕ). 1 ≤ x) (get .ensures .0) (c .if1 .left)) (loop .inv .1)))
+    (λ c.
+    let loop = c .before .loop in
+    laws.timed-end _ _ (omega arith) _ _ _ (omega arith) (loop .inv .1)))

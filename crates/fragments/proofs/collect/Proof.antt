@@ -8,31 +8,21 @@ use Rattle.fragments.proofs.Laws.{points-length, points-within, points-
 use Rattle.fragments.proofs.collect.Statement.{statement}
 use Rattle.fragments.proofs.collect.Tie as tie
 
-array-share-prefix-points : tie.Need-array-share-prefix-points
-array-share-prefix-points c = search needs
-
-slice-aggregate-lay : tie.Need-slice-aggregate-lay
-slice-aggregate-lay c = let s = c .before .before .before in points-length (s .args .m) (s .pre .0)
-
-lay-requires : tie.Need-lay-requires
-lay-requires c κs =
+pub collect-spec : {M : Type 1} → statement M
+collect-spec =
+    tie.close
+    (tie.spec
+    (λ c. search needs)
+    (λ c. let s = c .before .before .before in points-length (s .args .m) (s .pre .0))
+    (λ c κs.
     let s = c .before .before .before .before in
     let a = s .args in (
       points-within (a .desk .now) (a .first) (a .stride) (a .f) (a .m) (s .pre .0) (s .pre .2),
       s .pre .0,
       λ k h. omega (arith, slot-fits k (a .m) (a .f) h, s .pre .1),
-    )
-
-same-length : tie.Need-same-length
-same-length c = search needs
-
-returns : tie.Need-returns
-returns c =
+    ))
+    (λ c. search needs)
+    (λ c.
     let s = c .before .before .before .before .before .before .before in
     let a = s .args in
-    c .before .before .lay .ensures ∙ points-collect (a .desk .now) (a .first) (a .stride) (a .f) (a .m) (a .item .now) (s .pre .0)
-
-pub collect-spec : {M : Type 1} → statement M
-collect-spec =
-    tie.close
-    (tie.spec array-share-prefix-points slice-aggregate-lay lay-requires same-length returns)
+    c .before .before .lay .ensures ∙ points-collect (a .desk .now) (a .first) (a .stride) (a .f) (a .m) (a .item .now) (s .pre .0)))

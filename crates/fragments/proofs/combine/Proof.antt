@@ -31,75 +31,46 @@ Inv-loop2 src first stride qs x out₀ n i k₀ out k =
 abbrev μ-loop2 : tie.MeasureT-loop2
 μ-loop2 src first stride qs x out₀ n i k₀ out k = length qs - k
 
-loop-holds : tie.Need-loop-holds Inv-loop μ-loop Inv-loop2 μ-loop2
-loop-holds c = (omega arith, omega arith, upto-start _ _)
-
-slice-write-out : tie.Need-slice-write-out Inv-loop μ-loop Inv-loop2 μ-loop2
-slice-write-out c = search needs
-
-add-i : tie.Need-add-i Inv-loop μ-loop Inv-loop2 μ-loop2
-add-i c = search needs
-
-loop-less : tie.Need-loop-less Inv-loop μ-loop Inv-loop2 μ-loop2
-loop-less c = search needs
-
-loop-again : tie.Need-loop-again Inv-loop μ-loop Inv-loop2 μ-loop2
-loop-again c =
+pub combine-spec : {M : Type 1} → statement M
+combine-spec =
+    tie.close
+    (tie.spec
+    Inv-loop
+    μ-loop
+    Inv-loop2
+    μ-loop2
+    (λ c. (omega arith, omega arith, upto-start _ _))
+    (λ c. search needs)
+    (λ c. search needs)
+    (λ c. search needs)
+    (λ c.
     let l = c .before .loop in
-    (refl, omega arith, upto-next _ (l .i) _ _ _ (l .inv .2) (omega arith) refl)
-
-loop2-holds : tie.Need-loop2-holds Inv-loop μ-loop Inv-loop2 μ-loop2
-loop2-holds c =
+    (refl, omega arith, upto-next _ (l .i) _ _ _ (l .inv .2) (omega arith) refl))
+    (λ c.
     let l = c .before .loop in
     let a = c .before .before .before .before .before .args in
-    (l .inv .2 .same, omega arith, λ j h. blend-start (a .qs .now) (a .x) _ _ (l .inv .2 .done j (omega arith)))
-
-shared-slice-read-p : tie.Need-shared-slice-read-p Inv-loop μ-loop Inv-loop2 μ-loop2
-shared-slice-read-p c = search needs
-
-weight-requires : tie.Need-weight-requires Inv-loop μ-loop Inv-loop2 μ-loop2
-weight-requires c κs = search needs
-
-cast-a : tie.Need-cast-a Inv-loop μ-loop Inv-loop2 μ-loop2
-cast-a c = omega (arith, c .before .shared-slice-known3 .given (c .before .before .before .loop2 .k))
-
-mul-a : tie.Need-mul-a Inv-loop μ-loop Inv-loop2 μ-loop2
-mul-a c =
+    (l .inv .2 .same, omega arith, λ j h. blend-start (a .qs .now) (a .x) _ _ (l .inv .2 .done j (omega arith))))
+    (λ c. search needs)
+    (λ c κs. search needs)
+    (λ c. omega (arith, c .before .shared-slice-known3 .given (c .before .before .before .loop2 .k)))
+    (λ c.
     let k = c .before .before .before .loop2 .k in
-    omega (arith, c .before .before .before .before .before .before .before .before .before .pre k (omega arith))
-
-add-a : tie.Need-add-a Inv-loop μ-loop Inv-loop2 μ-loop2
-add-a c =
+    omega (arith, c .before .before .before .before .before .before .before .before .before .pre k (omega arith)))
+    (λ c.
     let k = c .before .before .before .loop2 .k in
-    omega (arith, c .before .before .before .before .before .before .before .before .before .pre k (omega arith))
-
-add-e : tie.Need-add-e Inv-loop μ-loop Inv-loop2 μ-loop2
-add-e c =
+    omega (arith, c .before .before .before .before .before .before .before .before .before .pre k (omega arith)))
+    (λ c.
     let k = c .before .before .before .loop2 .k in
-    omega (arith, c .before .before .before .before .before .before .before .before .before .pre k (omega arith))
-
-sub-add-scaled : tie.Need-sub-add-scaled Inv-loop μ-loop Inv-loop2 μ-loop2
-sub-add-scaled c = search needs
-
-part-add-scaled-start : tie.Need-part-add-scaled-start Inv-loop μ-loop Inv-loop2 μ-loop2
-part-add-scaled-start c = search needs
-
-part-add-scaled-end : tie.Need-part-add-scaled-end Inv-loop μ-loop Inv-loop2 μ-loop2
-part-add-scaled-end c =
+    omega (arith, c .before .before .before .before .before .before .before .before .before .pre k (omega arith)))
+    (λ c. search needs)
+    (λ c. search needs)
+    (λ c.
     let k = c .before .before .before .before .loop2 .k in
-    omega (arith, c .before .before .before .before .before .before .before .before .before .before .pre k (omega arith))
-
-add-scaled-requires : tie.Need-add-scaled-requires Inv-loop μ-loop Inv-loop2 μ-loop2
-add-scaled-requires c κs = search needs
-
-add-k : tie.Need-add-k Inv-loop μ-loop Inv-loop2 μ-loop2
-add-k c = search needs
-
-loop2-less : tie.Need-loop2-less Inv-loop μ-loop Inv-loop2 μ-loop2
-loop2-less c = search needs
-
-loop2-again : tie.Need-loop2-again Inv-loop μ-loop Inv-loop2 μ-loop2
-loop2-again c =
+    omega (arith, c .before .before .before .before .before .before .before .before .before .before .pre k (omega arith)))
+    (λ c κs. search needs)
+    (λ c. search needs)
+    (λ c. search needs)
+    (λ c.
     let l = c .before .before .before .before .before .before .before .before .loop2 in
     let a = c .before .before .before .before .before .before .before .before .before .before .before .before .before .before .args in
     let p = getD (a .qs .now) (l .k) 0 in
@@ -112,43 +83,9 @@ loop2-again c =
           c .before .before .add-scaled .ensures j (omega arith) ∙ ap (bitXor (getD (l .out) j 0)) (ap₂ mul (c .before .before .before .before .before .weight .ensures) (part-at (a .first + p * a .stride) _ _ j hj)) in
           ap (λ (n : ℕ). bitXor n (blend (a .qs .now) (a .x) f (drop (l .k + 1) (a .qs .now)))) e
           ∙ blend-turn (a .qs .now) (l .k) (a .x) f (getD (l .out) j 0) _ h (l .inv .2 j hj),
-    )
-
-same-length : tie.Need-same-length Inv-loop μ-loop Inv-loop2 μ-loop2
-same-length c = search needs
-
-returns : tie.Need-returns Inv-loop μ-loop Inv-loop2 μ-loop2
-returns c =
+    ))
+    (λ c. search needs)
+    (λ c.
     let l = c .before .loop2 in
     let a = c .before .before .before .before .before .before .before .args in
-    to-tabulate (l .out) (length (a .out .now)) _ (l .inv .0) (λ i h. blend-end (a .qs .now) (l .k) (a .x) (at (a .src .now) (a .first) (a .stride) i) _ _ (omega arith) (l .inv .2 i h))
-
-pub combine-spec : {M : Type 1} → statement M
-combine-spec =
-    tie.close
-    (tie.spec
-    Inv-loop
-    μ-loop
-    Inv-loop2
-    μ-loop2
-    loop-holds
-    slice-write-out
-    add-i
-    loop-less
-    loop-again
-    loop2-holds
-    shared-slice-read-p
-    weight-requires
-    cast-a
-    mul-a
-    add-a
-    add-e
-    sub-add-scaled
-    part-add-scaled-start
-    part-add-scaled-end
-    add-scaled-requires
-    add-k
-    loop2-less
-    loop2-again
-    same-length
-    returns)
+    to-tabulate (l .out) (length (a .out .now)) _ (l .inv .0) (λ i h. blend-end (a .qs .now) (l .k) (a .x) (at (a .src .now) (a .first) (a .stride) i) _ _ (omega arith) (l .inv .2 i h))))

@@ -4,14 +4,10 @@ use Rattle.octets.proofs.Laws.{slot-fits}
 use Rattle.fragments.proofs.decode.Statement.{statement}
 use Rattle.fragments.proofs.decode.Tie as tie
 
-lay-requires : tie.Need-lay-requires
-lay-requires c κs = (c .before .before .before .before .pre .0, c .before .before .before .before .pre .1, λ k h. omega (arith, slot-fits k (c .before .before .before .before .args .m) (c .before .before .before .before .args .f) h, c .before .before .before .before .pre .2))
-
-same-length : tie.Need-same-length
-same-length c = search needs
-
-returns : tie.Need-returns
-returns c = search needs
-
 pub decode-spec : {M : Type 1} → statement M
-decode-spec = tie.close (tie.spec lay-requires same-length returns)
+decode-spec =
+    tie.close
+    (tie.spec
+    (λ c κs. (c .before .before .before .before .pre .0, c .before .before .before .before .pre .1, λ k h. omega (arith, slot-fits k (c .before .before .before .before .args .m) (c .before .before .before .before .args .f) h, c .before .before .before .before .pre .2)))
+    (λ c. search needs)
+    (λ c. search needs))

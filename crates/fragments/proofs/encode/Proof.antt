@@ -5,28 +5,18 @@ use Rattle.fragments.proofs.Laws.{points-length, runs-within, points-en
 use Rattle.fragments.proofs.encode.Statement.{statement}
 use Rattle.fragments.proofs.encode.Tie as tie
 
-array-share-prefix-points : tie.Need-array-share-prefix-points
-array-share-prefix-points c = search needs
-
-slice-aggregate-lay : tie.Need-slice-aggregate-lay
-slice-aggregate-lay c = let s = c .before .before .before in points-length (s .args .m) (s .pre .1)
-
-lay-requires : tie.Need-lay-requires
-lay-requires c κs =
-    let s = c .before .before .before .before in
-    let a = s .args in
-    (runs-within (a .m) (a .f) (a .item .now) (s .pre .1) (s .pre .0), s .pre .2, s .pre .3)
-
-same-length : tie.Need-same-length
-same-length c = search needs
-
-returns : tie.Need-returns
-returns c =
-    let s = c .before .before .before .before .before .before .before in
-    let a = s .args in
-    c .before .before .lay .ensures ∙ points-encode (a .m) (a .f) (a .item .now) (a .first) (a .stride) (a .n) (a .desk .now) (s .pre .1)
-
 pub encode-spec : {M : Type 1} → statement M
 encode-spec =
     tie.close
-    (tie.spec array-share-prefix-points slice-aggregate-lay lay-requires same-length returns)
+    (tie.spec
+    (λ c. search needs)
+    (λ c. let s = c .before .before .before in points-length (s .args .m) (s .pre .1))
+    (λ c κs.
+    let s = c .before .before .before .before in
+    let a = s .args in
+    (runs-within (a .m) (a .f) (a .item .now) (s .pre .1) (s .pre .0), s .pre .2, s .pre .3))
+    (λ c. search needs)
+    (λ c.
+    let s = c .before .before .before .before .before .before .before in
+    let a = s .args in
+    c .before .before .lay .ensures ∙ points-encode (a .m) (a .f) (a .item .now) (a .first) (a .stride) (a .n) (a .desk .now) (s .pre .1)))

@@ -20,29 +20,22 @@ Inv-loop qs x p num₀ den₀ k₀ num den k =
 abbrev μ-loop : tie.MeasureT-loop
 μ-loop qs x p num₀ den₀ k₀ num den k = length qs - k
 
-loop-holds : tie.Need-loop-holds Inv-loop μ-loop
-loop-holds c =
+pub weight-spec : {M : Type 1} → statement M
+weight-spec =
+    tie.close
+    (tie.spec
+    Inv-loop
+    μ-loop
+    (λ c.
     let a = c .before .args in
     let W = weightOf (a .qs .now) (a .x) (a .p) in
-    (omega arith, omega arith, omega arith, ap (λ (n : ℕ). mul n W) div-one ∙ one-mul W (weight-lt (a .qs .now) (a .x) (a .p)))
-
-shared-slice-read-q : tie.Need-shared-slice-read-q Inv-loop μ-loop
-shared-slice-read-q c = search needs
-
-product-requires : tie.Need-product-requires Inv-loop μ-loop
-product-requires c κs = search needs
-
-product-requires-2 : tie.Need-product-requires-2 Inv-loop μ-loop
-product-requires-2 c κs = search needs
-
-add-k : tie.Need-add-k Inv-loop μ-loop
-add-k c = search needs
-
-loop-less : tie.Need-loop-less Inv-loop μ-loop
-loop-less c = search needs
-
-loop-again : tie.Need-loop-again Inv-loop μ-loop
-loop-again c =
+    (omega arith, omega arith, omega arith, ap (λ (n : ℕ). mul n W) div-one ∙ one-mul W (weight-lt (a .qs .now) (a .x) (a .p))))
+    (λ c. search needs)
+    (λ c κs. search needs)
+    (λ c κs. search needs)
+    (λ c. search needs)
+    (λ c. search needs)
+    (λ c.
     let l = c .before .before .before .loop in
     let a = c .before .before .before .before .before .args in
     let q = getD (a .qs .now) (l .k) 0 in
@@ -68,30 +61,10 @@ loop-again c =
       ap (λ (n : ℕ). mul n R) (ap₂ div (t .1) (t .2))
           ∙ weight-skip (a .qs .now) (l .k) (a .x) (a .p) (div (l .num) (l .den)) W h (t .0 .left) (l .inv .3),
     ))
-    (c .if1 .came)
-
-quotient-requires : tie.Need-quotient-requires Inv-loop μ-loop
-quotient-requires c κs = c .before .loop .inv .1
-
-returns : tie.Need-returns Inv-loop μ-loop
-returns c =
+    (c .if1 .came))
+    (λ c κs. c .before .loop .inv .1)
+    (λ c.
     let l = c .before .before .loop in
     let a = c .before .before .before .before .args in
     c .quotient .ensures
-    ∙ weight-end (a .qs .now) (l .k) (a .x) (a .p) (div (l .num) (l .den)) _ (omega arith) (div-lt (l .num) (l .den)) (l .inv .3)
-
-pub weight-spec : {M : Type 1} → statement M
-weight-spec =
-    tie.close
-    (tie.spec
-    Inv-loop
-    μ-loop
-    loop-holds
-    shared-slice-read-q
-    product-requires
-    product-requires-2
-    add-k
-    loop-less
-    loop-again
-    quotient-requires
-    returns)
+    ∙ weight-end (a .qs .now) (l .k) (a .x) (a .p) (div (l .num) (l .den)) _ (omega arith) (div-lt (l .num) (l .den)) (l .inv .3)))

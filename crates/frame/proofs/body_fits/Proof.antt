@@ -9,9 +9,6 @@ use borrow.Author.Needs.{needs}
 use Rattle.frame.proofs.body_fits.Statement.{statement}
 use Rattle.frame.proofs.body_fits.Tie as tie
 
-record-length-requires : tie.Need-record-length-requires
-record-length-requires c κs = search needs
-
 returns : tie.Need-returns
 unfolding bodyFits
 returns c =
@@ -50,21 +47,18 @@ returns-6 c =
     let a = s .before .args in
     laws.fits-at (a .p) _ 7 (a .n) _ (c .before .match .keys5) (rw (ne-eqb _ _ (λ e. c .if1 .left (e ∙ sym (s .record-length .ensures .0)))))
 
-returns-7 : tie.Need-returns-7
-returns-7 c =
-    let none = c .match .rest in
-    laws.fits-none _ _ _
-    (λ e. none .0 .0 .0 .0 .1 (inl e)) (none .0 .0 .0 .1) (none .0 .0 .1) (λ e. none .0 .1 (inl e)) (λ e. none .0 .0 .0 .0 .1 (inr e)) (λ e. none .0 .1 (inr e)) (none .1)
-
 pub body-fits-spec : {M : Type 1} → statement M
 body-fits-spec =
     tie.close
     (tie.spec
-    record-length-requires
+    (λ c κs. search needs)
     returns
     returns-2
     returns-3
     returns-4
     returns-5
     returns-6
-    returns-7)
+    (λ c.
+    let none = c .match .rest in
+    laws.fits-none _ _ _
+    (λ e. none .0 .0 .0 .0 .1 (inl e)) (none .0 .0 .0 .1) (none .0 .0 .1) (λ e. none .0 .1 (inl e)) (λ e. none .0 .0 .0 .0 .1 (inr e)) (λ e. none .0 .1 (inr e)) (none .1)))

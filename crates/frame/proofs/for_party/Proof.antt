@@ -6,42 +6,26 @@ use borrow.Author.Needs.{needs}
 use Rattle.frame.proofs.for_party.Statement.{statement}
 use Rattle.frame.proofs.for_party.Tie as tie
 
-enum-told : tie.Need-enum-told
-enum-told c = search needs
-
-enum-told-2 : tie.Need-enum-told-2
-enum-told-2 c = search needs
-
-returns : tie.Need-returns
-returns c =
-    let none = c .before .match2 .rest .1 in
-    laws.told-no _ Node _ (c .before .before .enum-told .given .1)
-    (⊎-elim (λ e. none (inl e)) (⊎-elim (λ e. none (inr e)) (⊎-elim (λ e. omega arith) (⊎-elim (λ e. omega arith) (λ e. e)))))
-
-returns-2 : tie.Need-returns-2
-returns-2 c =
-    let none = c .before .before .match2 .rest .1 in
-    laws.told-no _ Node _ (c .before .before .before .enum-told .given .1)
-    (⊎-elim (λ e. none (inl e)) (⊎-elim (λ e. none (inr e)) (⊎-elim (λ e. omega arith) (⊎-elim (λ e. omega arith) (λ e. e)))))
-
-returns-3 : tie.Need-returns-3
-returns-3 c = laws.told-is _ Node _ (c .before .enum-told .given .1) (⊎-elim (λ e. inl e) (λ e. inr (inl e)) (c .match2 .keys1))
-
-returns-4 : tie.Need-returns-4
-returns-4 c = laws.told-is _ Node _ (c .before .before .before .enum-told .given .1) (laws.side-by-side _ (omega arith) (omega arith))
-
-returns-5 : tie.Need-returns-5
-returns-5 c =
-    laws.told-is _ Client _ (c .before .enum-told2 .given .1)
-    (⊎-elim (λ e. inl e) (⊎-elim (λ e. inr (inl e)) (λ e. inr (inr (inl e)))) (c .match3 .keys1))
-
-returns-6 : tie.Need-returns-6
-returns-6 c =
-    let none = c .match3 .rest .1 in
-    laws.told-no _ Client _ (c .before .enum-told2 .given .1)
-    (⊎-elim (λ e. none (inl e)) (⊎-elim (λ e. none (inr (inl e))) (⊎-elim (λ e. none (inr (inr e))) (λ e. e))))
-
 pub for-party-spec : {M : Type 1} → statement M
 for-party-spec =
     tie.close
-    (tie.spec enum-told enum-told-2 returns returns-2 returns-3 returns-4 returns-5 returns-6)
+    (tie.spec
+    (λ c. search needs)
+    (λ c. search needs)
+    (λ c.
+    let none = c .before .match2 .rest .1 in
+    laws.told-no _ Node _ (c .before .before .enum-told .given .1)
+    (⊎-elim (λ e. none (inl e)) (⊎-elim (λ e. none (inr e)) (⊎-elim (λ e. omega arith) (⊎-elim (λ e. omega arith) (λ e. e))))))
+    (λ c.
+    let none = c .before .before .match2 .rest .1 in
+    laws.told-no _ Node _ (c .before .before .before .enum-told .given .1)
+    (⊎-elim (λ e. none (inl e)) (⊎-elim (λ e. none (inr e)) (⊎-elim (λ e. omega arith) (⊎-elim (λ e. omega arith) (λ e. e))))))
+    (λ c. laws.told-is _ Node _ (c .before .enum-told .given .1) (⊎-elim (λ e. inl e) (λ e. inr (inl e)) (c .match2 .keys1)))
+    (λ c. laws.told-is _ Node _ (c .before .before .before .enum-told .given .1) (laws.side-by-side _ (omega arith) (omega arith)))
+    (λ c.
+    laws.told-is _ Client _ (c .before .enum-told2 .given .1)
+    (⊎-elim (λ e. inl e) (⊎-elim (λ e. inr (inl e)) (λ e. inr (inr (inl e)))) (c .match3 .keys1)))
+    (λ c.
+    let none = c .match3 .rest .1 in
+    laws.told-no _ Client _ (c .before .enum-told2 .given .1)
+    (⊎-elim (λ e. none (inl e)) (⊎-elim (λ e. none (inr (inl e))) (⊎-elim (λ e. none (inr (inr e))) (λ e. e))))))

@@ -9,43 +9,32 @@ use borrow.Author.Needs.{needs}
 use Rattle.frame.proofs.good_frame.Statement.{statement}
 use Rattle.frame.proofs.good_frame.Tie as tie
 
-shaped-requires : tie.Need-shaped-requires
-shaped-requires c κs = search needs
-
-returns : tie.Need-returns
-returns c =
+pub good-frame-spec : {M : Type 1} → statement M
+good-frame-spec =
+    tie.close
+    (tie.spec
+    (λ c κs. search needs)
+    (λ c.
     let s = c .before .shaped in
-    laws.frame-unshaped _ _ _ (sym (s .ensures) ∙ not-true (s .result) (c .if1 .taken))
-
-kind-of-requires : tie.Need-kind-of-requires
-kind-of-requires c κs =
+    laws.frame-unshaped _ _ _ (sym (s .ensures) ∙ not-true (s .result) (c .if1 .taken)))
+    (λ c κs.
     let s = c .before .shaped in
-    laws.shaped-is _ (sym (s .ensures) ∙ not-false (s .result) (c .if1 .left)) .low
-
-for-party-requires : tie.Need-for-party-requires
-for-party-requires c κs = search needs
-
-returns-2 : tie.Need-returns-2
-returns-2 c =
+    laws.shaped-is _ (sym (s .ensures) ∙ not-false (s .result) (c .if1 .left)) .low)
+    (λ c κs. search needs)
+    (λ c.
     let k = c .before .before in
     let i = k .before in
     let s = i .before .shaped in
     let a = i .before .before .before .args in
     laws.frame-stray _ _ _ (sym (s .ensures) ∙ not-false (s .result) (i .if1 .left))
-    (ap (λ (x : ℕ). forParty (a .party) x) (sym (k .kind-of .ensures .0)) ∙ sym (c .before .for-party .ensures) ∙ not-true (c .before .for-party .result) (c .if2 .taken))
-
-sub-body-fits : tie.Need-sub-body-fits
-sub-body-fits c =
+    (ap (λ (x : ℕ). forParty (a .party) x) (sym (k .kind-of .ensures .0)) ∙ sym (c .before .for-party .ensures) ∙ not-true (c .before .for-party .result) (c .if2 .taken)))
+    (λ c.
     let i = c .before .before .before in
     let s = i .before .shaped in
     let l = laws.shaped-is _ (sym (s .ensures) ∙ not-false (s .result) (i .if1 .left)) .low in
-    omega arith
-
-body-fits-requires : tie.Need-body-fits-requires
-body-fits-requires c κs = search needs
-
-returns-3 : tie.Need-returns-3
-returns-3 c =
+    omega arith)
+    (λ c κs. search needs)
+    (λ c.
     let f = c .before .before .for-party in
     let k = c .before .before .before in
     let i = k .before in
@@ -53,17 +42,4 @@ returns-3 c =
     let a = i .before .before .before .args in
     laws.frame-last _ _ _ _ (sym (s .ensures) ∙ not-false (s .result) (i .if1 .left))
     (ap (λ (x : ℕ). forParty (a .party) x) (sym (k .kind-of .ensures .0)) ∙ sym (f .ensures) ∙ not-false (f .result) (c .before .if2 .left))
-    (c .body-fits .ensures ∙ ap (λ (x : ℕ). bodyFits (a .p) x (length (a .f .now) - 15)) (k .kind-of .ensures .0))
-
-pub good-frame-spec : {M : Type 1} → statement M
-good-frame-spec =
-    tie.close
-    (tie.spec
-    shaped-requires
-    returns
-    kind-of-requires
-    for-party-requires
-    returns-2
-    sub-body-fits
-    body-fits-requires
-    returns-3)
+    (c .body-fits .ensures ∙ ap (λ (x : ℕ). bodyFits (a .p) x (length (a .f .now) - 15)) (k .kind-of .ensures .0))))

@@ -14,37 +14,16 @@ Inv-loop nodes f desk k₀ k = named f desk nodes ≡ named f desk (drop k nodes
 abbrev μ-loop : tie.MeasureT-loop
 μ-loop nodes f desk k₀ k = length nodes - k
 
-loop-holds : tie.Need-loop-holds Inv-loop μ-loop
-loop-holds c = refl
-
-is-apart-requires : tie.Need-is-apart-requires Inv-loop μ-loop
-is-apart-requires c κs = (omega arith, omega arith)
-
-returns : tie.Need-returns Inv-loop μ-loop
-returns c = sym (c .before .before .before .loop .inv ∙ named-stop (c .before .before .before .before .before .args .f) (c .before .before .before .before .before .args .desk) (c .before .before .before .before .before .args .nodes .now) (c .before .before .before .loop .k) (omega arith) (sym (c .before .is-apart .ensures) ∙ not-true (c .before .is-apart .result) (c .if1 .taken)))
-
-add-k : tie.Need-add-k Inv-loop μ-loop
-add-k c = omega arith
-
-loop-less : tie.Need-loop-less Inv-loop μ-loop
-loop-less c = omega arith
-
-loop-again : tie.Need-loop-again Inv-loop μ-loop
-loop-again c = c .before .before .before .loop .inv ∙ named-on (c .before .before .before .before .before .args .f) (c .before .before .before .before .before .args .desk) (c .before .before .before .before .before .args .nodes .now) (c .before .before .before .loop .k) (omega arith) (sym (c .before .is-apart .ensures) ∙ not-false (c .before .is-apart .result) (c .if1 .left))
-
-returns-2 : tie.Need-returns-2 Inv-loop μ-loop
-returns-2 c = sym (c .before .loop .inv ∙ named-end (c .before .before .before .args .f) (c .before .before .before .args .desk) (c .before .before .before .args .nodes .now) (c .before .loop .k) (omega arith))
-
 pub are-named-spec : {M : Type 1} → statement M
 are-named-spec =
     tie.close
     (tie.spec
     Inv-loop
     μ-loop
-    loop-holds
-    is-apart-requires
-    returns
-    add-k
-    loop-less
-    loop-again
-    returns-2)
+    (λ c. refl)
+    (λ c κs. (omega arith, omega arith))
+    (λ c. sym (c .before .before .before .loop .inv ∙ named-stop (c .before .before .before .before .before .args .f) (c .before .before .before .before .before .args .desk) (c .before .before .before .before .before .args .nodes .now) (c .before .before .before .loop .k) (omega arith) (sym (c .before .is-apart .ensures) ∙ not-true (c .before .is-apart .result) (c .if1 .taken))))
+    (λ c. omega arith)
+    (λ c. omega arith)
+    (λ c. c .before .before .before .loop .inv ∙ named-on (c .before .before .before .before .before .args .f) (c .before .before .before .before .before .args .desk) (c .before .before .before .before .before .args .nodes .now) (c .before .before .before .loop .k) (omega arith) (sym (c .before .is-apart .ensures) ∙ not-false (c .before .is-apart .result) (c .if1 .left)))
+    (λ c. sym (c .before .loop .inv ∙ named-end (c .before .before .before .args .f) (c .before .before .before .args .desk) (c .before .before .before .args .nodes .now) (c .before .loop .k) (omega arith))))

@@ -7,21 +7,12 @@ use borrow.Author.Needs.{needs}
 use Rattle.ground.proofs.encode_fits.Statement.{statement}
 use Rattle.ground.proofs.encode_fits.Tie as tie
 
-returns : tie.Need-returns
-returns c = encode-no _ _ _ _ _ (λ h. omega arith)
-
-runs-fit-requires : tie.Need-runs-fit-requires
-runs-fit-requires c κs = search needs
-
-returns-2 : tie.Need-returns-2
-returns-2 c = encode-no _ _ _ _ _ (λ h. clash (sym (h .1) ∙ sym (c .before .runs-fit .ensures) ∙ not-true (c .before .runs-fit .result) (c .if2 .taken)))
-
-runs-fit-requires-2 : tie.Need-runs-fit-requires-2
-runs-fit-requires-2 c κs = search needs
-
-returns-3 : tie.Need-returns-3
-returns-3 c = c .runs-fit2 .ensures ∙ encode-yes _ _ _ _ _ (omega arith) (sym (c .before .before .runs-fit .ensures) ∙ not-false (c .before .before .runs-fit .result) (c .before .if2 .left))
-
 pub encode-fits-spec : {M : Type 1} → statement M
 encode-fits-spec =
-    tie.close (tie.spec returns runs-fit-requires returns-2 runs-fit-requires-2 returns-3)
+    tie.close
+    (tie.spec
+    (λ c. encode-no _ _ _ _ _ (λ h. omega arith))
+    (λ c κs. search needs)
+    (λ c. encode-no _ _ _ _ _ (λ h. clash (sym (h .1) ∙ sym (c .before .runs-fit .ensures) ∙ not-true (c .before .runs-fit .result) (c .if2 .taken))))
+    (λ c κs. search needs)
+    (λ c. c .runs-fit2 .ensures ∙ encode-yes _ _ _ _ _ (omega arith) (sym (c .before .before .runs-fit .ensures) ∙ not-false (c .before .before .runs-fit .result) (c .before .if2 .left))))

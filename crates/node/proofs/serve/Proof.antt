@@ -8,19 +8,11 @@ use borrow.Author.Needs.{needs}
 use Rattle.node.proofs.serve.Statement.{statement}
 use Rattle.node.proofs.serve.Tie as tie
 
-plan-ok-requires : tie.Need-plan-ok-requires
-plan-ok-requires c κs = search needs
-
 returns : tie.Need-returns
 unfolding served
 returns c =
     let plan-ok = c .before .plan-ok in
     record { is = rungs.stop 1 _ _ _ (laws.so-not (plan-ok .ensures) (c .if1 .taken)) refl }
-
-lengths-ok-requires : tie.Need-lengths-ok-requires
-lengths-ok-requires c κs =
-    let plan-ok = c .before .plan-ok in
-    laws.so (plan-ok .ensures) (c .if1 .left)
 
 returns-2 : tie.Need-returns-2
 unfolding served
@@ -29,17 +21,6 @@ returns-2 c =
     let if1 = c .before .before .if1 in
     let lengths-ok = c .before .lengths-ok in
     record { is = rungs.go-on 1 _ _ _ (laws.so-not (plan-ok .ensures) (if1 .left)) (rungs.stop 2 _ _ _ (laws.so-not (lengths-ok .ensures) (c .if2 .taken)) refl) }
-
-good-requires : tie.Need-good-requires
-good-requires c κs =
-    let plan-ok = c .before .before .before .before .plan-ok in
-    let if1 = c .before .before .before .if1 in
-    let lengths-ok = c .before .before .lengths-ok in
-    let if2 = c .before .if2 in
-    (laws.so (plan-ok .ensures) (if1 .left), laws.lengths-are _ _ _ (laws.so (lengths-ok .ensures) (if2 .left)) .low)
-
-same-length : tie.Need-same-length
-same-length c = search needs
 
 returns-3 : tie.Need-returns-3
 unfolding served
@@ -50,21 +31,6 @@ returns-3 c =
     let if2 = c .before .before .before .if2 in
     let good2 = c .before .good2 in
     record { is = rungs.go-on 1 _ _ _ (laws.so-not (plan-ok .ensures) (if1 .left)) (rungs.go-on 2 _ _ _ (laws.so-not (lengths-ok .ensures) (if2 .left)) (rungs.stop 3 _ _ _ (laws.so-not (good2 .ensures .is) (c .if3 .taken)) refl)) }
-
-node-of-requires : tie.Need-node-of-requires
-node-of-requires c κs =
-    let lengths-ok = c .before .before .before .before .before .lengths-ok in
-    let if2 = c .before .before .before .before .if2 in
-    laws.lengths-are _ _ _ (laws.so (lengths-ok .ensures) (if2 .left)) .low
-
-request-ok-requires : tie.Need-request-ok-requires
-request-ok-requires c κs =
-    let plan-ok = c .before .before .before .before .before .before .before .before .plan-ok in
-    let if1 = c .before .before .before .before .before .before .before .if1 in
-    laws.so (plan-ok .ensures) (if1 .left)
-
-same-length-2 : tie.Need-same-length-2
-same-length-2 c = search needs
 
 returns-4 : tie.Need-returns-4
 unfolding served
@@ -78,85 +44,6 @@ returns-4 c =
     let request-ok = c .before .request-ok in
     let node-of = c .before .before .node-of in
     record { is = rungs.go-on 1 _ _ _ (laws.so-not (plan-ok .ensures) (if1 .left)) (rungs.go-on 2 _ _ _ (laws.so-not (lengths-ok .ensures) (if2 .left)) (rungs.go-on 3 _ _ _ (laws.so-not (good2 .ensures .is) (if3 .left)) (rungs.stop 4 _ _ _ (laws.so-not (laws.here _ _ _ (request-ok .ensures) (node-of .ensures)) (c .if4 .taken)) refl))) }
-
-zero-time-requires : tie.Need-zero-time-requires
-zero-time-requires c κs =
-    let plan-ok = c .before .before .before .before .before .before .before .before .before .before .plan-ok in
-    let if1 = c .before .before .before .before .before .before .before .before .before .if1 in
-    let request-ok = c .before .request-ok in
-    (laws.so (plan-ok .ensures) (if1 .left), laws.so (request-ok .ensures) (c .if4 .left))
-
-same-length-3 : tie.Need-same-length-3
-same-length-3 c = search needs
-
-returns-5 : tie.Need-returns-5
-returns-5 c =
-    let plan-ok = c .before .before .before .before .before .before .before .before .before .before .before .before .plan-ok in
-    let if1 = c .before .before .before .before .before .before .before .before .before .before .before .if1 in
-    let lengths-ok = c .before .before .before .before .before .before .before .before .before .before .lengths-ok in
-    let if2 = c .before .before .before .before .before .before .before .before .before .if2 in
-    let good2 = c .before .before .before .before .before .before .before .good2 in
-    let if3 = c .before .before .before .before .before .before .if3 in
-    let request-ok = c .before .before .before .request-ok in
-    let node-of = c .before .before .before .before .node-of in
-    let if4 = c .before .before .if4 in
-    let zero-time = c .before .zero-time in
-    let ok = laws.admits _ _ _ _ (plan-ok .ensures) (if1 .left) (lengths-ok .ensures) (if2 .left) (good2 .ensures) (if3 .left) (request-ok .ensures)
-    (node-of .ensures) (if4 .left) in
-    record { is = laws.admitted _ _ _ _ ok (rungs.stop 5 _ _ _ (sym (zero-time .ensures) ∙ c .if5 .taken) refl) }
-
-hash-fails-requires : tie.Need-hash-fails-requires
-hash-fails-requires c κs =
-    let good2 = c .before .before .before .before .before .before .before .good2 in
-    let if3 = c .before .before .before .before .before .before .if3 in
-    let plan-ok = c .before .before .before .before .before .before .before .before .before .before .before .before .plan-ok in
-    let if1 = c .before .before .before .before .before .before .before .before .before .before .before .if1 in
-    let request-ok = c .before .before .before .request-ok in
-    let if4 = c .before .before .if4 in
-    let node-of = c .before .before .before .before .node-of in
-    let n = books.good-is _ _ (laws.so (good2 .ensures .is) (if3 .left)) .head .node in
-    (laws.so (plan-ok .ensures) (if1 .left), laws.so (request-ok .ensures) (if4 .left), omega (arith, node-of .ensures))
-
-same-length-4 : tie.Need-same-length-4
-same-length-4 c = search needs
-
-returns-6 : tie.Need-returns-6
-returns-6 c =
-    let plan-ok = c .before .before .before .before .before .before .before .before .before .before .before .before .before .before .plan-ok in
-    let if1 = c .before .before .before .before .before .before .before .before .before .before .before .before .before .if1 in
-    let lengths-ok = c .before .before .before .before .before .before .before .before .before .before .before .before .lengths-ok in
-    let if2 = c .before .before .before .before .before .before .before .before .before .before .before .if2 in
-    let good2 = c .before .before .before .before .before .before .before .before .before .good2 in
-    let if3 = c .before .before .before .before .before .before .before .before .if3 in
-    let request-ok = c .before .before .before .before .before .request-ok in
-    let node-of = c .before .before .before .before .before .before .node-of in
-    let if4 = c .before .before .before .before .if4 in
-    let zero-time = c .before .before .before .zero-time in
-    let if5 = c .before .before .if5 in
-    let hash-fails = c .before .hash-fails in
-    let ok = laws.admits _ _ _ _ (plan-ok .ensures) (if1 .left) (lengths-ok .ensures) (if2 .left) (good2 .ensures) (if3 .left) (request-ok .ensures)
-    (node-of .ensures) (if4 .left) in
-    record { is = laws.admitted _ _ _ _ ok (rungs.go-on 5 _ _ _ (sym (zero-time .ensures) ∙ if5 .left) (rungs.stop 6 _ _ _ (sym (hash-fails .ensures) ∙ c .if6 .taken) refl)) }
-
-respond-requires : tie.Need-respond-requires
-respond-requires c κs =
-    let plan-ok = c .before .before .before .before .before .before .before .before .before .before .before .before .before .before .before .before .plan-ok in
-    let if1 = c .before .before .before .before .before .before .before .before .before .before .before .before .before .before .before .if1 in
-    let lengths-ok = c .before .before .before .before .before .before .before .before .before .before .before .before .before .before .lengths-ok in
-    let if2 = c .before .before .before .before .before .before .before .before .before .before .before .before .before .if2 in
-    let good2 = c .before .before .before .before .before .before .before .before .before .before .before .good2 in
-    let if3 = c .before .before .before .before .before .before .before .before .before .before .if3 in
-    let request-ok = c .before .before .before .before .before .before .before .request-ok in
-    let node-of = c .before .before .before .before .before .before .before .before .node-of in
-    let if4 = c .before .before .before .before .before .before .if4 in
-    laws.admits _ _ _ _ (plan-ok .ensures) (if1 .left) (lengths-ok .ensures) (if2 .left) (good2 .ensures) (if3 .left) (request-ok .ensures)
-    (node-of .ensures) (if4 .left)
-
-same-length-5 : tie.Need-same-length-5
-same-length-5 c = search needs
-
-same-length-6 : tie.Need-same-length-6
-same-length-6 c = search needs
 
 returns-7 : tie.Need-returns-7
 unfolding finished
@@ -183,24 +70,89 @@ pub serve-spec : {M : Type 1} → statement M
 serve-spec =
     tie.close
     (tie.spec
-    plan-ok-requires
+    (λ c κs. search needs)
     returns
-    lengths-ok-requires
+    (λ c κs.
+    let plan-ok = c .before .plan-ok in
+    laws.so (plan-ok .ensures) (c .if1 .left))
     returns-2
-    good-requires
-    same-length
+    (λ c κs.
+    let plan-ok = c .before .before .before .before .plan-ok in
+    let if1 = c .before .before .before .if1 in
+    let lengths-ok = c .before .before .lengths-ok in
+    let if2 = c .before .if2 in
+    (laws.so (plan-ok .ensures) (if1 .left), laws.lengths-are _ _ _ (laws.so (lengths-ok .ensures) (if2 .left)) .low))
+    (λ c. search needs)
     returns-3
-    node-of-requires
-    request-ok-requires
-    same-length-2
+    (λ c κs.
+    let lengths-ok = c .before .before .before .before .before .lengths-ok in
+    let if2 = c .before .before .before .before .if2 in
+    laws.lengths-are _ _ _ (laws.so (lengths-ok .ensures) (if2 .left)) .low)
+    (λ c κs.
+    let plan-ok = c .before .before .before .before .before .before .before .before .plan-ok in
+    let if1 = c .before .before .before .before .before .before .before .if1 in
+    laws.so (plan-ok .ensures) (if1 .left))
+    (λ c. search needs)
     returns-4
-    zero-time-requires
-    same-length-3
-    returns-5
-    hash-fails-requires
-    same-length-4
-    returns-6
-    respond-requires
-    same-length-5
-    same-length-6
+    (λ c κs.
+    let plan-ok = c .before .before .before .before .before .before .before .before .before .before .plan-ok in
+    let if1 = c .before .before .before .before .before .before .before .before .before .if1 in
+    let request-ok = c .before .request-ok in
+    (laws.so (plan-ok .ensures) (if1 .left), laws.so (request-ok .ensures) (c .if4 .left)))
+    (λ c. search needs)
+    (λ c.
+    let plan-ok = c .before .before .before .before .before .before .before .before .before .before .before .before .plan-ok in
+    let if1 = c .before .before .before .before .before .before .before .before .before .before .before .if1 in
+    let lengths-ok = c .before .before .before .before .before .before .before .before .before .before .lengths-ok in
+    let if2 = c .before .before .before .before .before .before .before .before .before .if2 in
+    let good2 = c .before .before .before .before .before .before .before .good2 in
+    let if3 = c .before .before .before .before .before .before .if3 in
+    let request-ok = c .before .before .before .request-ok in
+    let node-of = c .before .before .before .before .node-of in
+    let if4 = c .before .before .if4 in
+    let zero-time = c .before .zero-time in
+    let ok = laws.admits _ _ _ _ (plan-ok .ensures) (if1 .left) (lengths-ok .ensures) (if2 .left) (good2 .ensures) (if3 .left) (request-ok .ensures)
+    (node-of .ensures) (if4 .left) in
+    record { is = laws.admitted _ _ _ _ ok (rungs.stop 5 _ _ _ (sym (zero-time .ensures) ∙ c .if5 .taken) refl) })
+    (λ c κs.
+    let good2 = c .before .before .before .before .before .before .before .good2 in
+    let if3 = c .before .before .before .before .before .before .if3 in
+    let plan-ok = c .before .before .before .before .before .before .before .before .before .before .before .before .plan-ok in
+    let if1 = c .before .before .before .before .before .before .before .before .before .before .before .if1 in
+    let request-ok = c .before .before .before .request-ok in
+    let if4 = c .before .before .if4 in
+    let node-of = c .before .before .before .before .node-of in
+    let n = books.good-is _ _ (laws.so (good2 .ensures .is) (if3 .left)) .head .node in
+    (laws.so (plan-ok .ensures) (if1 .left), laws.so (request-ok .ensures) (if4 .left), omega (arith, node-of .ensures)))
+    (λ c. search needs)
+    (λ c.
+    let plan-ok = c .before .before .before .before .before .before .before .before .before .before .before .before .before .before .plan-ok in
+    let if1 = c .before .before .before .before .before .before .before .before .before .before .before .before .before .if1 in
+    let lengths-ok = c .before .before .before .before .before .before .before .before .before .before .before .before .lengths-ok in
+    let if2 = c .before .before .before .before .before .before .before .before .before .before .before .if2 in
+    let good2 = c .before .before .before .before .before .before .before .before .before .good2 in
+    let if3 = c .before .before .before .before .before .before .before .before .if3 in
+    let request-ok = c .before .before .before .before .before .request-ok in
+    let node-of = c .before .before .before .before .before .before .node-of in
+    let if4 = c .before .before .before .before .if4 in
+    let zero-time = c .before .before .before .zero-time in
+    let if5 = c .before .before .if5 in
+    let hash-fails = c .before .hash-fails in
+    let ok = laws.admits _ _ _ _ (plan-ok .ensures) (if1 .left) (lengths-ok .ensures) (if2 .left) (good2 .ensures) (if3 .left) (request-ok .ensures)
+    (node-of .ensures) (if4 .left) in
+    record { is = laws.admitted _ _ _ _ ok (rungs.go-on 5 _ _ _ (sym (zero-time .ensures) ∙ if5 .left) (rungs.stop 6 _ _ _ (sym (hash-fails .ensures) ∙ c .if6 .taken) refl)) })
+    (λ c κs.
+    let plan-ok = c .before .before .before .before .before .before .before .before .before .before .before .before .before .before .before .before .plan-ok in
+    let if1 = c .before .before .before .before .before .before .before .before .before .before .before .before .before .before .before .if1 in
+    let lengths-ok = c .before .before .before .before .before .before .before .before .before .before .before .before .before .before .lengths-ok in
+    let if2 = c .before .before .before .before .before .before .before .before .before .before .before .before .before .if2 in
+    let good2 = c .before .before .before .before .before .before .before .before .before .before .before .good2 in
+    let if3 = c .before .before .before .before .before .before .before .before .before .before .if3 in
+    let request-ok = c .before .before .before .before .before .before .before .request-ok in
+    let node-of = c .before .before .before .before .before .before .before .before .node-of in
+    let if4 = c .before .before .before .before .before .before .if4 in
+    laws.admits _ _ _ _ (plan-ok .ensures) (if1 .left) (lengths-ok .ensures) (if2 .left) (good2 .ensures) (if3 .left) (request-ok .ensures)
+    (node-of .ensures) (if4 .left))
+    (λ c. search needs)
+    (λ c. search needs)
     returns-7)

@@ -17,33 +17,6 @@ loop-holds : tie.Need-loop-holds Inv-loop μ-loop
 unfolding num part numFrom be beOnto
 loop-holds c = (omega arith, refl, omega arith, refl)
 
-mul-x : tie.Need-mul-x Inv-loop μ-loop
-mul-x c = omega (arith, laws.room (c .before .loop .x) (c .before .loop .i) (omega arith) (omega arith))
-
-add-x : tie.Need-add-x Inv-loop μ-loop
-add-x c = omega arith
-
-shared-slice-read-x : tie.Need-shared-slice-read-x Inv-loop μ-loop
-shared-slice-read-x c = omega arith
-
-cast-x : tie.Need-cast-x Inv-loop μ-loop
-cast-x c = omega (arith, c .shared-slice-known .given (c .before .before .before .args .at + c .before .before .loop .i))
-
-add-x-2 : tie.Need-add-x-2 Inv-loop μ-loop
-add-x-2 c = omega (arith, laws.room (c .before .before .loop .x) (c .before .before .loop .i) (omega arith) (omega arith), c .shared-slice-known .given (c .before .before .before .args .at + c .before .before .loop .i))
-
-add-i : tie.Need-add-i Inv-loop μ-loop
-add-i c = omega arith
-
-loop-less : tie.Need-loop-less Inv-loop μ-loop
-loop-less c = omega arith
-
-loop-again : tie.Need-loop-again Inv-loop μ-loop
-loop-again c = let l = c .before .before in let at = l .before .args .at in (omega arith, laws.get-turn _ at _ _ (omega arith) (l .loop .inv .1), laws.room-more _ (l .loop .i) _ (omega arith) (omega (arith, c .shared-slice-known .given (at + l .loop .i))), means.be-turn _ at _ _ (omega arith) (omega (arith, c .shared-slice-known .given (at + l .loop .i))) (l .loop .inv .3))
-
-returns : tie.Need-returns Inv-loop μ-loop
-returns c = let e : c .before .loop .i ≡ c .before .before .args .n = omega arith in (rw e at (c .before .loop .inv .1), rw e at (c .before .loop .inv .2), rw e at (c .before .loop .inv .3))
-
 pub get-spec : {M : Type 1} → statement M
 get-spec =
     tie.close
@@ -51,12 +24,12 @@ get-spec =
     Inv-loop
     μ-loop
     loop-holds
-    mul-x
-    add-x
-    shared-slice-read-x
-    cast-x
-    add-x-2
-    add-i
-    loop-less
-    loop-again
-    returns)
+    (λ c. omega (arith, laws.room (c .before .loop .x) (c .before .loop .i) (omega arith) (omega arith)))
+    (λ c. omega arith)
+    (λ c. omega arith)
+    (λ c. omega (arith, c .shared-slice-known .given (c .before .before .before .args .at + c .before .before .loop .i)))
+    (λ c. omega (arith, laws.room (c .before .before .loop .x) (c .before .before .loop .i) (omega arith) (omega arith), c .shared-slice-known .given (c .before .before .before .args .at + c .before .before .loop .i)))
+    (λ c. omega arith)
+    (λ c. omega arith)
+    (λ c. let l = c .before .before in let at = l .before .args .at in (omega arith, laws.get-turn _ at _ _ (omega arith) (l .loop .inv .1), laws.room-more _ (l .loop .i) _ (omega arith) (omega (arith, c .shared-slice-known .given (at + l .loop .i))), means.be-turn _ at _ _ (omega arith) (omega (arith, c .shared-slice-known .given (at + l .loop .i))) (l .loop .inv .3)))
+    (λ c. let e : c .before .loop .i ≡ c .before .before .args .n = omega arith in (rw e at (c .before .loop .inv .1), rw e at (c .before .loop .inv .2), rw e at (c .before .loop .inv .3))))

@@ -17,36 +17,6 @@ loop-holds : tie.Need-loop-holds Inv-loop μ-loop
 unfolding part
 loop-holds c = (omega arith, refl)
 
-add-x : tie.Need-add-x Inv-loop μ-loop
-add-x c = omega arith
-
-shared-slice-read-x : tie.Need-shared-slice-read-x Inv-loop μ-loop
-shared-slice-read-x c = omega arith
-
-add-y : tie.Need-add-y Inv-loop μ-loop
-add-y c = omega arith
-
-shared-slice-read-y : tie.Need-shared-slice-read-y Inv-loop μ-loop
-shared-slice-read-y c = omega arith
-
-returns : tie.Need-returns Inv-loop μ-loop
-returns c = sym (lt-ltb _ _ (let a = c .before .before .before .before .before .args in laws.less-split (a .a .now) (a .b .now) (a .i) (a .j) (a .n) (c .before .before .before .before .loop .k) (omega arith) (omega arith) (omega arith) (laws.bytes-all (a .a .now) (λ i. omega (arith, c .before .before .shared-slice-known .given i))) (c .before .before .before .before .loop .inv .1) (c .if1 .taken)))
-
-returns-2 : tie.Need-returns-2 Inv-loop μ-loop
-returns-2 c = let a = c .before .before .before .before .before .before .args in sym (le-ltb (num (part (a .a .now) (a .i) (a .n))) (num (part (a .b .now) (a .j) (a .n))) (let h = laws.less-split (a .b .now) (a .a .now) (a .j) (a .i) (a .n) (c .before .before .before .before .before .loop .k) (omega arith) (omega arith) (omega arith) (laws.bytes-all (a .b .now) (λ i. omega (arith, c .before .before .shared-slice-known2 .given i))) (sym (c .before .before .before .before .before .loop .inv .1)) (c .if2 .taken) in omega arith))
-
-add-k : tie.Need-add-k Inv-loop μ-loop
-add-k c = omega arith
-
-loop-less : tie.Need-loop-less Inv-loop μ-loop
-loop-less c = omega arith
-
-loop-again : tie.Need-loop-again Inv-loop μ-loop
-loop-again c = (omega arith, laws.less-more _ _ _ _ _ (omega arith) (omega arith) (c .before .before .before .before .before .loop .inv .1) (c .before .if1 .left) (c .if2 .left))
-
-returns-3 : tie.Need-returns-3 Inv-loop μ-loop
-returns-3 c = let e : c .before .loop .k ≡ c .before .before .args .n = omega arith in let z = c .before .loop .inv .1 in let a = c .before .before .args in sym (le-ltb (num (part (a .a .now) (a .i) (a .n))) (num (part (a .b .now) (a .j) (a .n))) (rw (← e) (omega arith)))
-
 pub less-spec : {M : Type 1} → statement M
 less-spec =
     tie.close
@@ -54,13 +24,13 @@ less-spec =
     Inv-loop
     μ-loop
     loop-holds
-    add-x
-    shared-slice-read-x
-    add-y
-    shared-slice-read-y
-    returns
-    returns-2
-    add-k
-    loop-less
-    loop-again
-    returns-3)
+    (λ c. omega arith)
+    (λ c. omega arith)
+    (λ c. omega arith)
+    (λ c. omega arith)
+    (λ c. sym (lt-ltb _ _ (let a = c .before .before .before .before .before .args in laws.less-split (a .a .now) (a .b .now) (a .i) (a .j) (a .n) (c .before .before .before .before .loop .k) (omega arith) (omega arith) (omega arith) (laws.bytes-all (a .a .now) (λ i. omega (arith, c .before .before .shared-slice-known .given i))) (c .before .before .before .before .loop .inv .1) (c .if1 .taken))))
+    (λ c. let a = c .before .before .before .before .before .before .args in sym (le-ltb (num (part (a .a .now) (a .i) (a .n))) (num (part (a .b .now) (a .j) (a .n))) (let h = laws.less-split (a .b .now) (a .a .now) (a .j) (a .i) (a .n) (c .before .before .before .before .before .loop .k) (omega arith) (omega arith) (omega arith) (laws.bytes-all (a .b .now) (λ i. omega (arith, c .before .before .shared-slice-known2 .given i))) (sym (c .before .before .before .before .before .loop .inv .1)) (c .if2 .taken) in omega arith)))
+    (λ c. omega arith)
+    (λ c. omega arith)
+    (λ c. (omega arith, laws.less-more _ _ _ _ _ (omega arith) (omega arith) (c .before .before .before .before .before .loop .inv .1) (c .before .if1 .left) (c .if2 .left)))
+    (λ c. let e : c .before .loop .k ≡ c .before .before .args .n = omega arith in let z = c .before .loop .inv .1 in let a = c .before .before .args in sym (le-ltb (num (part (a .a .now) (a .i) (a .n))) (num (part (a .b .now) (a .j) (a .n))) (rw (← e) (omega arith)))))

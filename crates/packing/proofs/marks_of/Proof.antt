@@ -18,27 +18,6 @@ loop-holds : tie.Need-loop-holds Inv-loop μ-loop
 unfolding marksOf
 loop-holds c = (omega arith, refl, refl)
 
-shared-slice-read-heard-of : tie.Need-shared-slice-read-heard-of Inv-loop μ-loop
-shared-slice-read-heard-of c = omega arith
-
-heard-of-requires : tie.Need-heard-of-requires Inv-loop μ-loop
-heard-of-requires c κs = search needs
-
-array-set-from-marks : tie.Need-array-set-from-marks Inv-loop μ-loop
-array-set-from-marks c = omega arith
-
-add-i : tie.Need-add-i Inv-loop μ-loop
-add-i c = omega arith
-
-loop-less : tie.Need-loop-less Inv-loop μ-loop
-loop-less c = omega arith
-
-loop-again : tie.Need-loop-again Inv-loop μ-loop
-loop-again c = (omega arith, simp length-set (omega arith), laws.marks-turn _ _ (c .before .before .before .loop .i) _ (omega arith) (omega arith) (c .heard-of .ensures) (c .before .before .before .loop .inv .2))
-
-returns : tie.Need-returns Inv-loop μ-loop
-returns c = laws.marks-end _ _ (c .before .loop .i) (omega arith) (omega arith) (c .before .loop .inv .2)
-
 pub marks-of-spec : {M : Type 1} → statement M
 marks-of-spec =
     tie.close
@@ -46,10 +25,10 @@ marks-of-spec =
     Inv-loop
     μ-loop
     loop-holds
-    shared-slice-read-heard-of
-    heard-of-requires
-    array-set-from-marks
-    add-i
-    loop-less
-    loop-again
-    returns)
+    (λ c. omega arith)
+    (λ c κs. search needs)
+    (λ c. omega arith)
+    (λ c. omega arith)
+    (λ c. omega arith)
+    (λ c. (omega arith, simp length-set (omega arith), laws.marks-turn _ _ (c .before .before .before .loop .i) _ (omega arith) (omega arith) (c .heard-of .ensures) (c .before .before .before .loop .inv .2)))
+    (λ c. laws.marks-end _ _ (c .before .loop .i) (omega arith) (omega arith) (c .before .loop .inv .2)))

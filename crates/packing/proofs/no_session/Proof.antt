@@ -6,11 +6,9 @@ use borrow.Author.Needs.{needs}
 use Rattle.packing.proofs.no_session.Statement.{statement}
 use Rattle.packing.proofs.no_session.Tie as tie
 
-zero-stamp-requires : tie.Need-zero-stamp-requires
-zero-stamp-requires c κs = search needs
-
-returns : tie.Need-returns
-returns c = let e = c .zero-stamp .ensures in λ i. record { operation = Read; stage = Asking; round = 0; bound = Free; opening = record { 0 = 0 }; greatest = record { 0 = 0 }; stamp = e i; marks = unheards }
-
 pub no-session-spec : {M : Type 1} → statement M
-no-session-spec = tie.close (tie.spec zero-stamp-requires returns)
+no-session-spec =
+    tie.close
+    (tie.spec
+    (λ c κs. search needs)
+    (λ c. let e = c .zero-stamp .ensures in λ i. record { operation = Read; stage = Asking; round = 0; bound = Free; opening = record { 0 = 0 }; greatest = record { 0 = 0 }; stamp = e i; marks = unheards }))

@@ -4,39 +4,6 @@ use borrow.Author.Needs.{needs}
 use Rattle.packing.proofs.plan_at.Statement.{statement}
 use Rattle.packing.proofs.plan_at.Tie as tie
 
-get-requires : tie.Need-get-requires
-get-requires c κs = search needs
-
-get-requires-2 : tie.Need-get-requires-2
-get-requires-2 c κs = search needs
-
-get-requires-3 : tie.Need-get-requires-3
-get-requires-3 c κs = search needs
-
-get-requires-4 : tie.Need-get-requires-4
-get-requires-4 c κs = search needs
-
-get-requires-5 : tie.Need-get-requires-5
-get-requires-5 c κs = search needs
-
-get-requires-6 : tie.Need-get-requires-6
-get-requires-6 c κs = search needs
-
-get-requires-7 : tie.Need-get-requires-7
-get-requires-7 c κs = search needs
-
-member-of-requires : tie.Need-member-of-requires
-member-of-requires c κs = search needs
-
-get-requires-8 : tie.Need-get-requires-8
-get-requires-8 c κs = search needs
-
-clients-of-requires : tie.Need-clients-of-requires
-clients-of-requires c κs = search needs
-
-get-requires-9 : tie.Need-get-requires-9
-get-requires-9 c κs = search needs
-
 returns : tie.Need-returns
 unfolding planAt
 returns c = let n = c .before .before .before .before .before .before .before .before .before .before .get .ensures .0 in
@@ -54,15 +21,15 @@ pub plan-at-spec : {M : Type 1} → statement M
 plan-at-spec =
     tie.close
     (tie.spec
-    get-requires
-    get-requires-2
-    get-requires-3
-    get-requires-4
-    get-requires-5
-    get-requires-6
-    get-requires-7
-    member-of-requires
-    get-requires-8
-    clients-of-requires
-    get-requires-9
+    (λ c κs. search needs)
+    (λ c κs. search needs)
+    (λ c κs. search needs)
+    (λ c κs. search needs)
+    (λ c κs. search needs)
+    (λ c κs. search needs)
+    (λ c κs. search needs)
+    (λ c κs. search needs)
+    (λ c κs. search needs)
+    (λ c κs. search needs)
+    (λ c κs. search needs)
     returns)

@@ -8,18 +8,9 @@ use borrow.Author.Needs.{needs}
 use Rattle.packing.proofs.plan_of.Statement.{statement}
 use Rattle.packing.proofs.plan_of.Tie as tie
 
-plan-shaped-requires : tie.Need-plan-shaped-requires
-plan-shaped-requires c κs = search needs
-
-no-plan-requires : tie.Need-no-plan-requires
-no-plan-requires c κs = search needs
-
 returns : tie.Need-returns
 unfolding planOf
 returns c = picks.no _ _ (sym (c .before .before .plan-shaped .ensures) ∙ not-true (c .before .before .plan-shaped .result) (c .before .if1 .taken)) (c .no-plan .ensures)
-
-plan-at-requires : tie.Need-plan-at-requires
-plan-at-requires c κs = let e = laws.plan-length _ (sym (c .before .plan-shaped .ensures) ∙ not-false (c .before .plan-shaped .result) (c .if1 .left)) in omega arith
 
 returns-2 : tie.Need-returns-2
 unfolding planOf
@@ -27,4 +18,10 @@ returns-2 c = picks.yes _ _ (sym (c .before .before .plan-shaped .ensures) ∙ n
 
 pub plan-of-spec : {M : Type 1} → statement M
 plan-of-spec =
-    tie.close (tie.spec plan-shaped-requires no-plan-requires returns plan-at-requires returns-2)
+    tie.close
+    (tie.spec
+    (λ c κs. search needs)
+    (λ c κs. search needs)
+    returns
+    (λ c κs. let e = laws.plan-length _ (sym (c .before .plan-shaped .ensures) ∙ not-false (c .before .plan-shaped .result) (c .if1 .left)) in omega arith)
+    returns-2)

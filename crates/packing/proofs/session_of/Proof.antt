@@ -7,18 +7,9 @@ use borrow.Author.Needs.{needs}
 use Rattle.packing.proofs.session_of.Statement.{statement}
 use Rattle.packing.proofs.session_of.Tie as tie
 
-session-shaped-requires : tie.Need-session-shaped-requires
-session-shaped-requires c κs = search needs
-
-no-session-requires : tie.Need-no-session-requires
-no-session-requires c κs = search needs
-
 returns : tie.Need-returns
 unfolding sessionOf
 returns c = picks.no _ _ (sym (c .before .before .session-shaped .ensures) ∙ not-true (c .before .before .session-shaped .result) (c .before .if1 .taken)) (c .no-session .ensures)
-
-session-at-requires : tie.Need-session-at-requires
-session-at-requires c κs = laws.session-length _ (sym (c .before .session-shaped .ensures) ∙ not-false (c .before .session-shaped .result) (c .if1 .left))
 
 returns-2 : tie.Need-returns-2
 unfolding sessionOf
@@ -27,4 +18,9 @@ returns-2 c = picks.yes _ _ (sym (c .before .before .session-shaped .ensures) �
 pub session-of-spec : {M : Type 1} → statement M
 session-of-spec =
     tie.close
-    (tie.spec session-shaped-requires no-session-requires returns session-at-requires returns-2)
+    (tie.spec
+    (λ c κs. search needs)
+    (λ c κs. search needs)
+    returns
+    (λ c κs. laws.session-length _ (sym (c .before .session-shaped .ensures) ∙ not-false (c .before .session-shaped .result) (c .if1 .left)))
+    returns-2)

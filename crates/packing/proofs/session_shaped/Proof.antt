@@ -12,41 +12,20 @@ returns : tie.Need-returns
 unfolding sessionShaped
 returns c = rules.fails _ (ne-eqb _ _ (c .if1 .taken))
 
-get-requires : tie.Need-get-requires
-get-requires c κs = search needs
-
 returns-2 : tie.Need-returns-2
 unfolding sessionShaped
 returns-2 c = rules.holds _ (eq-eqb _ _ (c .before .before .if1 .left)) (rules.fails _ (lt-leb _ _ (subst (λ (k : ℕ). 1 < k) (c .before .get .ensures .0) (c .if2 .taken))))
-
-get-requires-2 : tie.Need-get-requires-2
-get-requires-2 c κs = search needs
 
 returns-3 : tie.Need-returns-3
 unfolding sessionShaped
 returns-3 c = rules.holds _ (eq-eqb _ _ (c .before .before .before .before .if1 .left)) (rules.holds _ (le-leb _ _ (subst (λ (k : ℕ). k ≤ 1) (c .before .before .before .get .ensures .0) (c .before .before .if2 .left)))
     (rules.fails _ (lt-leb _ _ (subst (λ (k : ℕ). 2 < k) (c .before .get2 .ensures .0) (c .if3 .taken)))))
 
-bound-shaped-requires : tie.Need-bound-shaped-requires
-bound-shaped-requires c κs = search needs
-
 returns-4 : tie.Need-returns-4
 unfolding sessionShaped
 returns-4 c = rules.holds _ (eq-eqb _ _ (c .before .before .before .before .before .before .if1 .left)) (rules.holds _ (le-leb _ _ (subst (λ (k : ℕ). k ≤ 1) (c .before .before .before .before .before .get .ensures .0) (c .before .before .before .before .if2 .left)))
     (rules.holds _ (le-leb _ _ (subst (λ (k : ℕ). k ≤ 2) (c .before .before .before .get2 .ensures .0) (c .before .before .if3 .left)))
     (rules.fails _ (sym (c .before .bound-shaped .ensures) ∙ not-true (c .before .bound-shaped .result) (c .if4 .taken)))))
-
-sub-marks-shaped : tie.Need-sub-marks-shaped
-sub-marks-shaped c = search needs
-
-part-marks-shaped-start : tie.Need-part-marks-shaped-start
-part-marks-shaped-start c = search needs
-
-part-marks-shaped-end : tie.Need-part-marks-shaped-end
-part-marks-shaped-end c = search needs
-
-marks-shaped-requires : tie.Need-marks-shaped-requires
-marks-shaped-requires c κs = search needs
 
 returns-5 : tie.Need-returns-5
 unfolding sessionShaped part
@@ -59,14 +38,14 @@ session-shaped-spec =
     tie.close
     (tie.spec
     returns
-    get-requires
+    (λ c κs. search needs)
     returns-2
-    get-requires-2
+    (λ c κs. search needs)
     returns-3
-    bound-shaped-requires
+    (λ c κs. search needs)
     returns-4
-    sub-marks-shaped
-    part-marks-shaped-start
-    part-marks-shaped-end
-    marks-shaped-requires
+    (λ c. search needs)
+    (λ c. search needs)
+    (λ c. search needs)
+    (λ c κs. search needs)
     returns-5)

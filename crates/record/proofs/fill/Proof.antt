@@ -7,36 +7,24 @@ use borrow.Author.Needs.{needs}
 use Rattle.record.proofs.fill.Statement.{statement}
 use Rattle.record.proofs.fill.Tie as tie
 
-put-stamp-requires : tie.Need-put-stamp-requires
-put-stamp-requires c κs = let s = c .before .before .before in
+pub fill-spec : {M : Type 1} → statement M
+fill-spec =
+    tie.close
+    (tie.spec
+    (λ c κs. let s = c .before .before .before in
     let h = laws.room _ _ (s .pre .0) (s .pre .1) in
-    omega arith
-
-mul-copy : tie.Need-mul-copy
-mul-copy c = search needs
-
-copy-requires : tie.Need-copy-requires
-copy-requires c κs = let s = c .before .before .before .before .before .before .before .pre in
+    omega arith)
+    (λ c. search needs)
+    (λ c κs. let s = c .before .before .before .before .before .before .before .pre in
     let h = laws.room _ _ (s .0) (s .1) in
-    (omega arith, omega arith)
-
-spread-requires : tie.Need-spread-requires
-spread-requires c κs = let s = c .before .before .before .before .before .before .before .before .before .before .before .pre in
+    (omega arith, omega arith))
+    (λ c κs. let s = c .before .before .before .before .before .before .before .before .before .before .before .pre in
     let q = plan-is _ (s .0) in
-    (s .0, omega arith, omega arith)
-
-same-length : tie.Need-same-length
-same-length c = search needs
-
-returns : tie.Need-returns
-returns c = let p = c .before .before .before .before .before .before .before .before .before .before in
+    (s .0, omega arith, omega arith))
+    (λ c. search needs)
+    (λ c. let p = c .before .before .before .before .before .before .before .before .before .before in
     let s = p .before .before .before .before in
     let a = s .args in
     let h = laws.room _ _ (s .pre .0) (s .pre .1) in
     c .before .before .spread .ensures
-    ∙ laws.fill-is (a .p) (a .desk .now) _ _ _ _ _ h (length-be 40 _) (length-part _ _ _ (omega arith)) (p .put-stamp .ensures) (c .before .before .before .before .before .before .copy .ensures)
-
-pub fill-spec : {M : Type 1} → statement M
-fill-spec =
-    tie.close
-    (tie.spec put-stamp-requires mul-copy copy-requires spread-requires same-length returns)
+    ∙ laws.fill-is (a .p) (a .desk .now) _ _ _ _ _ h (length-be 40 _) (length-part _ _ _ (omega arith)) (p .put-stamp .ensures) (c .before .before .before .before .before .before .copy .ensures)))

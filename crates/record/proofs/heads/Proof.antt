@@ -19,8 +19,13 @@ Inv-loop desk₀ a h f r n k₀ desk k =
 abbrev μ-loop : tie.MeasureT-loop
 μ-loop desk₀ a h f r n k₀ desk k = n - k
 
-loop-holds : tie.Need-loop-holds Inv-loop μ-loop
-loop-holds c =
+pub heads-spec : {M : Type 1} → statement M
+heads-spec =
+    tie.close
+    (tie.spec
+    Inv-loop
+    μ-loop
+    (λ c.
     let s = c .before in
     let a = s .args in (
       omega arith,
@@ -28,31 +33,19 @@ loop-holds c =
       refl,
       laws.start (a .desk .now) (part (a .desk .now) (a .a * a .r) (a .h)) (a .r) (a .h) (a .f) (a .n) (s .pre .1)
           (length-part _ _ _ (omega (arith, slot-fits _ _ (a .r) (s .pre .2)))) (s .pre .0),
-    )
-
-mul-within : tie.Need-mul-within Inv-loop μ-loop
-mul-within c = let a = c .before .before .before .before .args in omega (arith, slot-fits _ _ (a .r) (c .before .before .before .before .pre .2))
-
-mul-within-2 : tie.Need-mul-within-2 Inv-loop μ-loop
-mul-within-2 c = let a = c .before .before .before .before .args in omega (arith, slot-fits _ _ (a .r) (c .before .loop-test .taken))
-
-within-requires : tie.Need-within-requires Inv-loop μ-loop
-within-requires c κs =
+    ))
+    (λ c. let a = c .before .before .before .before .args in omega (arith, slot-fits _ _ (a .r) (c .before .before .before .before .pre .2)))
+    (λ c. let a = c .before .before .before .before .args in omega (arith, slot-fits _ _ (a .r) (c .before .loop-test .taken)))
+    (λ c κs.
     let l = c .before .before in
     let s = l .before .before in
     let x = slot-fits _ _ (s .args .r) (s .pre .2) in
     let y = slot-fits _ _ (s .args .r) (c .before .loop-test .taken) in
     let n = l .loop .inv .1 in
-    (omega arith, omega arith)
-
-add-k : tie.Need-add-k Inv-loop μ-loop
-add-k c = omega arith
-
-loop-less : tie.Need-loop-less Inv-loop μ-loop
-loop-less c = omega arith
-
-loop-again : tie.Need-loop-again Inv-loop μ-loop
-loop-again c =
+    (omega arith, omega arith))
+    (λ c. omega arith)
+    (λ c. omega arith)
+    (λ c.
     let t = c .before .before .before .before in
     let l = t .before .loop in
     let s = t .before .before .before in
@@ -67,32 +60,12 @@ loop-again c =
       search needs,
       ap (λ (z : List ℕ). part z (a .a * a .r) (a .h)) e ∙ stays,
       e ∙ laws.turn (a .desk .now) head (a .r) (a .h) (a .f) (a .n) (s .pre .1) lh (s .pre .0) (l .k) (l .desk) (t .loop-test .taken) (i .3),
-    )
-
-same-length : tie.Need-same-length Inv-loop μ-loop
-same-length c = c .before .loop .inv .1
-
-returns : tie.Need-returns Inv-loop μ-loop
-returns c =
+    ))
+    (λ c. c .before .loop .inv .1)
+    (λ c.
     let l = c .before .loop in
     let s = c .before .before .before in
     let a = s .args in
     let x = slot-fits _ _ (a .r) (s .pre .2) in
     laws.done (a .desk .now) (part (a .desk .now) (a .a * a .r) (a .h)) (a .r) (a .h) (a .f) (a .n) (s .pre .1) (length-part _ _ _ (omega arith)) (s .pre .0)
-    (l .k) (l .desk) (omega arith) (l .inv .3)
-
-pub heads-spec : {M : Type 1} → statement M
-heads-spec =
-    tie.close
-    (tie.spec
-    Inv-loop
-    μ-loop
-    loop-holds
-    mul-within
-    mul-within-2
-    within-requires
-    add-k
-    loop-less
-    loop-again
-    same-length
-    returns)
+    (l .k) (l .desk) (omega arith) (l .inv .3)))

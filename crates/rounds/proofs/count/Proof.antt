@@ -18,27 +18,6 @@ loop-holds : tie.Need-loop-holds Inv-loop μ-loop
 unfolding heardCount
 loop-holds c = (omega arith, omega arith, refl)
 
-array-copy-out-m : tie.Need-array-copy-out-m Inv-loop μ-loop
-array-copy-out-m c = omega arith
-
-bit-requires : tie.Need-bit-requires Inv-loop μ-loop
-bit-requires c κs = omega arith
-
-add-n : tie.Need-add-n Inv-loop μ-loop
-add-n c = omega arith
-
-add-i : tie.Need-add-i Inv-loop μ-loop
-add-i c = omega arith
-
-loop-less : tie.Need-loop-less Inv-loop μ-loop
-loop-less c = omega arith
-
-loop-again : tie.Need-loop-again Inv-loop μ-loop
-loop-again c = let e : length (c .before .before .before .before .args .t1) ≡ 16 = search needs in (omega arith, omega arith, laws.count-turn (c .before .before .before .before .args .t1) (c .before .before .before .loop .i) _ _ unheard (omega arith) (c .before .before .before .loop .inv .2) (c .bit .ensures .0))
-
-returns : tie.Need-returns Inv-loop μ-loop
-returns c = let e : length (c .before .before .args .t1) ≡ 16 = search needs in (laws.count-all _ (c .before .loop .i) _ (omega arith) (c .before .loop .inv .2), omega arith)
-
 pub count-spec : {M : Type 1} → statement M
 count-spec =
     tie.close
@@ -46,10 +25,10 @@ count-spec =
     Inv-loop
     μ-loop
     loop-holds
-    array-copy-out-m
-    bit-requires
-    add-n
-    add-i
-    loop-less
-    loop-again
-    returns)
+    (λ c. omega arith)
+    (λ c κs. omega arith)
+    (λ c. omega arith)
+    (λ c. omega arith)
+    (λ c. omega arith)
+    (λ c. let e : length (c .before .before .before .before .args .t1) ≡ 16 = search needs in (omega arith, omega arith, laws.count-turn (c .before .before .before .before .args .t1) (c .before .before .before .loop .i) _ _ unheard (omega arith) (c .before .before .before .loop .inv .2) (c .bit .ensures .0)))
+    (λ c. let e : length (c .before .before .args .t1) ≡ 16 = search needs in (laws.count-all _ (c .before .loop .i) _ (omega arith) (c .before .loop .inv .2), omega arith)))

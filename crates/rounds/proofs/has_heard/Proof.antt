@@ -5,14 +5,10 @@ use borrow.Author.Needs.{needs}
 use Rattle.rounds.proofs.has_heard.Statement.{statement}
 use Rattle.rounds.proofs.has_heard.Tie as tie
 
-array-copy-out-m : tie.Need-array-copy-out-m
-array-copy-out-m c = search needs
-
-bit-requires : tie.Need-bit-requires
-bit-requires c κs = search needs
-
-returns : tie.Need-returns
-returns c = ap (λ (n : ℕ). eqb n 1) (c .bit .ensures .0)
-
 pub has-heard-spec : {M : Type 1} → statement M
-has-heard-spec = tie.close (tie.spec array-copy-out-m bit-requires returns)
+has-heard-spec =
+    tie.close
+    (tie.spec
+    (λ c. search needs)
+    (λ c κs. search needs)
+    (λ c. ap (λ (n : ℕ). eqb n 1) (c .bit .ensures .0)))

@@ -7,24 +7,6 @@ use borrow.Author.Needs.{needs}
 use Rattle.rounds.proofs.joins.Statement.{statement}
 use Rattle.rounds.proofs.joins.Tie as tie
 
-enum-told : tie.Need-enum-told
-enum-told c = search needs
-
-mul-same : tie.Need-mul-same
-mul-same c = let h = slot-room (c .before .before .before .args .i) _ _ _ (c .before .before .before .pre .2) (c .before .before .before .pre .0) in omega (arith, c .before .before .before .good)
-
-mul-same-2 : tie.Need-mul-same-2
-mul-same-2 c = let h = slot-room (c .before .before .before .args .a) _ _ _ (c .before .before .before .pre .3) (c .before .before .before .pre .0) in omega (arith, c .before .before .before .good)
-
-same-requires : tie.Need-same-requires
-same-requires c κs = let h = slot-room (c .before .before .before .args .i) _ _ _ (c .before .before .before .pre .2) (c .before .before .before .pre .0) in let k = slot-room (c .before .before .before .args .a) _ _ _ (c .before .before .before .pre .3) (c .before .before .before .pre .0) in (omega arith, omega arith)
-
-enum-told-2 : tie.Need-enum-told-2
-enum-told-2 c = search needs
-
-enum-told-3 : tie.Need-enum-told-3
-enum-told-3 c = search needs
-
 returns : tie.Need-returns
 unfolding joinsOf
 returns c = rw (c .before .enum-told .given .1) (c .same .ensures)
@@ -41,12 +23,12 @@ pub joins-spec : {M : Type 1} → statement M
 joins-spec =
     tie.close
     (tie.spec
-    enum-told
-    mul-same
-    mul-same-2
-    same-requires
-    enum-told-2
-    enum-told-3
+    (λ c. search needs)
+    (λ c. let h = slot-room (c .before .before .before .args .i) _ _ _ (c .before .before .before .pre .2) (c .before .before .before .pre .0) in omega (arith, c .before .before .before .good))
+    (λ c. let h = slot-room (c .before .before .before .args .a) _ _ _ (c .before .before .before .pre .3) (c .before .before .before .pre .0) in omega (arith, c .before .before .before .good))
+    (λ c κs. let h = slot-room (c .before .before .before .args .i) _ _ _ (c .before .before .before .pre .2) (c .before .before .before .pre .0) in let k = slot-room (c .before .before .before .args .a) _ _ _ (c .before .before .before .pre .3) (c .before .before .before .pre .0) in (omega arith, omega arith))
+    (λ c. search needs)
+    (λ c. search needs)
     returns
     returns-2
     returns-3)

@@ -17,24 +17,6 @@ loop-holds : tie.Need-loop-holds Inv-loop μ-loop
 unfolding leadOf
 loop-holds c = (omega arith, refl)
 
-array-copy-out-m : tie.Need-array-copy-out-m Inv-loop μ-loop
-array-copy-out-m c = omega arith
-
-step-requires : tie.Need-step-requires Inv-loop μ-loop
-step-requires c κs = (c .before .before .before .before .pre .0, c .before .before .before .before .pre .1, c .before .loop-test .taken, subst (λ (x : Lead). leadIn x (c .before .before .before .before .args .n)) (sym (c .before .before .loop .inv .1)) (laws.lead-below _ _ _ _ _ (c .before .before .loop .inv .0)))
-
-add-i : tie.Need-add-i Inv-loop μ-loop
-add-i c = omega arith
-
-loop-less : tie.Need-loop-less Inv-loop μ-loop
-loop-less c = omega arith
-
-loop-again : tie.Need-loop-again Inv-loop μ-loop
-loop-again c = (omega arith, laws.lead-turn _ _ _ _ _ _ (c .before .before .before .loop .inv .1) (c .step .ensures))
-
-returns : tie.Need-returns Inv-loop μ-loop
-returns c = c .before .loop .inv .1 ∙ ap (leadOf _ _ _) (let e : c .before .loop .i ≡ c .before .before .before .args .n = omega arith in e)
-
 pub leading-spec : {M : Type 1} → statement M
 leading-spec =
     tie.close
@@ -42,9 +24,9 @@ leading-spec =
     Inv-loop
     μ-loop
     loop-holds
-    array-copy-out-m
-    step-requires
-    add-i
-    loop-less
-    loop-again
-    returns)
+    (λ c. omega arith)
+    (λ c κs. (c .before .before .before .before .pre .0, c .before .before .before .before .pre .1, c .before .loop-test .taken, subst (λ (x : Lead). leadIn x (c .before .before .before .before .args .n)) (sym (c .before .before .loop .inv .1)) (laws.lead-below _ _ _ _ _ (c .before .before .loop .inv .0))))
+    (λ c. omega arith)
+    (λ c. omega arith)
+    (λ c. (omega arith, laws.lead-turn _ _ _ _ _ _ (c .before .before .before .loop .inv .1) (c .step .ensures)))
+    (λ c. c .before .loop .inv .1 ∙ ap (leadOf _ _ _) (let e : c .before .loop .i ≡ c .before .before .before .args .n = omega arith in e)))

@@ -18,27 +18,6 @@ loop-holds : tie.Need-loop-holds Inv-loop μ-loop
 unfolding setOf
 loop-holds c = (omega arith, omega arith, refl, refl)
 
-array-copy-out-m : tie.Need-array-copy-out-m Inv-loop μ-loop
-array-copy-out-m c = omega arith
-
-joins-requires : tie.Need-joins-requires Inv-loop μ-loop
-joins-requires c κs = (c .before .before .before .before .pre .0, c .before .before .before .before .pre .1, c .before .loop-test .taken, c .before .before .before .before .pre .3)
-
-add-requires : tie.Need-add-requires Inv-loop μ-loop
-add-requires c κs = (omega arith, omega arith, c .before .before .before .loop .inv .2)
-
-add-i : tie.Need-add-i Inv-loop μ-loop
-add-i c = omega arith
-
-loop-less : tie.Need-loop-less Inv-loop μ-loop
-loop-less c = omega arith
-
-loop-again : tie.Need-loop-again Inv-loop μ-loop
-loop-again c = let z = laws.add-size (c .before .before .before .before .loop .set) (c .before .before .before .before .loop .i) (c .before .joins .result) in let e = c .add .ensures in (omega arith, (let k : c .add .result .size ≤ c .before .before .before .before .loop .set .size + 1 = rw e z in omega arith), ap (λ (x : Set). length (x .nodes)) e ∙ laws.add-len _ _ _ ∙ c .before .before .before .before .loop .inv .2, laws.members-turn _ _ _ _ _ _ _ _ _ (omega arith) (c .before .before .before .before .loop .inv .3) (c .before .joins .ensures) e)
-
-returns : tie.Need-returns Inv-loop μ-loop
-returns c = let e : c .before .loop .i ≡ c .before .before .before .args .n = omega arith in (c .before .loop .inv .3 ∙ ap (setOf _ _ _ _ _) e, omega arith, c .before .loop .inv .2)
-
 pub members-spec : {M : Type 1} → statement M
 members-spec =
     tie.close
@@ -46,10 +25,10 @@ members-spec =
     Inv-loop
     μ-loop
     loop-holds
-    array-copy-out-m
-    joins-requires
-    add-requires
-    add-i
-    loop-less
-    loop-again
-    returns)
+    (λ c. omega arith)
+    (λ c κs. (c .before .before .before .before .pre .0, c .before .before .before .before .pre .1, c .before .loop-test .taken, c .before .before .before .before .pre .3))
+    (λ c κs. (omega arith, omega arith, c .before .before .before .loop .inv .2))
+    (λ c. omega arith)
+    (λ c. omega arith)
+    (λ c. let z = laws.add-size (c .before .before .before .before .loop .set) (c .before .before .before .before .loop .i) (c .before .joins .result) in let e = c .add .ensures in (omega arith, (let k : c .add .result .size ≤ c .before .before .before .before .loop .set .size + 1 = rw e z in omega arith), ap (λ (x : Set). length (x .nodes)) e ∙ laws.add-len _ _ _ ∙ c .before .before .before .before .loop .inv .2, laws.members-turn _ _ _ _ _ _ _ _ _ (omega arith) (c .before .before .before .before .loop .inv .3) (c .before .joins .ensures) e))
+    (λ c. let e : c .before .loop .i ≡ c .before .before .before .args .n = omega arith in (c .before .loop .inv .3 ∙ ap (setOf _ _ _ _ _) e, omega arith, c .before .loop .inv .2)))

@@ -15,41 +15,17 @@ Inv-loop marks i₀ i = (i ≤ 16) × (every isNotFirst (drop 0 marks) ≡ every
 abbrev μ-loop : tie.MeasureT-loop
 μ-loop marks i₀ i = 16 - i
 
-loop-holds : tie.Need-loop-holds Inv-loop μ-loop
-loop-holds c = (omega arith, refl)
-
-array-copy-out-m : tie.Need-array-copy-out-m Inv-loop μ-loop
-array-copy-out-m c = omega arith
-
-not-first-requires : tie.Need-not-first-requires Inv-loop μ-loop
-not-first-requires c κs = search needs
-
-returns : tie.Need-returns Inv-loop μ-loop
-returns c = let e : length (c .before .before .before .before .before .args .t1) ≡ 16 = search needs in laws.every-stop isNotFirst (c .before .before .before .before .before .args .t1) (c .before .before .before .before .loop .i) _ _ (omega arith) (c .before .before .before .before .loop .inv .1) (c .before .not-first .ensures) (not-true (c .before .not-first .result) (c .if1 .taken))
-
-add-i : tie.Need-add-i Inv-loop μ-loop
-add-i c = omega arith
-
-loop-less : tie.Need-loop-less Inv-loop μ-loop
-loop-less c = omega arith
-
-loop-again : tie.Need-loop-again Inv-loop μ-loop
-loop-again c = let e : length (c .before .before .before .before .before .args .t1) ≡ 16 = search needs in (omega arith, laws.every-on isNotFirst (c .before .before .before .before .before .args .t1) (c .before .before .before .before .loop .i) _ _ (omega arith) (c .before .before .before .before .loop .inv .1) (c .before .not-first .ensures) (not-false (c .before .not-first .result) (c .if1 .left)))
-
-returns-2 : tie.Need-returns-2 Inv-loop μ-loop
-returns-2 c = let e : length (c .before .before .args .t1) ≡ 16 = search needs in laws.every-end isNotFirst (c .before .before .args .t1) (c .before .loop .i) _ (omega arith) (c .before .loop .inv .1)
-
 pub none-first-spec : {M : Type 1} → statement M
 none-first-spec =
     tie.close
     (tie.spec
     Inv-loop
     μ-loop
-    loop-holds
-    array-copy-out-m
-    not-first-requires
-    returns
-    add-i
-    loop-less
-    loop-again
-    returns-2)
+    (λ c. (omega arith, refl))
+    (λ c. omega arith)
+    (λ c κs. search needs)
+    (λ c. let e : length (c .before .before .before .before .before .args .t1) ≡ 16 = search needs in laws.every-stop isNotFirst (c .before .before .before .before .before .args .t1) (c .before .before .before .before .loop .i) _ _ (omega arith) (c .before .before .before .before .loop .inv .1) (c .before .not-first .ensures) (not-true (c .before .not-first .result) (c .if1 .taken)))
+    (λ c. omega arith)
+    (λ c. omega arith)
+    (λ c. let e : length (c .before .before .before .before .before .args .t1) ≡ 16 = search needs in (omega arith, laws.every-on isNotFirst (c .before .before .before .before .before .args .t1) (c .before .before .before .before .loop .i) _ _ (omega arith) (c .before .before .before .before .loop .inv .1) (c .before .not-first .ensures) (not-false (c .before .not-first .result) (c .if1 .left))))
+    (λ c. let e : length (c .before .before .args .t1) ≡ 16 = search needs in laws.every-end isNotFirst (c .before .before .args .t1) (c .before .loop .i) _ (omega arith) (c .before .loop .inv .1)))

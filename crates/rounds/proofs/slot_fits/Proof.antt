@@ -6,30 +6,9 @@ use borrow.Author.Needs.{needs}
 use Rattle.rounds.proofs.slot_fits.Statement.{statement}
 use Rattle.rounds.proofs.slot_fits.Tie as tie
 
-enum-told : tie.Need-enum-told
-enum-told c = search needs
-
-mul-get : tie.Need-mul-get
-mul-get c = let h = slot-room (c .before .before .before .args .i) _ _ _ (c .before .before .before .pre .2) (c .before .before .before .pre .0) in omega (arith, h, c .before .before .before .good)
-
-get-requires : tie.Need-get-requires
-get-requires c κs = let h = slot-room (c .before .before .before .args .i) _ _ _ (c .before .before .before .pre .2) (c .before .before .before .pre .0) in (omega (arith, h), omega arith)
-
 returns : tie.Need-returns
 unfolding slotFits
 returns c = rw (c .before .before .enum-told .given .1, ← (c .before .get .ensures .0), lt-leb _ _ (c .if1 .taken))
-
-mul-under : tie.Need-mul-under
-mul-under c = let h = slot-room (c .before .before .before .before .before .args .i) _ _ _ (c .before .before .before .before .before .pre .2) (c .before .before .before .before .before .pre .0) in omega (arith, h, c .before .before .before .before .before .good)
-
-under-requires : tie.Need-under-requires
-under-requires c κs = let h = slot-room (c .before .before .before .before .before .args .i) _ _ _ (c .before .before .before .before .before .pre .2) (c .before .before .before .before .before .pre .0) in omega (arith, h)
-
-enum-told-2 : tie.Need-enum-told-2
-enum-told-2 c = search needs
-
-enum-told-3 : tie.Need-enum-told-3
-enum-told-3 c = search needs
 
 returns-2 : tie.Need-returns-2
 unfolding slotFits slotStamp
@@ -47,14 +26,14 @@ pub slot-fits-spec : {M : Type 1} → statement M
 slot-fits-spec =
     tie.close
     (tie.spec
-    enum-told
-    mul-get
-    get-requires
+    (λ c. search needs)
+    (λ c. let h = slot-room (c .before .before .before .args .i) _ _ _ (c .before .before .before .pre .2) (c .before .before .before .pre .0) in omega (arith, h, c .before .before .before .good))
+    (λ c κs. let h = slot-room (c .before .before .before .args .i) _ _ _ (c .before .before .before .pre .2) (c .before .before .before .pre .0) in (omega (arith, h), omega arith))
     returns
-    mul-under
-    under-requires
-    enum-told-2
-    enum-told-3
+    (λ c. let h = slot-room (c .before .before .before .before .before .args .i) _ _ _ (c .before .before .before .before .before .pre .2) (c .before .before .before .before .before .pre .0) in omega (arith, h, c .before .before .before .before .before .good))
+    (λ c κs. let h = slot-room (c .before .before .before .before .before .args .i) _ _ _ (c .before .before .before .before .before .pre .2) (c .before .before .before .before .before .pre .0) in omega (arith, h))
+    (λ c. search needs)
+    (λ c. search needs)
     returns-2
     returns-3
     returns-4)

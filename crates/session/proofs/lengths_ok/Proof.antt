@@ -8,22 +8,20 @@ use borrow.Author.Needs.{needs}
 use Rattle.session.proofs.lengths_ok.Statement.{statement}
 use Rattle.session.proofs.lengths_ok.Tie as tie
 
-record-length-requires : tie.Need-record-length-requires
-record-length-requires c κs = search needs
-
-mul-if1 : tie.Need-mul-if1
-mul-if1 c = let q = plan-is _ (c .before .pre) in omega (arith, rules.product-low (c .before .args .p .n) (c .record-length .result) 16 1576 (q .n-high) (c .record-length .ensures .1))
-
 returns : tie.Need-returns
 unfolding lengthsOk
 returns c = rw (← (c .before .record-length .ensures .0), ne-eqb _ _ (c .if1 .taken))
-
-mul-result : tie.Need-mul-result
-mul-result c = let q = plan-is _ (c .before .before .pre) in let g = facts _ (c .before .before .pre) in omega (arith, rules.product-low (c .before .before .args .p .m) (c .before .before .args .p .f) 16 1024 (omega arith) (q .f-high))
 
 returns-2 : tie.Need-returns-2
 unfolding lengthsOk
 returns-2 c = rw (← (c .before .record-length .ensures .0), eq-eqb _ _ (c .if1 .left))
 
 pub lengths-ok-spec : {M : Type 1} → statement M
-lengths-ok-spec = tie.close (tie.spec record-length-requires mul-if1 returns mul-result returns-2)
+lengths-ok-spec =
+    tie.close
+    (tie.spec
+    (λ c κs. search needs)
+    (λ c. let q = plan-is _ (c .before .pre) in omega (arith, rules.product-low (c .before .args .p .n) (c .record-length .result) 16 1576 (q .n-high) (c .record-length .ensures .1)))
+    returns
+    (λ c. let q = plan-is _ (c .before .before .pre) in let g = facts _ (c .before .before .pre) in omega (arith, rules.product-low (c .before .before .args .p .m) (c .before .before .args .p .f) 16 1024 (omega arith) (q .f-high)))
+    returns-2)

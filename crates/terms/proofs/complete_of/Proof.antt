@@ -5,11 +5,9 @@ use borrow.Author.Needs.{needs}
 use Rattle.terms.proofs.complete_of.Statement.{statement}
 use Rattle.terms.proofs.complete_of.Tie as tie
 
-add-result : tie.Need-add-result
-add-result c = let f = laws.facts _ (c .before .pre) in let q = plan-is _ (c .before .pre) in omega arith
-
-returns : tie.Need-returns
-returns c = search needs
-
 pub complete-of-spec : {M : Type 1} → statement M
-complete-of-spec = tie.close (tie.spec add-result returns)
+complete-of-spec =
+    tie.close
+    (tie.spec
+    (λ c. let f = laws.facts _ (c .before .pre) in let q = plan-is _ (c .before .pre) in omega arith)
+    (λ c. search needs))

@@ -4,13 +4,11 @@ use borrow.Author.Needs.{needs}
 use Rattle.terms.proofs.opening_ok.Statement.{statement}
 use Rattle.terms.proofs.opening_ok.Tie as tie
 
-sub-result : tie.Need-sub-result
-sub-result c = search needs
-
-returns : tie.Need-returns
-returns c =
-    let args = c .before .before .args in
-    leb-moved (args .opening .0) (args .p .w) 18446744073709551615 (omega (arith, c .before .struct-known .given))
-
 pub opening-ok-spec : {M : Type 1} → statement M
-opening-ok-spec = tie.close (tie.spec sub-result returns)
+opening-ok-spec =
+    tie.close
+    (tie.spec
+    (λ c. search needs)
+    (λ c.
+    let args = c .before .before .args in
+    leb-moved (args .opening .0) (args .p .w) 18446744073709551615 (omega (arith, c .before .struct-known .given))))

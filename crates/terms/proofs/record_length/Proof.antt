@@ -6,18 +6,15 @@ use Rattle.terms.specs.Terms.{recordLength}
 use Rattle.terms.proofs.record_length.Statement.{statement}
 use Rattle.terms.proofs.record_length.Tie as tie
 
-mul-result : tie.Need-mul-result
-mul-result c = let q = laws.plan-is _ (c .pre) in omega arith
-
-add-result : tie.Need-add-result
-add-result c = let q = laws.plan-is _ (c .pre) in omega arith
-
-add-result-2 : tie.Need-add-result-2
-add-result-2 c = let q = laws.plan-is _ (c .pre) in omega arith
-
 returns : tie.Need-returns
 unfolding recordLength
 returns c = let q = laws.plan-is _ (c .pre) in (refl, omega arith, omega arith)
 
 pub record-length-spec : {M : Type 1} → statement M
-record-length-spec = tie.close (tie.spec mul-result add-result add-result-2 returns)
+record-length-spec =
+    tie.close
+    (tie.spec
+    (λ c. let q = laws.plan-is _ (c .pre) in omega arith)
+    (λ c. let q = laws.plan-is _ (c .pre) in omega arith)
+    (λ c. let q = laws.plan-is _ (c .pre) in omega arith)
+    returns)

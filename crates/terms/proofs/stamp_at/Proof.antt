@@ -6,33 +6,6 @@ use borrow.Author.Needs.{needs}
 use Rattle.terms.proofs.stamp_at.Statement.{statement}
 use Rattle.terms.proofs.stamp_at.Tie as tie
 
-get-requires : tie.Need-get-requires
-get-requires c κs = search needs
-
-add-get : tie.Need-add-get
-add-get c = search needs
-
-get-requires-2 : tie.Need-get-requires-2
-get-requires-2 c κs = search needs
-
-add-get-2 : tie.Need-add-get-2
-add-get-2 c = search needs
-
-get-requires-3 : tie.Need-get-requires-3
-get-requires-3 c κs = search needs
-
-add-get-3 : tie.Need-add-get-3
-add-get-3 c = search needs
-
-get-requires-4 : tie.Need-get-requires-4
-get-requires-4 c κs = search needs
-
-add-get-4 : tie.Need-add-get-4
-add-get-4 c = search needs
-
-get-requires-5 : tie.Need-get-requires-5
-get-requires-5 c κs = search needs
-
 returns : tie.Need-returns
 unfolding stampAt
 returns c =
@@ -50,13 +23,13 @@ pub stamp-at-spec : {M : Type 1} → statement M
 stamp-at-spec =
     tie.close
     (tie.spec
-    get-requires
-    add-get
-    get-requires-2
-    add-get-2
-    get-requires-3
-    add-get-3
-    get-requires-4
-    add-get-4
-    get-requires-5
+    (λ c κs. search needs)
+    (λ c. search needs)
+    (λ c κs. search needs)
+    (λ c. search needs)
+    (λ c κs. search needs)
+    (λ c. search needs)
+    (λ c κs. search needs)
+    (λ c. search needs)
+    (λ c κs. search needs)
     returns)

@@ -18,37 +18,16 @@ Inv-loop s at end x i₀ i = (at ≤ i) × (i ≤ end) × (part s at (i - at) ++
 abbrev μ-loop : tie.MeasureT-loop
 μ-loop s at end x i₀ i = end - i
 
-loop-holds : tie.Need-loop-holds Inv-loop μ-loop
-loop-holds c = (omega arith, omega arith, words.until-start (c .args .s .now) (c .args .at) (c .args .end) (c .args .x))
-
-shared-slice-read-if1 : tie.Need-shared-slice-read-if1 Inv-loop μ-loop
-shared-slice-read-if1 c = omega arith
-
-returns : tie.Need-returns Inv-loop μ-loop
-returns c = (omega arith, omega arith, words.until-at (c .before .before .before .before .args .s .now) (c .before .before .before .before .args .at) (c .before .before .before .before .args .end) (c .before .before .before .before .args .x) (c .before .before .before .loop .i) (c .before .before .before .loop .inv .2) (omega arith) (omega arith) (omega arith))
-
-add-i : tie.Need-add-i Inv-loop μ-loop
-add-i c = omega arith
-
-loop-less : tie.Need-loop-less Inv-loop μ-loop
-loop-less c = omega arith
-
-loop-again : tie.Need-loop-again Inv-loop μ-loop
-loop-again c = (omega arith, omega arith, words.until-on (c .before .before .before .before .args .s .now) (c .before .before .before .before .args .at) (c .before .before .before .before .args .end) (c .before .before .before .before .args .x) (c .before .before .before .loop .i) (c .before .before .before .loop .inv .2) (omega arith) (omega arith) (omega arith) (λ (e : getD (c .before .before .before .before .args .s .now) (c .before .before .before .loop .i) 0 ≡ c .before .before .before .before .args .x). omega arith))
-
-returns-2 : tie.Need-returns-2 Inv-loop μ-loop
-returns-2 c = (omega arith, omega arith, words.until-end (c .before .before .args .s .now) (c .before .before .args .at) (c .before .before .args .end) (c .before .before .args .x) (c .before .loop .i) (c .before .loop .inv .2) (omega arith))
-
 pub first-of-spec : {M : Type 1} → statement M
 first-of-spec =
     tie.close
     (tie.spec
     Inv-loop
     μ-loop
-    loop-holds
-    shared-slice-read-if1
-    returns
-    add-i
-    loop-less
-    loop-again
-    returns-2)
+    (λ c. (omega arith, omega arith, words.until-start (c .args .s .now) (c .args .at) (c .args .end) (c .args .x)))
+    (λ c. omega arith)
+    (λ c. (omega arith, omega arith, words.until-at (c .before .before .before .before .args .s .now) (c .before .before .before .before .args .at) (c .before .before .before .before .args .end) (c .before .before .before .before .args .x) (c .before .before .before .loop .i) (c .before .before .before .loop .inv .2) (omega arith) (omega arith) (omega arith)))
+    (λ c. omega arith)
+    (λ c. omega arith)
+    (λ c. (omega arith, omega arith, words.until-on (c .before .before .before .before .args .s .now) (c .before .before .before .before .args .at) (c .before .before .before .before .args .end) (c .before .before .before .before .args .x) (c .before .before .before .loop .i) (c .before .before .before .loop .inv .2) (omega arith) (omega arith) (omega arith) (λ (e : getD (c .before .before .before .before .args .s .now) (c .before .before .before .loop .i) 0 ≡ c .before .before .before .before .args .x). omega arith)))
+    (λ c. (omega arith, omega arith, words.until-end (c .before .before .args .s .now) (c .before .before .args .at) (c .before .before .args .end) (c .before .before .args .x) (c .before .loop .i) (c .before .loop .inv .2) (omega arith))))

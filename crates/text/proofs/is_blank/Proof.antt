@@ -5,14 +5,10 @@ use Rattle.text.proofs.Values as laws
 use Rattle.text.proofs.is_blank.Statement.{statement}
 use Rattle.text.proofs.is_blank.Tie as tie
 
-returns : tie.Need-returns
-returns c = laws.blank-tab (c .before .args .x) (omega arith)
-
-returns-2 : tie.Need-returns-2
-returns-2 c = laws.blank-return (c .before .before .args .x) (λ (e : c .before .before .args .x ≡ 9). omega arith) (omega arith)
-
-returns-3 : tie.Need-returns-3
-returns-3 c = laws.blank-space (c .before .before .args .x) (λ (e : c .before .before .args .x ≡ 9). omega arith) (λ (e : c .before .before .args .x ≡ 13). omega arith)
-
 pub is-blank-spec : {M : Type 1} → statement M
-is-blank-spec = tie.close (tie.spec returns returns-2 returns-3)
+is-blank-spec =
+    tie.close
+    (tie.spec
+    (λ c. laws.blank-tab (c .before .args .x) (omega arith))
+    (λ c. laws.blank-return (c .before .before .args .x) (λ (e : c .before .before .args .x ≡ 9). omega arith) (omega arith))
+    (λ c. laws.blank-space (c .before .before .args .x) (λ (e : c .before .before .args .x ≡ 9). omega arith) (λ (e : c .before .before .args .x ≡ 13). omega arith)))

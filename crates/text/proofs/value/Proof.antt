@@ -6,72 +6,6 @@ use Rattle.text.proofs.Values as laws
 use Rattle.text.proofs.value.Statement.{statement}
 use Rattle.text.proofs.value.Tie as tie
 
-slice-aggregate-named : tie.Need-slice-aggregate-named
-slice-aggregate-named c = search needs
-
-named-requires : tie.Need-named-requires
-named-requires c κs = search needs
-
-slice-aggregate-named-2 : tie.Need-slice-aggregate-named-2
-slice-aggregate-named-2 c = search needs
-
-named-requires-2 : tie.Need-named-requires-2
-named-requires-2 c κs = search needs
-
-slice-aggregate-named-3 : tie.Need-slice-aggregate-named-3
-slice-aggregate-named-3 c = search needs
-
-named-requires-3 : tie.Need-named-requires-3
-named-requires-3 c κs = search needs
-
-slice-aggregate-named-4 : tie.Need-slice-aggregate-named-4
-slice-aggregate-named-4 c = search needs
-
-named-requires-4 : tie.Need-named-requires-4
-named-requires-4 c κs = search needs
-
-slice-aggregate-named-5 : tie.Need-slice-aggregate-named-5
-slice-aggregate-named-5 c = search needs
-
-named-requires-5 : tie.Need-named-requires-5
-named-requires-5 c κs = search needs
-
-slice-aggregate-named-6 : tie.Need-slice-aggregate-named-6
-slice-aggregate-named-6 c = search needs
-
-named-requires-6 : tie.Need-named-requires-6
-named-requires-6 c κs = search needs
-
-slice-aggregate-either : tie.Need-slice-aggregate-either
-slice-aggregate-either c = search needs
-
-slice-aggregate-either-2 : tie.Need-slice-aggregate-either-2
-slice-aggregate-either-2 c = search needs
-
-slice-aggregate-either-3 : tie.Need-slice-aggregate-either-3
-slice-aggregate-either-3 c = search needs
-
-either-requires : tie.Need-either-requires
-either-requires c κs = search needs
-
-slice-aggregate-either-4 : tie.Need-slice-aggregate-either-4
-slice-aggregate-either-4 c = search needs
-
-slice-aggregate-either-5 : tie.Need-slice-aggregate-either-5
-slice-aggregate-either-5 c = search needs
-
-slice-aggregate-either-6 : tie.Need-slice-aggregate-either-6
-slice-aggregate-either-6 c = search needs
-
-either-requires-2 : tie.Need-either-requires-2
-either-requires-2 c κs = search needs
-
-slice-aggregate-named-7 : tie.Need-slice-aggregate-named-7
-slice-aggregate-named-7 c = search needs
-
-named-requires-7 : tie.Need-named-requires-7
-named-requires-7 c κs = search needs
-
 returns : tie.Need-returns
 unfolding valueOf written
 returns c = laws.at-value (c .before .before .before .before .args .k) 0 _ _ (omega arith) (c .named .ensures)
@@ -112,28 +46,28 @@ pub value-spec : {M : Type 1} → statement M
 value-spec =
     tie.close
     (tie.spec
-    slice-aggregate-named
-    named-requires
-    slice-aggregate-named-2
-    named-requires-2
-    slice-aggregate-named-3
-    named-requires-3
-    slice-aggregate-named-4
-    named-requires-4
-    slice-aggregate-named-5
-    named-requires-5
-    slice-aggregate-named-6
-    named-requires-6
-    slice-aggregate-either
-    slice-aggregate-either-2
-    slice-aggregate-either-3
-    either-requires
-    slice-aggregate-either-4
-    slice-aggregate-either-5
-    slice-aggregate-either-6
-    either-requires-2
-    slice-aggregate-named-7
-    named-requires-7
+    (λ c. search needs)
+    (λ c κs. search needs)
+    (λ c. search needs)
+    (λ c κs. search needs)
+    (λ c. search needs)
+    (λ c κs. search needs)
+    (λ c. search needs)
+    (λ c κs. search needs)
+    (λ c. search needs)
+    (λ c κs. search needs)
+    (λ c. search needs)
+    (λ c κs. search needs)
+    (λ c. search needs)
+    (λ c. search needs)
+    (λ c. search needs)
+    (λ c κs. search needs)
+    (λ c. search needs)
+    (λ c. search needs)
+    (λ c. search needs)
+    (λ c κs. search needs)
+    (λ c. search needs)
+    (λ c κs. search needs)
     returns
     returns-2
     returns-3

@@ -5,8 +5,8 @@ use lib.ListN.{length-replicate}
 use Rattle.vectors.proofs.million.Statement.{statement}
 use Rattle.vectors.proofs.million.Tie as tie
 
-returns : tie.Need-returns
-returns c = sym (length-replicate {0} {A = ℕ} 1000000 97)
-
 pub million-spec : {M : Type 1} → statement M
-million-spec = tie.close (tie.spec returns)
+million-spec =
+    tie.close
+    (tie.spec
+    (λ c. sym (length-replicate {0} {A = ℕ} 1000000 97)))

@@ -13,27 +13,18 @@ use Rattle.cases.proofs.walk.desk_fits.Tie as tie
 desk-small : (n r : ℕ) → n ≤ 16 → r ≤ 1576 → n * r ≤ 25216
 desk-small n r h k = let l = mul-le-mul-right r h in omega arith
 
-plan-ok-requires : tie.Need-plan-ok-requires
-plan-ok-requires c κs = search needs
-
-returns : tie.Need-returns
-returns c = λ e. absurd (clash (sym e))
-
-record-length-requires : tie.Need-record-length-requires
-record-length-requires c κs = sym (c .before .plan-ok .ensures) ∙ not-false _ (c .if1 .left)
-
-mul-result : tie.Need-mul-result
-mul-result c =
-    let ok = sym (c .before .before .plan-ok .ensures) ∙ not-false _ (c .before .if1 .left) in
-    let l = desk-small (c .before .before .before .args .p .n) (c .record-length .result) (plan-is (c .before .before .before .args .p) ok .n-high) (c .record-length .ensures .1) in
-    omega arith
-
-returns-2 : tie.Need-returns-2
-returns-2 c = λ e. (
-  sym (c .before .before .plan-ok .ensures) ∙ not-false _ (c .before .if1 .left),
-  eqb-true _ _ e ∙ ap (λ (r : ℕ). c .before .before .before .args .p .n * r) (c .record-length .ensures .0),
-)
-
 pub desk-fits-spec : {M : Type 1} → statement M
 desk-fits-spec =
-    tie.close (tie.spec plan-ok-requires returns record-length-requires mul-result returns-2)
+    tie.close
+    (tie.spec
+    (λ c κs. search needs)
+    (λ c. λ e. absurd (clash (sym e)))
+    (λ c κs. sym (c .before .plan-ok .ensures) ∙ not-false _ (c .if1 .left))
+    (λ c.
+    let ok = sym (c .before .before .plan-ok .ensures) ∙ not-false _ (c .before .if1 .left) in
+    let l = desk-small (c .before .before .before .args .p .n) (c .record-length .result) (plan-is (c .before .before .before .args .p) ok .n-high) (c .record-length .ensures .1) in
+    omega arith)
+    (λ c. λ e. (
+      sym (c .before .before .plan-ok .ensures) ∙ not-false _ (c .before .if1 .left),
+      eqb-true _ _ e ∙ ap (λ (r : ℕ). c .before .before .before .args .p .n * r) (c .record-length .ensures .0),
+    )))

@@ -5,18 +5,9 @@ use borrow.Author.Needs.{needs}
 use Rattle.pasis.proofs.client.keep_session.Statement.{statement}
 use Rattle.pasis.proofs.client.keep_session.Tie as tie
 
-is-refused-requires : tie.Need-is-refused-requires
-is-refused-requires c κs = search needs
-
 returns : tie.Need-returns
 unfolding sessionAfter
 returns c = picks.yes _ _ (sym (c .before .is-refused .ensures) ∙ c .if1 .taken) refl
-
-write-session-requires : tie.Need-write-session-requires
-write-session-requires c κs = search needs
-
-same-length : tie.Need-same-length
-same-length c = search needs
 
 returns-2 : tie.Need-returns-2
 unfolding sessionAfter
@@ -24,4 +15,10 @@ returns-2 c = picks.no _ _ (sym (c .before .before .before .before .before .is-r
 
 pub keep-session-spec : {M : Type 1} → statement M
 keep-session-spec =
-    tie.close (tie.spec is-refused-requires returns write-session-requires same-length returns-2)
+    tie.close
+    (tie.spec
+    (λ c κs. search needs)
+    returns
+    (λ c κs. search needs)
+    (λ c. search needs)
+    returns-2)

@@ -11,18 +11,16 @@ returns : tie.Need-returns
 unfolding addOf
 returns c = no _ _ (not-true (c .before .args .on) (c .if1 .taken)) refl
 
-cast-self : tie.Need-cast-self
-cast-self c = search needs
-
-element-write-self : tie.Need-element-write-self
-element-write-self c = search needs
-
-add-self : tie.Need-add-self
-add-self c = search needs
-
 returns-2 : tie.Need-returns-2
 unfolding addOf
 returns-2 c = yes _ _ (not-false (c .before .args .on) (c .if1 .left)) refl
 
 pub add-spec : {M : Type 1} → statement M
-add-spec = tie.close (tie.spec returns cast-self element-write-self add-self returns-2)
+add-spec =
+    tie.close
+    (tie.spec
+    returns
+    (λ c. search needs)
+    (λ c. search needs)
+    (λ c. search needs)
+    returns-2)

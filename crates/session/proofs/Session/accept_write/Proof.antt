@@ -7,18 +7,17 @@ use borrow.Author.Needs.{needs}
 use Rattle.session.proofs.Session.accept_write.Statement.{statement}
 use Rattle.session.proofs.Session.accept_write.Tie as tie
 
-node-of-requires : tie.Need-node-of-requires
-node-of-requires c κs =
+pub accept-write-spec : {M : Type 1} → statement M
+accept-write-spec =
+    tie.close
+    (tie.spec
+    (λ c κs.
     let args = c .before .before .before .before .args in
     let pre = c .before .before .before .before .pre in
     let q = laws.taking (args .p) (args .self) (args .reply .now) (args .desk .now) (length (args .item .now)) (pre .0) in
-    q .reply .frame-is .low
-
-storing-requires : tie.Need-storing-requires
-storing-requires c κs = search needs
-
-marked-requires : tie.Need-marked-requires
-marked-requires c κs =
+    q .reply .frame-is .low)
+    (λ c κs. search needs)
+    (λ c κs.
     let node-of = c .before .before .node-of in
     let args = c .before .before .before .before .before .before .before .args in
     let pre = c .before .before .before .before .before .before .before .pre in
@@ -26,34 +25,26 @@ marked-requires c κs =
     let n = plan-is _ (q .plan-ok) in
     let k = q .reply .node-low in
     let e = node-of .ensures .0 in
-    omega arith
-
-write-turn-requires : tie.Need-write-turn-requires
-write-turn-requires c κs =
+    omega arith)
+    (λ c κs.
     let args = c .before .before .before .before .before .before .before .before .args in
     let pre = c .before .before .before .before .before .before .before .before .pre in
     let q = laws.taking (args .p) (args .self) (args .reply .now) (args .desk .now) (length (args .item .now)) (pre .0) in
-    q .plan-ok
-
-returns : tie.Need-returns
-returns c =
+    q .plan-ok)
+    (λ c.
     let if1 = c .before .before .if1 in
     let storing = c .before .before .before .storing in
     let node-of = c .before .before .before .before .node-of in
     let args = c .before .before .before .before .before .before .before .before .before .args in
     c .write-turn .ensures (args .desk .now) ∙ laws.in-write (args .p) (args .self) (args .reply .now) (args .desk .now) (args .item .now) _
-    (storing .ensures) _ (node-of .ensures .0) (if1 .taken) _ (c .before .marked .ensures)
-
-time-in-requires : tie.Need-time-in-requires
-time-in-requires c κs =
+    (storing .ensures) _ (node-of .ensures .0) (if1 .taken) _ (c .before .marked .ensures))
+    (λ c κs.
     let args = c .before .before .before .before .before .before .before .args in
     let pre = c .before .before .before .before .before .before .before .pre in
     let q = laws.taking (args .p) (args .self) (args .reply .now) (args .desk .now) (length (args .item .now)) (pre .0) in
     let e = laws.time-there _ _ _ _ _ q (sym (c .before .storing .ensures) ∙ c .if1 .left) in
-    omega arith
-
-timed-requires : tie.Need-timed-requires
-timed-requires c κs =
+    omega arith)
+    (λ c κs.
     let node-of = c .before .before .before .node-of in
     let args = c .before .before .before .before .before .before .before .before .args in
     let pre = c .before .before .before .before .before .before .before .before .pre in
@@ -61,23 +52,15 @@ timed-requires c κs =
     let n = plan-is _ (q .plan-ok) in
     let k = q .reply .node-low in
     let e = node-of .ensures .0 in
-    omega arith
-
-time-turn-requires : tie.Need-time-turn-requires
-time-turn-requires c κs =
+    omega arith)
+    (λ c κs.
     let args = c .before .before .before .before .before .before .before .before .before .before .before .args in
     let pre = c .before .before .before .before .before .before .before .before .before .before .before .pre in
     let q = laws.taking (args .p) (args .self) (args .reply .now) (args .desk .now) (length (args .item .now)) (pre .0) in
-    (q .plan-ok, q .lengths .item-is, q .lengths .desk-is, pre .1)
-
-same-length : tie.Need-same-length
-same-length c = search needs
-
-same-length-2 : tie.Need-same-length-2
-same-length-2 c = search needs
-
-returns-2 : tie.Need-returns-2
-returns-2 c =
+    (q .plan-ok, q .lengths .item-is, q .lengths .desk-is, pre .1))
+    (λ c. search needs)
+    (λ c. search needs)
+    (λ c.
     let time-turn = c .before .before .before .before .time-turn in
     let timed = c .before .before .before .before .before .before .before .timed in
     let time-in = c .before .before .before .before .before .before .before .before .time-in in
@@ -86,20 +69,4 @@ returns-2 c =
     let node-of = c .before .before .before .before .before .before .before .before .before .before .before .node-of in
     let args = c .before .before .before .before .before .before .before .before .before .before .before .before .before .before .before .before .args in
     time-turn .ensures ∙ laws.in-time (args .p) (args .self) (args .reply .now) (args .desk .now) (args .item .now) _ (storing .ensures) _
-    (node-of .ensures .0) (if1 .left) _ _ (timed .ensures) (time-in .ensures)
-
-pub accept-write-spec : {M : Type 1} → statement M
-accept-write-spec =
-    tie.close
-    (tie.spec
-    node-of-requires
-    storing-requires
-    marked-requires
-    write-turn-requires
-    returns
-    time-in-requires
-    timed-requires
-    time-turn-requires
-    same-length
-    same-length-2
-    returns-2)
+    (node-of .ensures .0) (if1 .left) _ _ (timed .ensures) (time-in .ensures)))

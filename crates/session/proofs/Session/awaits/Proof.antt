@@ -4,46 +4,33 @@ use borrow.Author.Needs.{needs}
 use Rattle.session.proofs.Session.awaits.Statement.{statement}
 use Rattle.session.proofs.Session.awaits.Tie as tie
 
-asked-requires : tie.Need-asked-requires
-asked-requires c κs = search needs
-
-kind-awaited-requires : tie.Need-kind-awaited-requires
-kind-awaited-requires c κs = search needs
-
-answers-requires : tie.Need-answers-requires
-answers-requires c κs = search needs
-
-returns : tie.Need-returns
-returns c =
+pub awaits-spec : {M : Type 1} → statement M
+awaits-spec =
+    tie.close
+    (tie.spec
+    (λ c κs. search needs)
+    (λ c κs. search needs)
+    (λ c κs. search needs)
+    (λ c.
     let answers = c .before .answers in
     let args = c .before .before .before .before .before .args in
     rules.not-answered (args .self) (args .frame .now) _ _ (c .before .before .before .asked .ensures) (c .before .before .kind-awaited .ensures) _ (answers .ensures)
-    (not-true (answers .result) (c .if1 .taken))
-
-storing-requires : tie.Need-storing-requires
-storing-requires c κs = search needs
-
-returns-2 : tie.Need-returns-2
-returns-2 c =
+    (not-true (answers .result) (c .if1 .taken)))
+    (λ c κs. search needs)
+    (λ c.
     let answers = c .before .before .before .answers in
     let storing = c .before .storing in
     let args = c .before .before .before .before .before .before .before .args in
     rules.no-stamp (args .self) (args .frame .now) _ _ (c .before .before .before .before .before .asked .ensures) (c .before .before .before .before .kind-awaited .ensures) _ (answers .ensures)
-    (not-false (answers .result) (c .before .before .if1 .left)) _ (storing .ensures) (not-true (storing .result) (c .if2 .taken))
-
-stamp-at-requires : tie.Need-stamp-at-requires
-stamp-at-requires c κs =
+    (not-false (answers .result) (c .before .before .if1 .left)) _ (storing .ensures) (not-true (storing .result) (c .if2 .taken)))
+    (λ c κs.
     let answers = c .before .before .before .answers in
     let storing = c .before .storing in
     let start = c .before .before .before .before .before .before .before in
     rules.stamp-there (start .args .self) (start .args .frame .now) _ _ (c .before .before .before .before .before .asked .ensures) (c .before .before .before .before .kind-awaited .ensures) _ (answers .ensures)
-    (not-false (answers .result) (c .before .before .if1 .left)) _ (storing .ensures) (not-false (storing .result) (c .if2 .left)) (start .pre .3)
-
-same-requires : tie.Need-same-requires
-same-requires c κs = search needs
-
-returns-3 : tie.Need-returns-3
-returns-3 c =
+    (not-false (answers .result) (c .before .before .if1 .left)) _ (storing .ensures) (not-false (storing .result) (c .if2 .left)) (start .pre .3))
+    (λ c κs. search needs)
+    (λ c.
     let stamp-at = c .before .before .stamp-at in
     let if2 = c .before .before .before .if2 in
     let storing = c .before .before .before .before .storing in
@@ -56,18 +43,4 @@ returns-3 c =
     let e = not-false (storing .result) (if2 .left) in
     let there = rules.stamp-there (start .args .self) (start .args .frame .now) _ _ (asked .ensures) (kind .ensures) _ (answers .ensures) y _ (storing .ensures) e (start .pre .3) in
     rules.stamp-told (start .args .self) (start .args .frame .now) _ _ (asked .ensures) (kind .ensures) _ (answers .ensures) y _ (storing .ensures) e
-    (stamp-at .result) _ (stamp-at .ensures) there (c .same .ensures)
-
-pub awaits-spec : {M : Type 1} → statement M
-awaits-spec =
-    tie.close
-    (tie.spec
-    asked-requires
-    kind-awaited-requires
-    answers-requires
-    returns
-    storing-requires
-    returns-2
-    stamp-at-requires
-    same-requires
-    returns-3)
+    (stamp-at .result) _ (stamp-at .ensures) there (c .same .ensures)))

@@ -7,20 +7,11 @@ use borrow.Author.Needs.{needs}
 use Rattle.session.proofs.Session.begin.Statement.{statement}
 use Rattle.session.proofs.Session.begin.Tie as tie
 
-fresh-requires : tie.Need-fresh-requires
-fresh-requires c κs = search needs
-
-plan-ok-requires : tie.Need-plan-ok-requires
-plan-ok-requires c κs = search needs
-
 returns : tie.Need-returns
 unfolding openWith
 returns c =
     let fresh = c .before .before .fresh in
     rungs.stop 1 _ _ _ (ap not (sym (c .before .plan-ok .ensures)) ∙ c .if1 .taken) (ap (λ (s : Session). opens 1 s) (fresh .ensures))
-
-opening-ok-requires : tie.Need-opening-ok-requires
-opening-ok-requires c κs = search needs
 
 returns-2 : tie.Need-returns-2
 unfolding openWith
@@ -30,9 +21,6 @@ returns-2 c =
     let fresh = c .before .before .before .before .fresh in
     rungs.go-on 1 _ _ _ (ap not (sym (plan-ok .ensures)) ∙ if1 .left)
     (rungs.stop 13 _ _ _ (ap not (sym (c .before .opening-ok .ensures)) ∙ c .if2 .taken) (ap (λ (s : Session). opens 13 s) (fresh .ensures)))
-
-fresh-requires-2 : tie.Need-fresh-requires-2
-fresh-requires-2 c κs = search needs
 
 returns-3 : tie.Need-returns-3
 unfolding openWith
@@ -46,4 +34,11 @@ returns-3 c =
 pub begin-spec : {M : Type 1} → statement M
 begin-spec =
     tie.close
-    (tie.spec fresh-requires plan-ok-requires returns opening-ok-requires returns-2 fresh-requires-2 returns-3)
+    (tie.spec
+    (λ c κs. search needs)
+    (λ c κs. search needs)
+    returns
+    (λ c κs. search needs)
+    returns-2
+    (λ c κs. search needs)
+    returns-3)

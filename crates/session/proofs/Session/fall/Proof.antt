@@ -5,17 +5,11 @@ use borrow.Author.Needs.{needs}
 use Rattle.session.proofs.Session.fall.Statement.{statement}
 use Rattle.session.proofs.Session.fall.Tie as tie
 
-over-requires : tie.Need-over-requires
-over-requires c κs = search needs
-
-returns : tie.Need-returns
-returns c = laws.spent (c .before .before .before .before .before .args .p) (c .before .before .before .before .before .args .self) (c .before .before .before .before .before .args .t) _ _ _ (c .before .if1 .taken) (c .over .ensures)
-
-next-requires : tie.Need-next-requires
-next-requires c κs = let q = plan-is _ (c .before .before .before .before .pre) in omega arith
-
-returns-2 : tie.Need-returns-2
-returns-2 c = laws.goes-on (c .before .before .before .before .before .args .p) (c .before .before .before .before .before .args .self) (c .before .before .before .before .before .args .t) _ _ _ (c .before .if1 .left) (c .next .ensures)
-
 pub fall-spec : {M : Type 1} → statement M
-fall-spec = tie.close (tie.spec over-requires returns next-requires returns-2)
+fall-spec =
+    tie.close
+    (tie.spec
+    (λ c κs. search needs)
+    (λ c. laws.spent (c .before .before .before .before .before .args .p) (c .before .before .before .before .before .args .self) (c .before .before .before .before .before .args .t) _ _ _ (c .before .if1 .taken) (c .over .ensures))
+    (λ c κs. let q = plan-is _ (c .before .before .before .before .pre) in omega arith)
+    (λ c. laws.goes-on (c .before .before .before .before .before .args .p) (c .before .before .before .before .before .args .self) (c .before .before .before .before .before .args .t) _ _ _ (c .before .if1 .left) (c .next .ensures)))

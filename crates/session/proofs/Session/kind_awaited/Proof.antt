@@ -3,15 +3,9 @@ use borrow.Author.Needs.{needs}
 use Rattle.session.proofs.Session.kind_awaited.Statement.{statement}
 use Rattle.session.proofs.Session.kind_awaited.Tie as tie
 
-storing-requires : tie.Need-storing-requires
-storing-requires c κs = search needs
-
 returns : tie.Need-returns
 unfolding kindAwaited
 returns c = rw (← (c .before .storing .ensures), c .if1 .taken)
-
-reads-requires : tie.Need-reads-requires
-reads-requires c κs = search needs
 
 returns-2 : tie.Need-returns-2
 unfolding kindAwaited
@@ -23,4 +17,10 @@ returns-3 c = rw (← (c .before .before .before .storing .ensures), c .before .
 
 pub kind-awaited-spec : {M : Type 1} → statement M
 kind-awaited-spec =
-    tie.close (tie.spec storing-requires returns reads-requires returns-2 returns-3)
+    tie.close
+    (tie.spec
+    (λ c κs. search needs)
+    returns
+    (λ c κs. search needs)
+    returns-2
+    returns-3)

@@ -10,32 +10,17 @@ use borrow.Author.Needs.{needs}
 use Rattle.session.proofs.Session.open_ok.Statement.{statement}
 use Rattle.session.proofs.Session.open_ok.Tie as tie
 
-stamp-ok-requires : tie.Need-stamp-ok-requires
-stamp-ok-requires c κs = search needs
-
 returns : tie.Need-returns
 unfolding openRules
 returns c = rules.fails _ (sym (c .before .stamp-ok .ensures) ∙ not-true (c .before .stamp-ok .result) (c .if1 .taken))
-
-firsts-ok-requires : tie.Need-firsts-ok-requires
-firsts-ok-requires c κs = search needs
 
 returns-2 : tie.Need-returns-2
 unfolding openRules
 returns-2 c = rules.holds _ (sym (c .before .before .before .stamp-ok .ensures) ∙ not-false (c .before .before .before .stamp-ok .result) (c .before .before .if1 .left)) (rules.fails _ (sym (c .before .firsts-ok .ensures) ∙ not-true (c .before .firsts-ok .result) (c .if2 .taken)))
 
-count-requires : tie.Need-count-requires
-count-requires c κs = search needs
-
-sub-if3 : tie.Need-sub-if3
-sub-if3 c = let g = facts _ (c .before .before .before .before .before .before .before .before .pre .0) in omega arith
-
 returns-3 : tie.Need-returns-3
 unfolding openRules
 returns-3 c = rules.holds _ (sym (c .before .before .before .before .before .before .before .stamp-ok .ensures) ∙ not-false (c .before .before .before .before .before .before .before .stamp-ok .result) (c .before .before .before .before .before .before .if1 .left)) (rules.holds _ (sym (c .before .before .before .before .before .firsts-ok .ensures) ∙ not-false (c .before .before .before .before .before .firsts-ok .result) (c .before .before .before .before .if2 .left)) (rules.fails _ (le-ltb (heardCount (c .before .before .before .before .before .before .before .before .before .args .self .marks)) (c .before .before .before .before .before .before .before .before .before .args .p .n - c .before .before .before .before .before .before .before .before .before .args .p .t) (omega (arith, c .before .before .count .ensures .0)))))
-
-slots-ok-requires : tie.Need-slots-ok-requires
-slots-ok-requires c κs = search needs
 
 returns-4 : tie.Need-returns-4
 unfolding openRules
@@ -45,12 +30,12 @@ pub open-ok-spec : {M : Type 1} → statement M
 open-ok-spec =
     tie.close
     (tie.spec
-    stamp-ok-requires
+    (λ c κs. search needs)
     returns
-    firsts-ok-requires
+    (λ c κs. search needs)
     returns-2
-    count-requires
-    sub-if3
+    (λ c κs. search needs)
+    (λ c. let g = facts _ (c .before .before .before .before .before .before .before .before .pre .0) in omega arith)
     returns-3
-    slots-ok-requires
+    (λ c κs. search needs)
     returns-4)

@@ -4,31 +4,25 @@ use borrow.Author.Needs.{needs}
 use Rattle.session.proofs.Session.owed.Statement.{statement}
 use Rattle.session.proofs.Session.owed.Tie as tie
 
-owed-check-requires : tie.Need-owed-check-requires
-owed-check-requires c κs = search needs
-
-enum-known-c : tie.Need-enum-known-c
-enum-known-c c = search needs
-
 enum-told : tie.Need-enum-told
 enum-told c = search needs
 
-write-request-requires : tie.Need-write-request-requires
-write-request-requires c κs =
+pub owed-spec : {M : Type 1} → statement M
+owed-spec =
+    tie.close
+    (tie.spec
+    (λ c κs. search needs)
+    (λ c. search needs)
+    enum-told
+    (λ c κs.
     let owed-check = c .before .before .before .owed-check in
-    check-passed _ _ (owed-check .ensures) (c .before .enum-told .given .1)
-
-returns : tie.Need-returns
-returns c =
+    check-passed _ _ (owed-check .ensures) (c .before .enum-told .given .1))
+    (λ c.
     let owed-check = c .before .before .before .owed-check in
     let args = c .before .before .before .before .before .before .args in
-    record { is = laws.owed-refused (args .p) (args .self) _ _ _ _ (owed-check .ensures) _ (c .before .c .given .1) }
-
-same-length : tie.Need-same-length
-same-length c = search needs
-
-returns-2 : tie.Need-returns-2
-returns-2 c =
+    record { is = laws.owed-refused (args .p) (args .self) _ _ _ _ (owed-check .ensures) _ (c .before .c .given .1) })
+    (λ c. search needs)
+    (λ c.
     let write-request = c .before .before .write-request in
     let enum-told = c .before .before .before .before .enum-told in
     let owed-check = c .before .before .before .before .before .before .owed-check in
@@ -36,16 +30,4 @@ returns-2 c =
     record {
       is = laws.owed-written (args .p) (args .self) _ _ _ _ _ (check-passed _ _ (owed-check .ensures) (enum-told .given .1))
           (write-request .ensures);
-    }
-
-pub owed-spec : {M : Type 1} → statement M
-owed-spec =
-    tie.close
-    (tie.spec
-    owed-check-requires
-    enum-known-c
-    enum-told
-    write-request-requires
-    returns
-    same-length
-    returns-2)
+    }))

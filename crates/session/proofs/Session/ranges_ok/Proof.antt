@@ -6,22 +6,13 @@ use borrow.Author.Needs.{needs}
 use Rattle.session.proofs.Session.ranges_ok.Statement.{statement}
 use Rattle.session.proofs.Session.ranges_ok.Tie as tie
 
-stands-requires : tie.Need-stands-requires
-stands-requires c κs = search needs
-
 returns : tie.Need-returns
 unfolding inRange
 returns c = rules.and-fails _ (sym (c .before .stands .ensures) ∙ not-true (c .before .stands .result) (c .if1 .taken))
 
-ended-requires : tie.Need-ended-requires
-ended-requires c κs = search needs
-
 returns-2 : tie.Need-returns-2
 unfolding inRange
 returns-2 c = rules.and-last (sym (c .before .before .before .stands .ensures) ∙ not-false (c .before .before .before .stands .result) (c .before .before .if1 .left)) (rules.or-holds _ (sym (c .before .ended .ensures) ∙ c .if2 .taken))
-
-open-ok-requires : tie.Need-open-ok-requires
-open-ok-requires c κs = search needs
 
 returns-3 : tie.Need-returns-3
 unfolding inRange
@@ -30,4 +21,10 @@ returns-3 c = rules.and-last (sym (c .before .before .before .before .stands .en
 pub ranges-ok-spec : {M : Type 1} → statement M
 ranges-ok-spec =
     tie.close
-    (tie.spec stands-requires returns ended-requires returns-2 open-ok-requires returns-3)
+    (tie.spec
+    (λ c κs. search needs)
+    returns
+    (λ c κs. search needs)
+    returns-2
+    (λ c κs. search needs)
+    returns-3)

@@ -7,22 +7,12 @@ use borrow.Author.Needs.{needs}
 use Rattle.session.proofs.Session.slots_ok.Statement.{statement}
 use Rattle.session.proofs.Session.slots_ok.Tie as tie
 
-in-read-round-requires : tie.Need-in-read-round-requires
-in-read-round-requires c κs = search needs
-
-returns : tie.Need-returns
-returns c = rules.or-holds _ (ap not (sym (c .before .in-read-round .ensures)) ∙ c .if1 .taken)
-
-record-length-requires : tie.Need-record-length-requires
-record-length-requires c κs = search needs
-
-slots-fit-requires : tie.Need-slots-fit-requires
-slots-fit-requires c κs = let q = plan-is _ (c .before .before .before .before .before .pre .0) in let e = c .record-length .ensures .0 in (rw e (omega arith), omega arith, q .n-high)
-
-returns-2 : tie.Need-returns-2
-returns-2 c = rules.or-last (ap not (sym (c .before .before .before .before .in-read-round .ensures)) ∙ c .before .before .before .if1 .left) (c .slots-fit .ensures ∙ rw (c .before .record-length .ensures .0))
-
 pub slots-ok-spec : {M : Type 1} → statement M
 slots-ok-spec =
     tie.close
-    (tie.spec in-read-round-requires returns record-length-requires slots-fit-requires returns-2)
+    (tie.spec
+    (λ c κs. search needs)
+    (λ c. rules.or-holds _ (ap not (sym (c .before .in-read-round .ensures)) ∙ c .if1 .taken))
+    (λ c κs. search needs)
+    (λ c κs. let q = plan-is _ (c .before .before .before .before .before .pre .0) in let e = c .record-length .ensures .0 in (rw e (omega arith), omega arith, q .n-high))
+    (λ c. rules.or-last (ap not (sym (c .before .before .before .before .in-read-round .ensures)) ∙ c .before .before .before .if1 .left) (c .slots-fit .ensures ∙ rw (c .before .record-length .ensures .0))))

@@ -16,29 +16,17 @@ returns-2 : tie.Need-returns-2
 unfolding standingRules
 returns-2 c = rules.holds _ (le-leb _ _ (c .before .before .if1 .left)) (rules.fails _ (lt-leb _ _ (c .if2 .taken)))
 
-counts-requires : tie.Need-counts-requires
-counts-requires c κs = search needs
-
 returns-3 : tie.Need-returns-3
 unfolding standingRules
 returns-3 c = rules.holds _ (le-leb _ _ (c .before .before .before .before .if1 .left)) (rules.holds _ (le-leb _ _ (c .before .before .if2 .left)) (rules.fails _ (sym (c .before .counts .ensures) ∙ not-true (c .before .counts .result) (c .if3 .taken))))
-
-bound-ok-requires : tie.Need-bound-ok-requires
-bound-ok-requires c κs = search needs
 
 returns-4 : tie.Need-returns-4
 unfolding standingRules
 returns-4 c = rules.holds _ (le-leb _ _ (c .before .before .before .before .before .before .if1 .left)) (rules.holds _ (le-leb _ _ (c .before .before .before .before .if2 .left)) (rules.holds _ (sym (c .before .before .before .counts .ensures) ∙ not-false (c .before .before .before .counts .result) (c .before .before .if3 .left)) (rules.fails _ (sym (c .before .bound-ok .ensures) ∙ not-true (c .before .bound-ok .result) (c .if4 .taken)))))
 
-rest-unheard-requires : tie.Need-rest-unheard-requires
-rest-unheard-requires c κs = plan-is _ (c .before .before .before .before .before .before .before .before .pre) .n-high
-
 returns-5 : tie.Need-returns-5
 unfolding standingRules
 returns-5 c = rules.holds _ (le-leb _ _ (c .before .before .before .before .before .before .before .before .before .if1 .left)) (rules.holds _ (le-leb _ _ (c .before .before .before .before .before .before .before .if2 .left)) (rules.holds _ (sym (c .before .before .before .before .before .before .counts .ensures) ∙ not-false (c .before .before .before .before .before .before .counts .result) (c .before .before .before .before .before .if3 .left)) (rules.holds _ (sym (c .before .before .before .before .bound-ok .ensures) ∙ not-false (c .before .before .before .before .bound-ok .result) (c .before .before .before .if4 .left)) (rules.fails _ (sym (c .before .rest-unheard .ensures) ∙ not-true (c .before .rest-unheard .result) (c .if5 .taken))))))
-
-opening-ok-requires : tie.Need-opening-ok-requires
-opening-ok-requires c κs = search needs
 
 returns-6 : tie.Need-returns-6
 unfolding standingRules
@@ -63,11 +51,11 @@ stands-spec =
     (tie.spec
     returns
     returns-2
-    counts-requires
+    (λ c κs. search needs)
     returns-3
-    bound-ok-requires
+    (λ c κs. search needs)
     returns-4
-    rest-unheard-requires
+    (λ c κs. plan-is _ (c .before .before .before .before .before .before .before .before .pre) .n-high)
     returns-5
-    opening-ok-requires
+    (λ c κs. search needs)
     returns-6)

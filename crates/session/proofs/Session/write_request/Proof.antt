@@ -13,49 +13,38 @@ use borrow.Author.Needs.{needs}
 use Rattle.session.proofs.Session.write_request.Statement.{statement}
 use Rattle.session.proofs.Session.write_request.Tie as tie
 
-asked-requires : tie.Need-asked-requires
-asked-requires c κs =
+pub write-request-spec : {M : Type 1} → statement M
+write-request-spec =
+    tie.close
+    (tie.spec
+    (λ c κs.
     let args = c .before .before .args in
     let pre = c .before .before .pre in
     let o = laws.owing (args .p) (args .self) (args .node) (args .desk .now) (length (args .request .now)) pre in
-    (o .round-low, o .ask-high)
-
-record-length-requires : tie.Need-record-length-requires
-record-length-requires c κs =
+    (o .round-low, o .ask-high))
+    (λ c κs.
     let args = c .before .before .before .args in
     let pre = c .before .before .before .pre in
     let o = laws.owing (args .p) (args .self) (args .node) (args .desk .now) (length (args .request .now)) pre in
-    o .plan-ok
-
-storing-requires : tie.Need-storing-requires
-storing-requires c κs = search needs
-
-mul-with-part : tie.Need-mul-with-part
-mul-with-part c =
+    o .plan-ok)
+    (λ c κs. search needs)
+    (λ c.
     let record-length = c .before .before .before .record-length in
     let args = c .before .before .before .before .before .before .before .args in
     let pre = c .before .before .before .before .before .before .before .pre in
     let o = laws.owing (args .p) (args .self) (args .node) (args .desk .now) (length (args .request .now)) pre in
     let q = plan-is _ (o .plan-ok) in
-    omega (arith, rules.product-low (args .node) (record-length .result) 16 1576 (omega arith) (record-length .ensures .1))
-
-with-part-requires : tie.Need-with-part-requires
-with-part-requires c κs =
+    omega (arith, rules.product-low (args .node) (record-length .result) 16 1576 (omega arith) (record-length .ensures .1)))
+    (λ c κs.
     let record-length = c .before .before .before .record-length in
     let args = c .before .before .before .before .before .before .before .args in
     let pre = c .before .before .before .before .before .before .before .pre in
     let o = laws.owing (args .p) (args .self) (args .node) (args .desk .now) (length (args .request .now)) pre in
     let e = record-length .ensures .0 in
-    (omega arith, rw e (omega (arith, slot-fits (args .node) (args .p .n) (recordLength (args .p)) (o .node-low), o .room .desk-is)))
-
-add-result : tie.Need-add-result
-add-result c = search needs
-
-same-length : tie.Need-same-length
-same-length c = search needs
-
-returns : tie.Need-returns
-returns c =
+    (omega arith, rw e (omega (arith, slot-fits (args .node) (args .p .n) (recordLength (args .p)) (o .node-low), o .room .desk-is))))
+    (λ c. search needs)
+    (λ c. search needs)
+    (λ c.
     let with-part = c .before .before .with-part in
     let if1 = c .before .before .before .before .if1 in
     let storing = c .before .before .before .before .before .storing in
@@ -72,25 +61,17 @@ returns c =
       slot-fits (args .node) (args .p .n) (recordLength
           (args .p)) (o .node-low),
       o .room .desk-is,
-    )))) (with-part .ensures)
-
-reads-requires : tie.Need-reads-requires
-reads-requires c κs = search needs
-
-read-request-requires : tie.Need-read-request-requires
-read-request-requires c κs =
+    )))) (with-part .ensures))
+    (λ c κs. search needs)
+    (λ c κs.
     let record-length = c .before .before .before .before .before .record-length in
     let args = c .before .before .before .before .before .before .before .before .before .args in
     let pre = c .before .before .before .before .before .before .before .before .before .pre in
     let o = laws.owing (args .p) (args .self) (args .node) (args .desk .now) (length (args .request .now)) pre in
     let e = record-length .ensures in
-    omega arith
-
-same-length-2 : tie.Need-same-length-2
-same-length-2 c = search needs
-
-returns-2 : tie.Need-returns-2
-returns-2 c =
+    omega arith)
+    (λ c. search needs)
+    (λ c.
     let read-request = c .before .before .read-request in
     let if2 = c .before .before .before .before .if2 in
     let reads = c .before .before .before .before .before .reads in
@@ -99,22 +80,16 @@ returns-2 c =
     let asked = c .before .before .before .before .before .before .before .before .before .asked in
     let args = c .before .before .before .before .before .before .before .before .before .before .before .before .args in
     laws.the-same _ _ _ _ _ (laws.asks-record (args .p) (args .self) (args .node) (args .desk .now) _ (asked .ensures) _ (storing .ensures)
-    (if1 .left) _ (reads .ensures) (if2 .taken)) (read-request .ensures)
-
-bare-requires : tie.Need-bare-requires
-bare-requires c κs =
+    (if1 .left) _ (reads .ensures) (if2 .taken)) (read-request .ensures))
+    (λ c κs.
     let record-length = c .before .before .before .before .before .record-length in
     let args = c .before .before .before .before .before .before .before .before .before .args in
     let pre = c .before .before .before .before .before .before .before .before .before .pre in
     let o = laws.owing (args .p) (args .self) (args .node) (args .desk .now) (length (args .request .now)) pre in
     let e = record-length .ensures in
-    omega arith
-
-same-length-3 : tie.Need-same-length-3
-same-length-3 c = search needs
-
-returns-3 : tie.Need-returns-3
-returns-3 c =
+    omega arith)
+    (λ c. search needs)
+    (λ c.
     let bare = c .before .before .bare in
     let if2 = c .before .before .before .before .if2 in
     let reads = c .before .before .before .before .before .reads in
@@ -123,24 +98,4 @@ returns-3 c =
     let asked = c .before .before .before .before .before .before .before .before .before .asked in
     let args = c .before .before .before .before .before .before .before .before .before .before .before .before .args in
     laws.sent _ 1 (args .node) (asked .result .0) [] _ _ 0 (laws.asks-time (args .p) (args .self) _ _ _ (asked .ensures) _ (storing .ensures)
-    (if1 .left) _ (reads .ensures) (if2 .left)) refl (bare .ensures)
-
-pub write-request-spec : {M : Type 1} → statement M
-write-request-spec =
-    tie.close
-    (tie.spec
-    asked-requires
-    record-length-requires
-    storing-requires
-    mul-with-part
-    with-part-requires
-    add-result
-    same-length
-    returns
-    reads-requires
-    read-request-requires
-    same-length-2
-    returns-2
-    bare-requires
-    same-length-3
-    returns-3)
+    (if1 .left) _ (reads .ensures) (if2 .left)) refl (bare .ensures)))

@@ -5,30 +5,22 @@ use borrow.Author.Needs.{needs}
 use Rattle.session.proofs.Session.write_turn.Statement.{statement}
 use Rattle.session.proofs.Session.write_turn.Tie as tie
 
-count-requires : tie.Need-count-requires
-count-requires c κs = search needs
-
-sub-if1 : tie.Need-sub-if1
-sub-if1 c =
+pub write-turn-spec : {M : Type 1} → statement M
+write-turn-spec =
+    tie.close
+    (tie.spec
+    (λ c κs. search needs)
+    (λ c.
     let pre = c .before .before .before .pre in
     let q = facts _ pre in
-    omega arith
-
-returns : tie.Need-returns
-returns c =
+    omega arith)
+    (λ c.
     let count = c .before .before .count in
     let args = c .before .before .before .before .args in
-    λ d. laws.write-open (args .p) (args .self) d _ (count .ensures .0) (c .if1 .taken)
-
-over-requires : tie.Need-over-requires
-over-requires c κs = search needs
-
-returns-2 : tie.Need-returns-2
-returns-2 c =
+    λ d. laws.write-open (args .p) (args .self) d _ (count .ensures .0) (c .if1 .taken))
+    (λ c κs. search needs)
+    (λ c.
     let if1 = c .before .before .if1 in
     let count = c .before .before .before .before .count in
     let args = c .before .before .before .before .before .before .args in
-    λ d. laws.write-done (args .p) (args .self) d _ (count .ensures .0) (if1 .left) _ (c .over .ensures)
-
-pub write-turn-spec : {M : Type 1} → statement M
-write-turn-spec = tie.close (tie.spec count-requires sub-if1 returns over-requires returns-2)
+    λ d. laws.write-done (args .p) (args .self) d _ (count .ensures .0) (if1 .left) _ (c .over .ensures)))

@@ -8,42 +8,32 @@ use borrow.Author.Needs.{needs}
 use Rattle.session.proofs.Session.write_with.Statement.{statement}
 use Rattle.session.proofs.Session.write_with.Tie as tie
 
-check-requires : tie.Need-check-requires
-check-requires c κs = search needs
-
-enum-known-c : tie.Need-enum-known-c
-enum-known-c c = search needs
-
 enum-told : tie.Need-enum-told
 enum-told c = search needs
 
-accept-write-requires : tie.Need-accept-write-requires
-accept-write-requires c κs =
+pub write-with-spec : {M : Type 1} → statement M
+write-with-spec =
+    tie.close
+    (tie.spec
+    (λ c κs. search needs)
+    (λ c. search needs)
+    enum-told
+    (λ c κs.
     let enum-told = c .before .before .enum-told in
     let check = c .before .before .before .before .check in
     let pre = c .before .before .before .before .before .before .before .before .before .before .pre in
-    (check-passed _ _ (check .ensures) (enum-told .given .1), pre)
-
-same-length : tie.Need-same-length
-same-length c = search needs
-
-returns : tie.Need-returns
-returns c =
+    (check-passed _ _ (check .ensures) (enum-told .given .1), pre))
+    (λ c. search needs)
+    (λ c.
     let check = c .before .before .before .check in
     let args = c .before .before .before .before .before .before .before .before .before .args in
     record {
       is = laws.write-refused (args .p) (args .self) (args .reply .now) (args .desk .now) (args .item .now) _ (check .ensures) _
           (c .before .c .given .1);
-    }
-
-same-length-2 : tie.Need-same-length-2
-same-length-2 c = search needs
-
-same-length-3 : tie.Need-same-length-3
-same-length-3 c = search needs
-
-returns-2 : tie.Need-returns-2
-returns-2 c =
+    })
+    (λ c. search needs)
+    (λ c. search needs)
+    (λ c.
     let accept-write = c .before .before .before .before .accept-write in
     let enum-told = c .before .before .before .before .before .before .before .enum-told in
     let check = c .before .before .before .before .before .before .before .before .before .check in
@@ -52,18 +42,4 @@ returns-2 c =
       is = accept-write .ensures ∙ laws.write-taken (args .p) (args .self) (args .reply .now) (args .desk .now) (args .item .now)
           (check-passed (replyLadder Write (args .p) (args .self) (args .reply .now) (args .desk .now) (length (args .item .now))) _ (check .ensures)
           (enum-told .given .1));
-    }
-
-pub write-with-spec : {M : Type 1} → statement M
-write-with-spec =
-    tie.close
-    (tie.spec
-    check-requires
-    enum-known-c
-    enum-told
-    accept-write-requires
-    same-length
-    returns
-    same-length-2
-    same-length-3
-    returns-2)
+    }))

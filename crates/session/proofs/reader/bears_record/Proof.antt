@@ -4,18 +4,9 @@ use borrow.Author.Needs.{needs}
 use Rattle.session.proofs.reader.bears_record.Statement.{statement}
 use Rattle.session.proofs.reader.bears_record.Tie as tie
 
-kind-of-requires : tie.Need-kind-of-requires
-kind-of-requires c κs = search needs
-
 returns : tie.Need-returns
 unfolding bears
 returns c = rw (← (c .before .kind-of .ensures .0), ne-eqb _ _ (c .if1 .taken))
-
-record-length-requires : tie.Need-record-length-requires
-record-length-requires c κs = search needs
-
-add-result : tie.Need-add-result
-add-result c = search needs
 
 returns-2 : tie.Need-returns-2
 unfolding bears
@@ -23,4 +14,10 @@ returns-2 c = rw (← (c .before .before .kind-of .ensures .0), eq-eqb _ _ (c .b
 
 pub bears-record-spec : {M : Type 1} → statement M
 bears-record-spec =
-    tie.close (tie.spec kind-of-requires returns record-length-requires add-result returns-2)
+    tie.close
+    (tie.spec
+    (λ c κs. search needs)
+    returns
+    (λ c κs. search needs)
+    (λ c. search needs)
+    returns-2)

@@ -6,54 +6,39 @@ use borrow.Author.Needs.{needs}
 use Rattle.session.proofs.writer.write_records.Statement.{statement}
 use Rattle.session.proofs.writer.write_records.Tie as tie
 
-record-length-requires : tie.Need-record-length-requires
-record-length-requires c κs = search needs
-
-mul-encode : tie.Need-mul-encode
-mul-encode c =
+pub write-records-spec : {M : Type 1} → statement M
+write-records-spec =
+    tie.close
+    (tie.spec
+    (λ c κs. search needs)
+    (λ c.
     let pre = c .before .before .before .before .before .pre in
     let q = plan-is _ (pre .0) in
-    omega arith
-
-add-encode : tie.Need-add-encode
-add-encode c =
+    omega arith)
+    (λ c.
     let pre = c .before .before .before .before .before .pre in
     let q = plan-is _ (pre .0) in
-    omega arith
-
-encode-requires : tie.Need-encode-requires
-encode-requires c κs =
+    omega arith)
+    (λ c κs.
     let args = c .before .before .before .before .before .args in
     let pre = c .before .before .before .before .before .pre in
     let q = plan-is _ (pre .0) in
-    (pre .1, small _ (pre .0) .m-small, q .n-high, sources (args .p) (args .desk .now) _ (c .before .record-length .ensures .0) (args .p .n) (pre .2))
-
-cross-requires : tie.Need-cross-requires
-cross-requires c κs =
+    (pre .1, small _ (pre .0) .m-small, q .n-high, sources (args .p) (args .desk .now) _ (c .before .record-length .ensures .0) (args .p .n) (pre .2)))
+    (λ c κs.
     let pre = c .before .before .before .before .before .before .before .before .before .before .pre in
     let q = plan-is _ (pre .0) in
-    (pre .0, omega arith, omega arith)
-
-stamp-of-requires : tie.Need-stamp-of-requires
-stamp-of-requires c κs =
+    (pre .0, omega arith, omega arith))
+    (λ c κs.
     let pre = c .before .before .before .before .before .before .before .before .before .before .before .before .before .before .pre in
     let q = plan-is _ (pre .0) in
-    (pre .0, omega arith)
-
-fill-requires : tie.Need-fill-requires
-fill-requires c κs =
+    (pre .0, omega arith))
+    (λ c κs.
     let pre = c .before .before .before .before .before .before .before .before .before .before .before .before .before .before .before .before .before .pre in
     let q = plan-is _ (pre .0) in
-    (pre .0, omega arith, omega arith)
-
-same-length : tie.Need-same-length
-same-length c = search needs
-
-same-length-2 : tie.Need-same-length-2
-same-length-2 c = search needs
-
-returns : tie.Need-returns
-returns c =
+    (pre .0, omega arith, omega arith))
+    (λ c. search needs)
+    (λ c. search needs)
+    (λ c.
     let fill = c .before .before .fill in
     let stamp-of = c .before .before .before .before .before .stamp-of in
     let cross = c .before .before .before .before .before .before .before .before .before .cross in
@@ -62,19 +47,4 @@ returns c =
     let args = c .before .before .before .before .before .before .before .before .before .before .before .before .before .before .before .before .before .before .before .before .args in
     let pre = c .before .before .before .before .before .before .before .before .before .before .before .before .before .before .before .before .before .before .before .before .pre in
     laws.records-made (args .p) (args .item .now) (args .desk .now) _ _ _ _ (record-length .ensures .0) (pre .1) (pre .2) (encode .ensures)
-    (cross .ensures) (args .at .0) _ _ (stamp-of .ensures .0) (stamp-of .ensures .1) (fill .ensures)
-
-pub write-records-spec : {M : Type 1} → statement M
-write-records-spec =
-    tie.close
-    (tie.spec
-    record-length-requires
-    mul-encode
-    add-encode
-    encode-requires
-    cross-requires
-    stamp-of-requires
-    fill-requires
-    same-length
-    same-length-2
-    returns)
+    (cross .ensures) (args .at .0) _ _ (stamp-of .ensures .0) (stamp-of .ensures .1) (fill .ensures)))

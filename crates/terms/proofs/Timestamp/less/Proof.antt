@@ -7,25 +7,19 @@ use borrow.Author.Needs.{needs}
 use Rattle.terms.proofs.Timestamp.less.Statement.{statement}
 use Rattle.terms.proofs.Timestamp.less.Tie as tie
 
-returns : tie.Need-returns
-returns c =
+pub less-spec : {M : Type 1} → statement M
+less-spec =
+    tie.close
+    (tie.spec
+    (λ c.
     let s = c .before .before .before .before .before .args in
     laws.words-yes (stampNumber (s .self)) (stampNumber (s .other))
-    (laws.stamp-0 (s .self) (s .other) (record { w1 = omega arith; w2 = omega arith; w3 = omega arith }) (omega arith) (c .if1 .taken))
-
-returns-2 : tie.Need-returns-2
-returns-2 c =
+    (laws.stamp-0 (s .self) (s .other) (record { w1 = omega arith; w2 = omega arith; w3 = omega arith }) (omega arith) (c .if1 .taken)))
+    (λ c.
     let s = c .before .before .before .before .before .before .before .before .args in
     laws.no-of (stampNumber (s .self)) (stampNumber (s .other))
-    (laws.stamp-0 (s .other) (s .self) (record { w1 = omega arith; w2 = omega arith; w3 = omega arith }) (omega arith) (c .if2 .taken))
-
-hash-less-requires : tie.Need-hash-less-requires
-hash-less-requires c κs = search needs
-
-returns-3 : tie.Need-returns-3
-returns-3 c =
+    (laws.stamp-0 (s .other) (s .self) (record { w1 = omega arith; w2 = omega arith; w3 = omega arith }) (omega arith) (c .if2 .taken)))
+    (λ c κs. search needs)
+    (λ c.
     let s = c .before .before .before .before .before .before .before .before .before .before .before .args in
-    c .hash-less .ensures ∙ laws.stamp-1 (s .self) (s .other) (omega arith)
-
-pub less-spec : {M : Type 1} → statement M
-less-spec = tie.close (tie.spec returns returns-2 hash-less-requires returns-3)
+    c .hash-less .ensures ∙ laws.stamp-1 (s .self) (s .other) (omega arith)))

@@ -17,13 +17,13 @@ use native.Mathlib.Omega.{arith}
 use borrow.Author.Tests.{ltb-true, ltb-false, eqb-true, eqb-false, ne-eqb, not-false}
 use lib.Dec.{ltb, eqb}
 use lib.ListN.{length}
-use Rattle.terms.specs.Ladder.{Rung, on, first, _and_}
+use Rattle.terms.specs.Ladder.{Rung, on, first, _and_, None}
 use Rattle.terms.specs.Stamp.{time}
 use Rattle.terms.specs.Terms.{planOk, recordLength}
 use Rattle.terms.specs.declared.Ask.{Ask}
 use Rattle.terms.specs.declared.Plan.{Plan}
 use Rattle.terms.specs.declared.Timestamp.{Timestamp}
-use Rattle.terms.proofs.Rungs.{None, clash, both}
+use Rattle.terms.proofs.Rungs.{clash, both}
 use Rattle.frame.specs.Frame.{frameNode, askOf, bodyOf, goodReply, oneOf}
 use Rattle.rounds.specs.declared.Heard.{Heard}
 use Rattle.rounds.specs.declared.Heard.the-variants.{Record}

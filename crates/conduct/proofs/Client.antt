@@ -19,7 +19,8 @@ use Rattle.terms.specs.declared.Plan.{Plan}
 use Rattle.terms.specs.declared.Refusal.{Refusal}
 use Rattle.terms.specs.declared.Refusal.the-variants.{OutsidePlan}
 use Rattle.terms.specs.declared.Timestamp.{Timestamp}
-use Rattle.terms.proofs.Rungs.{Given, refusal-one}
+use Rattle.terms.specs.Ladder.{Given}
+use Rattle.terms.proofs.Rungs.{refusal-one}
 use Rattle.terms.proofs.Stamps.{Words, hash-one, stamp-time, stamp-2}
 use Rattle.rounds.specs.declared.Bound.the-variants.{Free}
 use Rattle.session.specs.declared.Session.{Session}

@@ -20,7 +20,7 @@ use Rattle.octets.specs.Bytes.{part, Octets}
 use Rattle.octets.proofs.Laws.{length-part, length-be, part-middle, slot-fits}
 use Rattle.sha256.proofs.Laws.{sha256-length}
 use Rattle.terms.specs.Ladder.{all}
-use Rattle.terms.specs.Terms.{planOk, tableOk, columnOf, recordLength, complete, incomplete}
+use Rattle.terms.specs.Terms.{planOk, countsOk, limitsOk, tableOk, columnOf, recordLength, COMPLETE, INCOMPLETE}
 use Rattle.terms.specs.declared.Plan.{Plan}
 use Rattle.terms.specs.declared.Member.the-variants.{Repairable}
 use Rattle.terms.specs.declared.Clients.the-variants.{Byzantine}
@@ -115,8 +115,8 @@ module _ (p : Plan) (t : ℕ) (i : List ℕ) (ok : planOk p ≡ true) (bytes : O
     unfolding closeWith decoded
     by-read w held =
         let a = w .node in
-        let v = reading.whole-is (p .member) (complete p) (incomplete p) (size p s f d a) (w .full) in
-        let k = led p u e a (ap (λ (x : Lead). closeWith (u .marks) e (p .n) (headLength p) (recordLength p) (p .member) (complete p) (incomplete p) x .lead) (w .candidate)) in
+        let v = reading.whole-is (p .member) (COMPLETE p) (INCOMPLETE p) (size p s f d a) (w .full) in
+        let k = led p u e a (ap (λ (x : Lead). closeWith (u .marks) e (p .n) (headLength p) (recordLength p) (p .member) (COMPLETE p) (INCOMPLETE p) x .lead) (w .candidate)) in
         let l = lowest-are p u e a k ok (sized-whole p u e a k ok (k .verdict-is ∙ v)) in
         ap (λ (o : Outcome). o .item)
         (call .is ∙ reading.closes-read p s f d out (w .closes .accepted) (w .closes .asks) (w .closes .enough) ∙ reading.is-done p s f d out a (w .candidate) v (w .validated))
@@ -154,7 +154,7 @@ pub pair : List ℕ
 pair = 0 ∷ 128 ∷ []
 
 accepted-plan : planOk plan ≡ true
-unfolding plan planOk tableOk columnOf all
+unfolding plan planOk countsOk limitsOk tableOk columnOf all
 accepted-plan = refl
 
 pair-small : small pair ≡ true

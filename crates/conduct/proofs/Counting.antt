@@ -9,10 +9,10 @@ use native.Mathlib.Omega.{arith}
 use borrow.Author.Tests.{lt-leb, le-leb, leb-true, leb-false, ltb-true, ltb-false}
 use lib.Dec.{leb, ltb}
 use lib.ListN.{length, length-set}
-use Rattle.terms.specs.Ladder.{_and_}
+use Rattle.terms.specs.Ladder.{_and_, None}
 use Rattle.terms.specs.declared.Ask.{Ask}
 use Rattle.terms.specs.declared.Plan.{Plan}
-use Rattle.terms.proofs.Rungs.{None, clash}
+use Rattle.terms.proofs.Rungs.{clash}
 use Rattle.terms.proofs.Plans.{plan-is}
 use Rattle.frame.specs.Frame.{frameNode}
 use Rattle.rounds.specs.declared.Heard.{Heard}

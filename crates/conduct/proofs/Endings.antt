@@ -11,7 +11,7 @@ use mathlib.Core.List.{List}
 use native.Mathlib.Omega.{arith}
 use lib.Dec.{ltb}
 use lib.ListN.{length}
-use Rattle.terms.specs.Terms.{recordLength, complete}
+use Rattle.terms.specs.Terms.{recordLength, COMPLETE}
 use Rattle.terms.specs.declared.Plan.{Plan}
 use Rattle.terms.proofs.Facts.{facts}
 use Rattle.frame.specs.Frame.{frameNode}
@@ -116,7 +116,7 @@ only-done-writes p s f d i t d₂ i₂ call =
 -- ---- what is true of every close
 -- "First triple: never written. (It always has COMPLETE replies.)": at least COMPLETE nodes are heard, and all of them gave the first triple
 pub first-triple-complete : (p : Plan) (s : Session) (f d : List ℕ) (item n : ℕ) → WhenNever p s f d item n
-    → (complete p ≤ heardCount (afterReply p s f .marks)) × ((k : ℕ) → k < p .n → bitOf (markOf (afterReply p s f .marks) k) ≡ 1 → markOf (afterReply p s f .marks) k ≡ First)
+    → (COMPLETE p ≤ heardCount (afterReply p s f .marks)) × ((k : ℕ) → k < p .n → bitOf (markOf (afterReply p s f .marks) k) ≡ 1 → markOf (afterReply p s f .marks) k ≡ First)
 first-triple-complete p s f d item n w =
     let t = reading.taken p s f d item (w .closes .accepted) in
     let g = facts p (t .plan) in

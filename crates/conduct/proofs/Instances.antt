@@ -17,7 +17,7 @@ use Rattle.sha256.specs.Sha256.{sha256}
 use Rattle.sha256.proofs.Laws.{sha256-length, whole}
 use Rattle.terms.specs.Ladder.{Rung, on, first, all}
 use Rattle.terms.specs.Stamp.{stamp, time}
-use Rattle.terms.specs.Terms.{planOk, tableOk, columnOf, recordLength}
+use Rattle.terms.specs.Terms.{planOk, countsOk, limitsOk, tableOk, columnOf, recordLength}
 use Rattle.terms.specs.declared.Plan.{Plan}
 use Rattle.terms.specs.declared.Member.the-variants.{Repairable}
 use Rattle.terms.specs.declared.Clients.the-variants.{Byzantine}
@@ -47,7 +47,7 @@ pub plan : Plan
 plan = record { n = 1; t = 0; b = 0; q = 1; m = 1; f = 1; member = Repairable; clients = Byzantine; w = 1 }
 
 accepted-plan : planOk plan ≡ true
-unfolding plan planOk tableOk columnOf all
+unfolding plan planOk countsOk limitsOk tableOk columnOf all
 accepted-plan = refl
 
 r-is : recordLength plan ≡ 73
@@ -341,7 +341,7 @@ pub off-plan : Plan
 off-plan = record { n = 0; t = 0; b = 0; q = 1; m = 1; f = 1; member = Repairable; clients = Byzantine; w = 1 }
 
 off-plan-no : planOk off-plan ≡ false
-unfolding off-plan planOk all
+unfolding off-plan planOk countsOk all
 off-plan-no = refl
 
 abbrev rest-of : List Rung → List Rung

@@ -11,6 +11,7 @@ use lib.ListN.{length}
 use lib.Dec.{ltb, eqb}
 use Rattle.octets.specs.Bytes.{alike, Octets}
 use Rattle.octets.proofs.Meaning.{alike-is}
+use Rattle.terms.specs.Ladder.{None}
 use Rattle.terms.specs.Stamp.{stamp}
 use Rattle.terms.specs.Terms.{recordLength}
 use Rattle.terms.specs.declared.Plan.{Plan}
@@ -105,7 +106,7 @@ module _ (p : Plan) (f b y : List ℕ) (g : goodBook p b ≡ true) (o : Octets b
   call-keeps (Refused r) b₂ y₂ c = same-after p b b₂ g (theorems.refused-is p f b y r b₂ y₂ c .1)
   call-keeps (Replied n) b₂ y₂ c = go (writes f) refl
     where
-      q : rungs.None (nodeLadder p f b y) × (servedOutcome (replied n) b₂ y₂ ≡ answered p f b y)
+      q : None (nodeLadder p f b y) × (servedOutcome (replied n) b₂ y₂ ≡ answered p f b y)
       q = theorems.replied-is p f b y n b₂ y₂ c
 
       go : (t : Bool) → writes f ≡ t → After p b b₂

@@ -7,7 +7,7 @@ use native.Mathlib.Omega.{arith}
 use lib.ListN.{length}
 use borrow.Author.Tests.{not-false}
 use Rattle.octets.specs.Bytes.{over}
-use Rattle.terms.specs.Ladder.{on, first}
+use Rattle.terms.specs.Ladder.{on, first, None, Given}
 use Rattle.terms.specs.Terms.{planOk, recordLength, refusalNumber}
 use Rattle.terms.specs.declared.Plan.{Plan}
 use Rattle.terms.specs.declared.Member.the-variants.{Repairable}
@@ -56,29 +56,29 @@ module _ (p : Plan) (f b y : List ℕ) where
 
   -- A call that answers refusal k changes no byte of the book or the reply buffer; its condition holds, and none before it in the order 1 to 8.
   pub refused-is : (r : Refusal) (b₂ y₂ : List ℕ) → NodeCall p f b y (Refused r) b₂ y₂
-      → rungs.Given (nodeLadder p f b y) (refusalNumber r) × (b₂ ≡ b) × (y₂ ≡ y)
+      → Given (nodeLadder p f b y) (refusalNumber r) × (b₂ ≡ b) × (y₂ ≡ y)
   unfolding served
   refused-is r b₂ y₂ c =
       ladders.by-ladder
-      (λ (o : ServedOutcome). servedOutcome (refused (refusalNumber r)) b₂ y₂ ≡ o → rungs.Given (nodeLadder p f b y) (refusalNumber r) × (b₂ ≡ b) × (y₂ ≡ y))
+      (λ (o : ServedOutcome). servedOutcome (refused (refusalNumber r)) b₂ y₂ ≡ o → Given (nodeLadder p f b y) (refusalNumber r) × (b₂ ≡ b) × (y₂ ≡ y))
       (nodeLadder p f b y) refuse (answered p f b y)
       (λ k g h. let s : refused (refusalNumber r) ≡ refused k = ap (λ (o : ServedOutcome). o .answer) h in
       let n : k ≡ refusalNumber r = cc in
-      (subst (rungs.Given (nodeLadder p f b y)) n g, ap (λ (o : ServedOutcome). o .book) h, ap (λ (o : ServedOutcome). o .reply) h))
+      (subst (Given (nodeLadder p f b y)) n g, ap (λ (o : ServedOutcome). o .book) h, ap (λ (o : ServedOutcome). o .reply) h))
       (λ n h. absurd (subst IsReply (sym (ap (λ (o : ServedOutcome). o .answer) h)) replies-so))
       (c .is)
 
   -- And so it answers wherever its condition holds and none before it.
-  pub is-refused : (r : Refusal) → rungs.Given (nodeLadder p f b y) (refusalNumber r) → NodeCall p f b y (Refused r) b y
+  pub is-refused : (r : Refusal) → Given (nodeLadder p f b y) (refusalNumber r) → NodeCall p f b y (Refused r) b y
   unfolding served
   is-refused r g = record { is = sym (ladders.is-given (nodeLadder p f b y) refuse (answered p f b y) (refusalNumber r) g) }
 
   -- A call that writes a reply meets none of the eight conditions, and does what the document says for its kind.
   pub replied-is : (n : ℕ) (b₂ y₂ : List ℕ) → NodeCall p f b y (Replied n) b₂ y₂
-      → rungs.None (nodeLadder p f b y) × (servedOutcome (replied n) b₂ y₂ ≡ answered p f b y)
+      → None (nodeLadder p f b y) × (servedOutcome (replied n) b₂ y₂ ≡ answered p f b y)
   unfolding served
   replied-is n b₂ y₂ c =
-      ladders.by-ladder (λ (o : ServedOutcome). servedOutcome (replied n) b₂ y₂ ≡ o → rungs.None (nodeLadder p f b y) × (servedOutcome (replied n) b₂ y₂ ≡ answered p f b y))
+      ladders.by-ladder (λ (o : ServedOutcome). servedOutcome (replied n) b₂ y₂ ≡ o → None (nodeLadder p f b y) × (servedOutcome (replied n) b₂ y₂ ≡ answered p f b y))
       (nodeLadder p f b y) refuse (answered p f b y)
       (λ k g h. absurd (let s : replied n ≡ refused k = ap (λ (o : ServedOutcome). o .answer) h in let z : _≡_ {A = ℕ} 0 1 = cc in omega arith))
       (λ m h. (m, h))
@@ -95,7 +95,7 @@ pub record Clear (p : Plan) (f b y : List ℕ) : Type 0 where
   pub other : otherHeld p f b ≡ false
   pub room : noRoom p f b ≡ false
 
-pub clear : (p : Plan) (f b y : List ℕ) → rungs.None (nodeLadder p f b y) → Clear p f b y
+pub clear : (p : Plan) (f b y : List ℕ) → None (nodeLadder p f b y) → Clear p f b y
 clear p f b y n = record {
   plan = not-false _ (n .0);
   lengths = not-false _ (n .1 .0);
@@ -116,19 +116,19 @@ module _ (p : Plan) (node : ℕ) (b : List ℕ) where
   done = freshOutcome made (over (laidOut p node []) b)
 
   pub fresh-refused-is : (r : Refusal) (b₂ : List ℕ) → FreshCall p node b (make.Refused r) b₂
-      → rungs.Given (freshLadder p node b) (refusalNumber r) × (b₂ ≡ b)
+      → Given (freshLadder p node b) (refusalNumber r) × (b₂ ≡ b)
   unfolding freshened
   fresh-refused-is r b₂ c =
       ladders.by-ladder
-      (λ (o : FreshOutcome). freshOutcome (fresh.refused (refusalNumber r)) b₂ ≡ o → rungs.Given (freshLadder p node b) (refusalNumber r) × (b₂ ≡ b))
+      (λ (o : FreshOutcome). freshOutcome (fresh.refused (refusalNumber r)) b₂ ≡ o → Given (freshLadder p node b) (refusalNumber r) × (b₂ ≡ b))
       (freshLadder p node b) refuse-fresh done
       (λ k g h. let s : fresh.refused (refusalNumber r) ≡ fresh.refused k = ap (λ (o : FreshOutcome). o .answer) h in
       let n : k ≡ refusalNumber r = cc in
-      (subst (rungs.Given (freshLadder p node b)) n g, ap (λ (o : FreshOutcome). o .book) h))
+      (subst (Given (freshLadder p node b)) n g, ap (λ (o : FreshOutcome). o .book) h))
       (λ n h. absurd (let s : fresh.refused (refusalNumber r) ≡ made = ap (λ (o : FreshOutcome). o .answer) h in let z : _≡_ {A = ℕ} 0 1 = cc in omega arith))
       (c .is)
 
-  pub fresh-is-refused : (r : Refusal) → rungs.Given (freshLadder p node b) (refusalNumber r) → FreshCall p node b (make.Refused r) b
+  pub fresh-is-refused : (r : Refusal) → Given (freshLadder p node b) (refusalNumber r) → FreshCall p node b (make.Refused r) b
   unfolding freshened
   fresh-is-refused r g = record { is = sym (ladders.is-given (freshLadder p node b) refuse-fresh done (refusalNumber r) g) }
 

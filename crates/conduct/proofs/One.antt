@@ -12,7 +12,7 @@ use lib.ListN.{length, length-drop}
 use lib.Dec.{ltb, eqb, leb}
 use Rattle.octets.specs.Bytes.{alike, over, Octets}
 use Rattle.octets.proofs.Meaning.{is-alike, length-over, over-over}
-use Rattle.terms.specs.Ladder.{Rung, first, all}
+use Rattle.terms.specs.Ladder.{Rung, first, all, None}
 use Rattle.terms.specs.Stamp.{stamp, time}
 use Rattle.terms.specs.Terms.{planOk, recordLength}
 use Rattle.terms.specs.declared.Plan.{Plan}
@@ -34,7 +34,7 @@ use Rattle.conduct.proofs.Node as calls
 use Rattle.terms.proofs.Ladders as ladders
 
 -- ---- ladders
-pub first-stays : (b y : List ℕ) (pass : ServedOutcome) (l : List Rung) → (rungs.None l → pass .book ≡ b)
+pub first-stays : (b y : List ℕ) (pass : ServedOutcome) (l : List Rung) → (None l → pass .book ≡ b)
     → first l (λ (k : ℕ). servedOutcome (refused k) b y) pass .book ≡ b
 first-stays b y pass l h = ladders.by-ladder (λ (o : ServedOutcome). o .book ≡ b) l (λ (k : ℕ). servedOutcome (refused k) b y) pass (λ k g. refl) h
 
@@ -67,7 +67,7 @@ unfolding served
 not-passed p f b y e =
     first-stays b y (answered p f b y) (nodeLadder p f b y) (λ n. answered-book p f b y ∙ nodes.after-other p f b (other n (writes f) refl))
   where
-    other : rungs.None (nodeLadder p f b y) → (t : Bool) → writes f ≡ t → t ≡ false
+    other : None (nodeLadder p f b y) → (t : Bool) → writes f ≡ t → t ≡ false
     other n false w = refl
     other n true w =
         let q = calls.clear p f b y n in
@@ -193,7 +193,7 @@ module _ {p : Plan} {node : ℕ} {old b : List ℕ} {rs : List (List ℕ)} (i : 
             let m : 11 + (length rs + 1) * recordLength p ≤ length old = subst (λ (x : ℕ). 11 + x * recordLength p ≤ length old) l room in
             le-ltb (length old) (11 + length rs * recordLength p + recordLength p) (omega (arith, add-mul (length rs) 1 (recordLength p)))
 
-    none : rungs.None (nodeLadder p f b y)
+    none : None (nodeLadder p f b y)
     none =
         let g : goodRequest p (nodeOf b) f ≡ true = ap (λ (x : ℕ). goodRequest p x f) is-node ∙ q .frame in
         (ap not (i .plan), (ap not (lengths-ok y ry), (ap not is-good, (ap not g, (q .time, (q .hash, (n7, (n8, tt))))))))

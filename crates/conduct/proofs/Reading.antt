@@ -10,16 +10,16 @@ use lib.Dec.{ltb, leb}
 use lib.ListN.{length, length-drop}
 use Rattle.octets.specs.Bytes.{put}
 use Rattle.octets.proofs.Laws.{length-put, slot-room}
-use Rattle.terms.specs.Ladder.{first, _and_}
+use Rattle.terms.specs.Ladder.{first, _and_, None}
 use Rattle.terms.specs.Stamp.{stampAt, stampNumber}
-use Rattle.terms.specs.Terms.{planOk, recordLength, complete, incomplete, decided}
+use Rattle.terms.specs.Terms.{planOk, recordLength, COMPLETE, INCOMPLETE, decided}
 use Rattle.terms.specs.declared.Plan.{Plan}
 use Rattle.terms.specs.declared.Member.{Member}
 use Rattle.terms.specs.declared.Member.the-variants.{Repairable, NonRepair}
 use Rattle.terms.specs.declared.Class.the-variants as class
 use Rattle.terms.specs.declared.Verdict.{Verdict}
 use Rattle.terms.specs.declared.Verdict.the-variants as verdict
-use Rattle.terms.proofs.Rungs.{None, both}
+use Rattle.terms.proofs.Rungs.{both}
 use Rattle.terms.proofs.Facts.{is-complete, is-incomplete, is-unclassifiable, decided-is}
 use Rattle.terms.proofs.Stamps.{stamp-at-number}
 use Rattle.frame.specs.Frame.{frameNode, bodyOf, goodReply}
@@ -125,14 +125,14 @@ module _ (p : Plan) (s : Session) (f d i : List ℕ) where
 
   -- ---- a candidate
   module _ (a : ℕ) (h : Candidate p s f d a) where
-    led : c ≡ closeWith (u .marks) e (p .n) (headLength p) (recordLength p) (p .member) (complete p) (incomplete p) (Node a)
-    led = ap (closeWith (u .marks) e (p .n) (headLength p) (recordLength p) (p .member) (complete p) (incomplete p)) h
+    led : c ≡ closeWith (u .marks) e (p .n) (headLength p) (recordLength p) (p .member) (COMPLETE p) (INCOMPLETE p) (Node a)
+    led = ap (closeWith (u .marks) e (p .n) (headLength p) (recordLength p) (p .member) (COMPLETE p) (INCOMPLETE p)) h
 
     lead-is : c .lead ≡ Node a
     unfolding closeWith
     lead-is = ap (λ (x : Closed). x .lead) led
 
-    verdict-is : c .verdict ≡ decided (p .member) (complete p) (incomplete p) (size p s f d a)
+    verdict-is : c .verdict ≡ decided (p .member) (COMPLETE p) (INCOMPLETE p) (size p s f d a)
     unfolding closeWith
     verdict-is = ap (λ (x : Closed). x .verdict) led
 
@@ -143,23 +143,23 @@ module _ (p : Plan) (s : Session) (f d i : List ℕ) where
     abbrev act : Outcome
     act = acted p u c e i
 
-    pub is-done : decided (p .member) (complete p) (incomplete p) (size p s f d a) ≡ verdict.Complete → valid p s f d a ≡ true
+    pub is-done : decided (p .member) (COMPLETE p) (INCOMPLETE p) (size p s f d a) ≡ verdict.Complete → valid p s f d a ≡ true
         → act ≡ outcome (done (stampNumber (c .stamp)) (s .round)) (endedOf u) e (decoded p c e i)
     is-done v w =
         sym (readers.act-led p u c e i a _ lead-is
         (readers.act-done p u c a e i (c .verdict) (valid p s f d a) (endedOf u) (decoded p c e i) (verdict-is ∙ v) refl w refl refl))
 
-    pub is-mended : decided (p .member) (complete p) (incomplete p) (size p s f d a) ≡ verdict.Repair → valid p s f d a ≡ true
+    pub is-mended : decided (p .member) (COMPLETE p) (INCOMPLETE p) (size p s f d a) ≡ verdict.Repair → valid p s f d a ≡ true
         → act ≡ outcome stillOpen (storingOf u (c .stamp)) (repaired p c a e) i
     is-mended v w =
         sym (readers.act-led p u c e i a _ lead-is
         (readers.act-repair p u c a e i (c .verdict) (valid p s f d a) (storingOf u (c .stamp)) (repaired p c a e) (verdict-is ∙ v) refl w refl refl))
 
-    pub is-aborted : decided (p .member) (complete p) (incomplete p) (size p s f d a) ≡ verdict.Aborted → act ≡ outcome (aborted (s .round)) (endedOf u) e i
+    pub is-aborted : decided (p .member) (COMPLETE p) (INCOMPLETE p) (size p s f d a) ≡ verdict.Aborted → act ≡ outcome (aborted (s .round)) (endedOf u) e i
     is-aborted v = sym (readers.act-led p u c e i a _ lead-is (readers.act-aborted p u c a e i (c .verdict) (endedOf u) (verdict-is ∙ v) refl))
 
     pub is-failing : Fails p (size p s f d a) (valid p s f d a) → act ≡ failing p u (c .stamp) e i
-    is-failing w = go (sorted (p .member) (complete p) (incomplete p) (size p s f d a)) w
+    is-failing w = go (sorted (p .member) (COMPLETE p) (INCOMPLETE p) (size p s f d a)) w
       where
         ill : (v : Verdict) → c .verdict ≡ v → valid p s f d a ≡ false → (v ≡ verdict.Complete) ⊎ (v ≡ verdict.Repair) → act ≡ failing p u (c .stamp) e i
         ill v k n (inl q) =
@@ -167,13 +167,13 @@ module _ (p : Plan) (s : Session) (f d i : List ℕ) where
         ill v k n (inr q) =
             sym (readers.act-led p u c e i a _ lead-is (readers.act-unsound p u c a e i (c .verdict) (valid p s f d a) _ (k ∙ q) refl n refl))
 
-        low : decided (p .member) (complete p) (incomplete p) (size p s f d a) ≡ verdict.Incomplete → act ≡ failing p u (c .stamp) e i
+        low : decided (p .member) (COMPLETE p) (INCOMPLETE p) (size p s f d a) ≡ verdict.Incomplete → act ≡ failing p u (c .stamp) e i
         low v = sym (readers.act-led p u c e i a _ lead-is (readers.act-incomplete p u c a e i (c .verdict) _ (verdict-is ∙ v) refl))
 
         unlike : Repairable ≡ NonRepair → ⊥
         unlike z = let y : _≡_ {A = ℕ} 0 1 = cc in omega arith
 
-        go : Sorted (p .member) (complete p) (incomplete p) (size p s f d a) → Fails p (size p s f d a) (valid p s f d a) → act ≡ failing p u (c .stamp) e i
+        go : Sorted (p .member) (COMPLETE p) (INCOMPLETE p) (size p s f d a) → Fails p (size p s f d a) (valid p s f d a) → act ≡ failing p u (c .stamp) e i
         go (short g h v) w = low v
         go (whole g v) (inl h) = absurd (omega arith)
         go (whole g v) (inr h) = ill _ verdict-is (h .0) (inl v)
@@ -254,8 +254,8 @@ module _ (p : Plan) (s : Session) (f d i : List ℕ) where
       where
         go : (l : Lead) → leadOf (u .marks) e (recordLength p) (p .n) ≡ l → acted p u c e i ≡ outcome (neverWritten (s .round)) (endedOf u) e i
         go Nobody q =
-            let z : c ≡ closeWith (u .marks) e (p .n) (headLength p) (recordLength p) (p .member) (complete p) (incomplete p) Nobody =
-            ap (closeWith (u .marks) e (p .n) (headLength p) (recordLength p) (p .member) (complete p) (incomplete p)) q in
+            let z : c ≡ closeWith (u .marks) e (p .n) (headLength p) (recordLength p) (p .member) (COMPLETE p) (INCOMPLETE p) Nobody =
+            ap (closeWith (u .marks) e (p .n) (headLength p) (recordLength p) (p .member) (COMPLETE p) (INCOMPLETE p)) q in
             let l : c .lead ≡ Nobody = ap (λ (x : Closed). x .lead) z ∙ (unfold closeWith in refl) in
             sym (readers.act-never p u c e i (endedOf u) l refl)
         go (Node a) q =
@@ -280,7 +280,7 @@ module _ (p : Plan) (s : Session) (f d i : List ℕ) where
             let z = leb-false (p .w) (s .round) y in
             subst Gives (sym (goes-on a h w z)) (inr (inl (record { closes = k; node = a; candidate = h; fails = w; more = z })))
 
-        by-size : (a : ℕ) (h : Candidate p s f d a) → Sorted (p .member) (complete p) (incomplete p) (size p s f d a) → (y : Bool) → valid p s f d a ≡ y
+        by-size : (a : ℕ) (h : Candidate p s f d a) → Sorted (p .member) (COMPLETE p) (INCOMPLETE p) (size p s f d a) → (y : Bool) → valid p s f d a ≡ y
             → Gives (acted p u c e i)
         by-size a h (whole x v) true y =
             subst Gives (sym (is-done a h v y))
@@ -298,7 +298,7 @@ module _ (p : Plan) (s : Session) (f d i : List ℕ) where
         go Nobody h =
             let z = no-candidate (u .marks) e (recordLength p) (p .n) h in
             subst Gives (sym (never z)) (record { closes = k; first = z; counted = refl })
-        go (Node a) h = by-size a h (sorted (p .member) (complete p) (incomplete p) (size p s f d a)) (valid p s f d a) refl
+        go (Node a) h = by-size a h (sorted (p .member) (COMPLETE p) (INCOMPLETE p) (size p s f d a)) (valid p s f d a) refl
 
     accepted-gives : Gives (accepted p s f d i)
     accepted-gives = subst Gives is-accepted (go (isStoring (s .stage)) refl)
@@ -342,11 +342,11 @@ module _ (p : Plan) (s : Session) (f d i : List ℕ) where
   so-gives stillOpen (inr (inr g)) =
       let n = g .closes .accepted in
       ap (λ (o : Outcome). o .said) (closes-read n (g .closes .asks) (g .closes .enough)
-      ∙ is-mended (g .node) (g .candidate) (mended-is (p .member) (complete p) (incomplete p) _ (g .high) (g .low) (g .member)) (g .validated))
+      ∙ is-mended (g .node) (g .candidate) (mended-is (p .member) (COMPLETE p) (INCOMPLETE p) _ (g .high) (g .low) (g .member)) (g .validated))
   so-gives (done stamp rounds) (inl g) =
       let n = g .closes .accepted in
       ap (λ (o : Outcome). o .said) (closes-read n (g .closes .asks) (g .closes .enough)
-      ∙ is-done (g .node) (g .candidate) (whole-is (p .member) (complete p) (incomplete p) _ (g .full)) (g .validated))
+      ∙ is-done (g .node) (g .candidate) (whole-is (p .member) (COMPLETE p) (INCOMPLETE p) _ (g .full)) (g .validated))
       ∙ (λ k. done ((stamp-of n (g .node) (g .candidate) ∙ sym (g .of)) k) (sym (g .counted) k))
   so-gives (done stamp rounds) (inr g) =
       ap (λ (o : Outcome). o .said) (ends-repair (g .accepted) (g .stores) (g .enough)) ∙ (λ k. done (sym (g .of) k) (sym (g .counted) k))
@@ -356,7 +356,7 @@ module _ (p : Plan) (s : Session) (f d i : List ℕ) where
   so-gives (aborted rounds) g =
       let n = g .closes .accepted in
       ap (λ (o : Outcome). o .said) (closes-read n (g .closes .asks) (g .closes .enough)
-      ∙ is-aborted (g .node) (g .candidate) (unsure-is (p .member) (complete p) (incomplete p) _ (g .high) (g .low) (g .member))) ∙ ap aborted (sym (g .counted))
+      ∙ is-aborted (g .node) (g .candidate) (unsure-is (p .member) (COMPLETE p) (INCOMPLETE p) _ (g .high) (g .low) (g .member))) ∙ ap aborted (sym (g .counted))
   so-gives (roundsSpent rounds) g =
       let n = g .closes .accepted in
       ap (λ (o : Outcome). o .said) (closes-read n (g .closes .asks) (g .closes .enough) ∙ spends n (g .node) (g .candidate) (g .fails) (g .last))

@@ -7,11 +7,11 @@ use Prim.Native.Nat.{ℕ}
 use borrow.Author.Tests.{not-false}
 use lib.Dec.{ltb}
 use lib.ListN.{length}
-use Rattle.terms.specs.Ladder.{_and_}
+use Rattle.terms.specs.Ladder.{_and_, None}
 use Rattle.terms.specs.Terms.{planOk}
 use Rattle.terms.specs.Stamp.{stamp}
 use Rattle.terms.specs.declared.Plan.{Plan}
-use Rattle.terms.proofs.Rungs.{None, both, clash}
+use Rattle.terms.proofs.Rungs.{both, clash}
 use Rattle.frame.specs.Frame.{frameNode, bodyOf, goodReply}
 use Rattle.record.specs.Record.{hashesOk, timeZero}
 use Rattle.rounds.specs.Rounds.{heardCount, underOf}

@@ -15,12 +15,11 @@ use mathlib.Core.List.{List}
 use mathlib.Core.Logic.{_⊎_}
 use lib.ListN.{length}
 use Rattle.octets.specs.Bytes.{put}
-use Rattle.terms.specs.Ladder.{Rung}
+use Rattle.terms.specs.Ladder.{Rung, None, Given}
 use Rattle.terms.specs.Stamp.{time, stampNumber, top}
-use Rattle.terms.specs.Terms.{recordLength, complete, incomplete}
+use Rattle.terms.specs.Terms.{recordLength, COMPLETE, INCOMPLETE}
 use Rattle.terms.specs.declared.Plan.{Plan}
 use Rattle.terms.specs.declared.Member.the-variants.{Repairable, NonRepair}
-use Rattle.terms.proofs.Rungs.{None, Given}
 use Rattle.frame.specs.Frame.{frameNode, bodyOf}
 use Rattle.rounds.specs.declared.Heard.{Heard}
 use Rattle.rounds.specs.declared.Heard.the-variants.{First, Record}
@@ -68,7 +67,7 @@ valid p s f d a = sound p (closed p (afterReply p s f) (deskAfter p f d)) a (des
 
 -- "Incomplete, or validation failed": only a complete set, and an unclassifiable one of a repairable member, is validated
 abbrev pub Fails : Plan → ℕ → Bool → Type 0
-Fails p n v = (n < incomplete p) ⊎ ((v ≡ false) × ((complete p ≤ n) ⊎ ((incomplete p ≤ n) × (p .member ≡ Repairable))))
+Fails p n v = (n < INCOMPLETE p) ⊎ ((v ≡ false) × ((COMPLETE p ≤ n) ⊎ ((INCOMPLETE p ≤ n) × (p .member ≡ Repairable))))
 
 -- "First triple: never written": no node is marked record
 pub record WhenNever (p : Plan) (s : Session) (f d : List ℕ) (item rounds : ℕ) : Type 0 where
@@ -81,8 +80,8 @@ pub record WhenAborted (p : Plan) (s : Session) (f d : List ℕ) (item rounds : 
   pub closes : Closes p s f d item
   pub node : ℕ
   pub candidate : Candidate p s f d node
-  pub low : incomplete p ≤ size p s f d node
-  pub high : size p s f d node < complete p
+  pub low : INCOMPLETE p ≤ size p s f d node
+  pub high : size p s f d node < COMPLETE p
   pub member : p .member ≡ NonRepair
   pub counted : rounds ≡ s .round
 
@@ -100,7 +99,7 @@ pub record DoneByRead (p : Plan) (s : Session) (f d : List ℕ) (item stamp roun
   pub closes : Closes p s f d item
   pub node : ℕ
   pub candidate : Candidate p s f d node
-  pub full : complete p ≤ size p s f d node
+  pub full : COMPLETE p ≤ size p s f d node
   pub validated : valid p s f d node ≡ true
   pub of : stamp ≡ slotStamp (deskAfter p f d) (recordLength p) node
   pub counted : rounds ≡ s .round
@@ -131,8 +130,8 @@ pub record RepairOpens (p : Plan) (s : Session) (f d : List ℕ) (item : ℕ) : 
   pub closes : Closes p s f d item
   pub node : ℕ
   pub candidate : Candidate p s f d node
-  pub low : incomplete p ≤ size p s f d node
-  pub high : size p s f d node < complete p
+  pub low : INCOMPLETE p ≤ size p s f d node
+  pub high : size p s f d node < COMPLETE p
   pub member : p .member ≡ Repairable
   pub validated : valid p s f d node ≡ true
 

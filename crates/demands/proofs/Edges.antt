@@ -8,7 +8,7 @@ use lib.Dec.{leb}
 use borrow.Author.Tests.{le-leb}
 use Rattle.fragments.proofs.Examples.{product-57-83, product-57-13, column-00-80, column-57-57}
 use Rattle.terms.specs.Ladder.{first, all}
-use Rattle.terms.specs.Terms.{planOk, tableOk, columnOf, complete, incomplete, classOf, decided}
+use Rattle.terms.specs.Terms.{planOk, countsOk, limitsOk, tableOk, columnOf, COMPLETE, INCOMPLETE, classOf, decided}
 use Rattle.terms.specs.declared.Plan.{Plan}
 use Rattle.terms.specs.declared.Member.{Member}
 use Rattle.terms.specs.declared.Member.the-variants.{Repairable, NonRepair}
@@ -29,7 +29,7 @@ sheetOk s =
 
 -- with F and W in range, they decide
 in-range : (s : Sheet) → Every s (λ (p : Plan). planOk p ≡ sheetOk s)
-unfolding planOk tableOk sheetOk all
+unfolding planOk countsOk limitsOk tableOk sheetOk all
 in-range s F W c f₁ f₂ w₁ w₂ = rw (le-leb 1 F f₁, le-leb F 1024 f₂, le-leb 1 W w₁, le-leb W 65535 w₂)
 
 accepts : (s : Sheet) → sheetOk s ≡ true → Every s (λ (p : Plan). planOk p ≡ true)
@@ -59,11 +59,11 @@ too-many true false rest = refl
 too-many true true rest = refl
 
 exclude-all : (k : Member) (n t b q m : ℕ) → leb b t ≡ false → Every (sheet k n t b q m) RefusedOne
-unfolding planOk
+unfolding planOk countsOk
 exclude-all k n t b q m e F W c f₁ f₂ w₁ w₂ = refused-one (planWith (sheet k n t b q m) F W c) (rw e (too-many (leb 1 n) (leb n 16) _))
 
 certain-all : (s : Sheet) → sheetOk s ≡ true → s .t ≡ 0
-    → Every s (λ (p : Plan). (size : ℕ) → classOf (complete p) (incomplete p) size ≡ Unclassifiable → ⊥)
+    → Every s (λ (p : Plan). (size : ℕ) → classOf (COMPLETE p) (INCOMPLETE p) size ≡ Unclassifiable → ⊥)
 certain-all s e z F W c f₁ f₂ w₁ w₂ = none-unclassifiable (planWith s F W c) (accepts s e F W c f₁ f₂ w₁ w₂) z
 
 -- EVERY STARRED CASE OF DOCUMENT 01'S TABLE HOLDS

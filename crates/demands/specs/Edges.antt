@@ -12,7 +12,7 @@ use mathlib.Core.Bool.{true, false}
 use mathlib.Core.List.{List, [], _∷_}
 use Rattle.field.specs.Field.{mul}
 use Rattle.fragments.specs.Fragments.{All, fragment, from}
-use Rattle.terms.specs.Terms.{planOk, complete, incomplete, classOf, decided}
+use Rattle.terms.specs.Terms.{planOk, COMPLETE, INCOMPLETE, classOf, decided}
 use Rattle.terms.specs.declared.Plan.{Plan}
 use Rattle.terms.specs.declared.Member.{Member}
 use Rattle.terms.specs.declared.Member.the-variants.{Repairable, NonRepair}
@@ -120,8 +120,8 @@ abbrev pub CaseHolds : Case → Type 0
 CaseHolds (accept s) = Every s (λ (p : Plan). planOk p ≡ true)
 CaseHolds (refuse s) = Every s RefusedOne
 CaseHolds (exclude t b) = (k : Member) (n q m : ℕ) → Every (sheet k n t b q m) RefusedOne
-CaseHolds (certain s) = Every s (λ (p : Plan). (size : ℕ) → classOf (complete p) (incomplete p) size ≡ Unclassifiable → ⊥)
-CaseHolds (decide s size v) = Every s (λ (p : Plan). decided (p .member) (complete p) (incomplete p) size ≡ v)
+CaseHolds (certain s) = Every s (λ (p : Plan). (size : ℕ) → classOf (COMPLETE p) (INCOMPLETE p) size ≡ Unclassifiable → ⊥)
+CaseHolds (decide s size v) = Every s (λ (p : Plan). decided (p .member) (COMPLETE p) (INCOMPLETE p) size ≡ v)
 CaseHolds (multiply x y product) = mul x y ≡ product
 CaseHolds (column x y k byte) = fragment 2 1 (x ∷ y ∷ []) k ≡ byte ∷ []
 CaseHolds (constant x y byte) = All (λ (k : ℕ). fragment 2 1 (x ∷ y ∷ []) k ≡ byte ∷ []) (from 0 16)

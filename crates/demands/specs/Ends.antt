@@ -3,8 +3,7 @@
 -- Assumes nothing.
 use Prim.Native.Nat.{ℕ}
 use mathlib.Core.List.{List}
-use Rattle.terms.specs.Ladder.{Rung}
-use Rattle.terms.proofs.Rungs.{None, Given}
+use Rattle.terms.specs.Ladder.{Rung, None, Given}
 
 pub data Ends (l : List Rung) (R : ℕ → Type 0) (A : Type 0) : Type 0 where
   refuses : (k : ℕ) → Given l k → R k → Ends l R A

@@ -15,7 +15,7 @@ use Rattle.octets.specs.Bytes.{part, num, be, Octets}
 use Rattle.octets.proofs.Laws.{length-be, part-all}
 use Rattle.octets.proofs.Meaning.{num-be, be-part, part-add}
 use Rattle.terms.specs.Ladder.{all}
-use Rattle.terms.specs.Terms.{planOk}
+use Rattle.terms.specs.Terms.{planOk, countsOk}
 use Rattle.terms.specs.Stamp.{stampNumber, stampAt}
 use Rattle.terms.specs.declared.Plan.{Plan}
 use Rattle.terms.specs.declared.Member.{Member}
@@ -180,7 +180,7 @@ plan-again x o e =
 
 -- bytes that code none are outside the rules
 pub no-plan : (x : List ℕ) → planShaped x ≡ false → planOk (planOf x) ≡ false
-unfolding planOf planOk all
+unfolding planOf planOk countsOk all
 no-plan x e = rw e
 
 -- every accepted plan is coded by its bytes

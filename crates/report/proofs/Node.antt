@@ -19,7 +19,7 @@ use Rattle.octets.proofs.Laws.{length-part}
 use Rattle.octets.proofs.Meaning.{octets-part, octets-drop}
 use Rattle.terms.proofs.Rungs as rungs
 use Rattle.terms.proofs.Rungs.{both, clash}
-use Rattle.terms.specs.Ladder.{_and_}
+use Rattle.terms.specs.Ladder.{_and_, None}
 use Rattle.terms.specs.Stamp.{stamp, time}
 use Rattle.terms.specs.Terms.{planOk, recordLength}
 use Rattle.terms.specs.declared.Plan.{Plan}
@@ -135,7 +135,7 @@ module _ (p : Plan) (f b y : List ℕ) (ob : Octets b) (of : Octets f) where
       ∙ rw (eq-eqb (kindOf f) 3 k)
 
   module _ (n : ℕ) (b₂ y₂ : List ℕ) (c : NodeCall p f b y (Replied n) b₂ y₂) where
-    told : rungs.None (nodeLadder p f b y) × (servedOutcome (replied n) b₂ y₂ ≡ answered p f b y)
+    told : None (nodeLadder p f b y) × (servedOutcome (replied n) b₂ y₂ ≡ answered p f b y)
     told = calls.replied-is p f b y n b₂ y₂ c
 
     clear : calls.Clear p f b y

@@ -4,11 +4,11 @@ use Prim.Native.Nat.{ℕ, _≤_, _<_}
 use mathlib.Core.Path.{_≡_, sym}
 use mathlib.Core.Bool.{true}
 use native.Mathlib.Omega.{arith}
-use Rattle.terms.specs.Terms.{planOk, tableOk, complete, incomplete}
+use Rattle.terms.specs.Terms.{planOk, COMPLETE, INCOMPLETE}
 use Rattle.terms.specs.declared.Plan.{Plan}
 use Rattle.terms.specs.declared.Member.{Member}
 use Rattle.terms.specs.declared.Member.the-variants.{Repairable, NonRepair}
-use Rattle.terms.proofs.Plans.{Column, column-back, plan-is, plan-last}
+use Rattle.terms.proofs.Plans.{Column, column-back, plan-is, plan-back}
 use Rattle.terms.proofs.Facts.{facts}
 use Rattle.report.specs.Table2.{Table2, surely-complete, surely-incomplete}
 
@@ -45,17 +45,25 @@ accepted-is p e =
 
 -- AND EVERY SUCH PLAN IS ACCEPTED
 pub accepted-back : (p : Plan) → Ranges p → Table2-of p → planOk p ≡ true
-unfolding tableOk
 accepted-back p r c =
-    sym (plan-last p true (r .n-low) (r .n-high) (r .b-t) (r .f-low) (r .f-high) (r .w-low) (r .w-high)
-    (sym (column-back (p .member) (p .n) (p .t) (p .b) (p .q) (p .m) (column (p .member) (p .n) (p .t) (p .b) (p .q) (p .m) c))))
+    plan-back p
+    (record {
+      n-low = r .n-low;
+      n-high = r .n-high;
+      b-t = r .b-t;
+      f-low = r .f-low;
+      f-high = r .f-high;
+      w-low = r .w-low;
+      w-high = r .w-high;
+      column = column (p .member) (p .n) (p .t) (p .b) (p .q) (p .m) c;
+    })
 
 -- EQUATION (2): a candidate set of COMPLETE or more has |CandidateSet| - b ≥ Q, and no other has
 pub equation-2 : (p : Plan) → planOk p ≡ true → (size : ℕ)
-    → (complete p ≤ size → surely-complete (p .q) (p .b) size) × (surely-complete (p .q) (p .b) size → complete p ≤ size)
+    → (COMPLETE p ≤ size → surely-complete (p .q) (p .b) size) × (surely-complete (p .q) (p .b) size → COMPLETE p ≤ size)
 equation-2 p e size = let f = facts p e in ((λ h. omega arith), (λ h. omega arith))
 
 -- EQUATION (3): one below INCOMPLETE has |CandidateSet| + t < Q, and no other has
 pub equation-3 : (p : Plan) → planOk p ≡ true → (size : ℕ)
-    → (size < incomplete p → surely-incomplete (p .q) (p .t) size) × (surely-incomplete (p .q) (p .t) size → size < incomplete p)
+    → (size < INCOMPLETE p → surely-incomplete (p .q) (p .t) size) × (surely-incomplete (p .q) (p .t) size → size < INCOMPLETE p)
 equation-3 p e size = let f = facts p e in ((λ h. omega arith), (λ h. omega arith))

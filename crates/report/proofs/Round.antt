@@ -13,7 +13,7 @@ use Rattle.octets.specs.Bytes.{part, num, alike, Octets}
 use Rattle.octets.proofs.Laws.{part-part, slot-room, length-part, part-first, part-last}
 use Rattle.sha256.specs.Sha256.{sha256}
 use Rattle.terms.specs.Stamp.{stamp, time, stampAt, stampNumber}
-use Rattle.terms.specs.Terms.{planOk, recordLength, complete, incomplete, classOf, verdictOf, unsure, decided}
+use Rattle.terms.specs.Terms.{planOk, recordLength, COMPLETE, INCOMPLETE, classOf, verdictOf, unsure, decided}
 use Rattle.terms.specs.declared.Plan.{Plan}
 use Rattle.terms.specs.declared.Member.{Member}
 use Rattle.terms.specs.declared.Member.the-variants.{Repairable, NonRepair}
@@ -78,7 +78,7 @@ module _ (p : Plan) (s : Session) (d i : List ℕ) (u : Full p s d i) where
   set = responses p (s .marks) d (p .n)
 
   abbrev close : Lead → Closed
-  close l = closeWith (s .marks) d (p .n) (headLength p) (recordLength p) (p .member) (complete p) (incomplete p) l
+  close l = closeWith (s .marks) d (p .n) (headLength p) (recordLength p) (p .member) (COMPLETE p) (INCOMPLETE p) l
 
   -- ---- the first triple
   module _ (e : leadOf (s .marks) d (recordLength p) (p .n) ≡ Nobody) where
@@ -90,7 +90,7 @@ module _ (p : Plan) (s : Session) (d i : List ℕ) (u : Full p s d i) where
     unfolding CandidateSet
     all-are = rw zero-is (all-first p (s .marks) d (p .n) (no-candidate (s .marks) d (recordLength p) (p .n) e))
 
-    big : complete p ≤ length set
+    big : COMPLETE p ≤ length set
     big =
         let f = facts p (u .plan) in
         omega (arith, size-is p (s .marks) d (u .rest), u .enough)
@@ -108,7 +108,7 @@ module _ (p : Plan) (s : Session) (d i : List ℕ) (u : Full p s d i) where
 
     first-decides : LOOP (family p) set ≡ returned 0 null
     unfolding decodedFrom
-    first-decides = loop-is p set set 0 zero-is all-are ∙ rw (le-leb (complete p) (length set) big, valid-so, first-so)
+    first-decides = loop-is p set set 0 zero-is all-are ∙ rw (le-leb (COMPLETE p) (length set) big, valid-so, first-so)
 
     first-round : Decides p s d i (acted p s (close Nobody) d i) (LOOP (family p) set)
     unfolding closeWith actFor
@@ -341,8 +341,8 @@ module _ (p : Plan) (s : Session) (d i : List ℕ) (u : Full p s d i) where
     abbrev chosen : Decision
     chosen = choose (family p) cs T
 
-    verdict-is : (x : Class) → x ≡ classOf (complete p) (incomplete p) size → verdictOf (p .member) x ≡ decided (p .member) (complete p) (incomplete p) size
-    verdict-is x c = decided-is (p .member) (p .member) (complete p) (incomplete p) size x x c refl refl
+    verdict-is : (x : Class) → x ≡ classOf (COMPLETE p) (INCOMPLETE p) size → verdictOf (p .member) x ≡ decided (p .member) (COMPLETE p) (INCOMPLETE p) size
+    verdict-is x c = decided-is (p .member) (p .member) (COMPLETE p) (INCOMPLETE p) size x x c refl refl
 
     unsure-goal : (m : Member) → (m ≡ Repairable → p .m ≤ size) → Goal (unsure m)
         (cond (repairable m) (cond valid (repaired (repairs (family p) cs T) T (decodedFrom p (repairs (family p) cs T))) (reading (READ-PREVIOUS T))) ABORT)
@@ -350,32 +350,32 @@ module _ (p : Plan) (s : Session) (d i : List ℕ) (u : Full p s d i) where
     unsure-goal Repairable z = half (z refl)
     unsure-goal NonRepair z = refl
 
-    by-size : Goal (decided (p .member) (complete p) (incomplete p) size) chosen
-    by-size = rw (length-each (bearing p d) Z) (go (leb (complete p) size) refl (leb (incomplete p) size) refl)
+    by-size : Goal (decided (p .member) (COMPLETE p) (INCOMPLETE p) size) chosen
+    by-size = rw (length-each (bearing p d) Z) (go (leb (COMPLETE p) size) refl (leb (INCOMPLETE p) size) refl)
       where
-        go : (t : Bool) → leb (complete p) size ≡ t → (v : Bool) → leb (incomplete p) size ≡ v
-            → Goal (decided (p .member) (complete p) (incomplete p) size)
+        go : (t : Bool) → leb (COMPLETE p) size ≡ t → (v : Bool) → leb (INCOMPLETE p) size ≡ v
+            → Goal (decided (p .member) (COMPLETE p) (INCOMPLETE p) size)
             (cond t (cond valid (returned T (decodedFrom p cs)) (reading (READ-PREVIOUS T)))
             (cond v (cond (repairable (p .member)) (cond valid (repaired (repairs (family p) cs T) T (decodedFrom p (repairs (family p) cs T))) (reading (READ-PREVIOUS T))) ABORT)
             (reading (READ-PREVIOUS T))))
         go true c v b =
             let f = facts p (u .plan) in
-            let l = leb-true (complete p) size c in
+            let l = leb-true (COMPLETE p) size c in
             subst (λ (x : Verdict). Goal x (cond valid (returned T (decodedFrom p cs)) (reading (READ-PREVIOUS T))))
-            (verdict-is class.Complete (is-complete (complete p) (incomplete p) size l)) (whole (omega arith))
+            (verdict-is class.Complete (is-complete (COMPLETE p) (INCOMPLETE p) size l)) (whole (omega arith))
         go false c true b =
             let f = facts p (u .plan) in
-            let l = leb-true (incomplete p) size b in
+            let l = leb-true (INCOMPLETE p) size b in
             subst (λ (x : Verdict). Goal x (cond (repairable (p .member)) (cond valid (repaired (repairs (family p) cs T) T (decodedFrom p (repairs (family p) cs T))) (reading (READ-PREVIOUS T))) ABORT))
-            (verdict-is class.Unclassifiable (is-unclassifiable (complete p) (incomplete p) size (leb-false (complete p) size c) l)) (unsure-goal (p .member) (λ q. omega (arith, f .low-decodes q, l)))
+            (verdict-is class.Unclassifiable (is-unclassifiable (COMPLETE p) (INCOMPLETE p) size (leb-false (COMPLETE p) size c) l)) (unsure-goal (p .member) (λ q. omega (arith, f .low-decodes q, l)))
         go false c false b =
             subst (λ (x : Verdict). Goal x (reading (READ-PREVIOUS T)))
-            (verdict-is class.Incomplete (is-incomplete (complete p) (incomplete p) size (leb-false (complete p) size c) (leb-false (incomplete p) size b)))
+            (verdict-is class.Incomplete (is-incomplete (COMPLETE p) (INCOMPLETE p) size (leb-false (COMPLETE p) size c) (leb-false (INCOMPLETE p) size b)))
             (unfold actOn closeWith in fails)
 
     led-round : Decides p s d i (acted p s (close (Node a)) d i) (LOOP (family p) set)
     unfolding closeWith actFor
-    led-round = subst (Decides p s d i (act (decided (p .member) (complete p) (incomplete p) size))) (sym (loop-is p set cs T stamp-cand set-cand)) by-size
+    led-round = subst (Decides p s d i (act (decided (p .member) (COMPLETE p) (INCOMPLETE p) size))) (sym (loop-is p set cs T stamp-cand set-cand)) by-size
 
   -- WHAT A CLOSED READ ROUND COMES TO IS WHAT FIGURE 3 DECIDES OF ITS RESPONSE SET
   pub round-decides : Decides p s d i (acted p s (closed p s d) d i) (LOOP (family p) set)

@@ -14,12 +14,12 @@ use lib.ListN.{length, set, length-set}
 use Rattle.octets.specs.Bytes.{part, put, Octets}
 use Rattle.octets.proofs.Laws.{length-put, slot-fits}
 use Rattle.octets.proofs.Meaning.{octets-drop, octets-put}
-use Rattle.terms.specs.Ladder.{first, _and_}
+use Rattle.terms.specs.Ladder.{first, _and_, None}
 use Rattle.terms.specs.Stamp.{stamp, time, stampNumber}
 use Rattle.terms.specs.Terms.{planOk, recordLength}
 use Rattle.terms.specs.declared.Plan.{Plan}
 use Rattle.terms.specs.declared.Ask.{Ask}
-use Rattle.terms.proofs.Rungs.{None, both, clash}
+use Rattle.terms.proofs.Rungs.{both, clash}
 use Rattle.terms.proofs.Plans.{plan-is}
 use Rattle.terms.proofs.Facts.{facts}
 use Rattle.fragments.specs.Fragments.{from, regenerated, Sources}

@@ -13,11 +13,11 @@ use Rattle.octets.specs.Bytes.{part, num, be}
 use Rattle.octets.proofs.Laws.{length-be, part-all, part-middle}
 use Rattle.sha256.specs.Sha256.{sha256}
 use Rattle.sha256.proofs.Laws.{sha256-length}
-use Rattle.terms.specs.Ladder.{first, _and_}
+use Rattle.terms.specs.Ladder.{first, _and_, None}
 use Rattle.terms.specs.Stamp.{stamp, time, stampNumber, top}
 use Rattle.terms.specs.declared.Plan.{Plan}
 use Rattle.terms.specs.declared.Ask.{Ask}
-use Rattle.terms.proofs.Rungs.{None, both, clash}
+use Rattle.terms.proofs.Rungs.{both, clash}
 use Rattle.terms.proofs.Plans.{plan-is}
 use Rattle.terms.proofs.Stamps.{stamp-at-number}
 use Rattle.fragments.specs.Fragments.{fragment}

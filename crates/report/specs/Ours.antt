@@ -15,7 +15,7 @@ use Rattle.octets.specs.Bytes.{num, be}
 use Rattle.sha256.specs.Sha256.{sha256}
 use Rattle.fragments.specs.Fragments.{among, tabulate, value, fragment}
 use Rattle.terms.specs.Stamp.{stamp, stampNumber}
-use Rattle.terms.specs.Terms.{complete, incomplete}
+use Rattle.terms.specs.Terms.{COMPLETE, INCOMPLETE}
 use Rattle.terms.specs.declared.Plan.{Plan}
 use Rattle.terms.specs.declared.Member.{Member}
 use Rattle.terms.specs.declared.Member.the-variants.{Repairable, NonRepair}
@@ -77,8 +77,8 @@ family p =
     record {
       N = p .n;
       t = p .t;
-      COMPLETE = complete p;
-      INCOMPLETE = incomplete p;
+      COMPLETE = COMPLETE p;
+      INCOMPLETE = INCOMPLETE p;
       Repair = isRepairable (p .member);
       ByzantineClients = lies (p .clients);
       HASH = sha256;

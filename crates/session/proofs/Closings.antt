@@ -18,7 +18,7 @@ use lib.ListN.{length, take}
 use lib.Seq.{length-take-le}
 use Rattle.octets.specs.Bytes.{part}
 use Rattle.octets.proofs.Meaning.{alike-is}
-use Rattle.terms.specs.Terms.{planOk, recordLength, complete, incomplete, decided}
+use Rattle.terms.specs.Terms.{planOk, recordLength, COMPLETE, INCOMPLETE, decided}
 use Rattle.terms.specs.Stamp.{stampAt, stampNumber}
 use Rattle.terms.specs.declared.Plan.{Plan}
 use Rattle.terms.specs.declared.Verdict.{Verdict}
@@ -52,10 +52,10 @@ module _ (p : Plan) (s : Session) (d : List ℕ) (a : ℕ) where
     pub stamp-is : closed p s d .stamp ≡ stampAt d (a * recordLength p)
     pub nodes-are : closed p s d .nodes ≡ setOf (s .marks) d (recordLength p) (headLength p) a (p .n)
     pub verdict-is : closed p s d .verdict
-        ≡ decided (p .member) (complete p) (incomplete p) (length (setOf (s .marks) d (recordLength p) (headLength p) a (p .n)))
+        ≡ decided (p .member) (COMPLETE p) (INCOMPLETE p) (length (setOf (s .marks) d (recordLength p) (headLength p) a (p .n)))
 
   abbrev close-by : Lead → Closed
-  close-by x = closeWith (s .marks) d (p .n) (headLength p) (recordLength p) (p .member) (complete p) (incomplete p) x
+  close-by x = closeWith (s .marks) d (p .n) (headLength p) (recordLength p) (p .member) (COMPLETE p) (INCOMPLETE p) x
 
   lead-is : (x : Lead) → close-by x .lead ≡ x
   unfolding closeWith
@@ -90,12 +90,12 @@ module _ (p : Plan) (s : Session) (d : List ℕ) (a : ℕ) where
 
     pub sized : planOk p ≡ true → closed p s d .verdict ≡ Repair → p .m ≤ length (closed p s d .nodes)
     sized ok v =
-        let g = decided-repair (p .member) (complete p) (incomplete p) (length (setOf (s .marks) d (recordLength p) (headLength p) a (p .n))) (sym (k .verdict-is) ∙ v) in
+        let g = decided-repair (p .member) (COMPLETE p) (INCOMPLETE p) (length (setOf (s .marks) d (recordLength p) (headLength p) a (p .n))) (sym (k .verdict-is) ∙ v) in
         omega (arith, g .0, facts p ok .low-decodes (g .1), size-is)
 
     pub sized-whole : planOk p ≡ true → closed p s d .verdict ≡ Complete → p .m ≤ length (closed p s d .nodes)
     sized-whole ok v =
-        let g = decided-complete (p .member) (complete p) (incomplete p) (length (setOf (s .marks) d (recordLength p) (headLength p) a (p .n))) (sym (k .verdict-is) ∙ v) in
+        let g = decided-complete (p .member) (COMPLETE p) (INCOMPLETE p) (length (setOf (s .marks) d (recordLength p) (headLength p) a (p .n))) (sym (k .verdict-is) ∙ v) in
         omega (arith, g, facts p ok .high-decodes, size-is)
 
     pub nodes-below : All (λ (q : ℕ). q < p .n) (closed p s d .nodes)

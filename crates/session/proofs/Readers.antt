@@ -10,16 +10,16 @@ use lib.ListN.{length, getD, take}
 use lib.Seq.{length-take-le, take-take, getD-take}
 use Rattle.octets.specs.Bytes.{part, put}
 use Rattle.octets.proofs.Laws.{slot-room}
-use Rattle.terms.specs.Ladder.{first}
+use Rattle.terms.specs.Ladder.{first, None}
 use Rattle.terms.specs.declared.Refusal.{Refusal}
-use Rattle.terms.specs.Terms.{planOk, recordLength, complete, incomplete, refusalNumber}
+use Rattle.terms.specs.Terms.{planOk, recordLength, COMPLETE, INCOMPLETE, refusalNumber}
 use Rattle.terms.specs.Stamp.{stamp, stampNumber}
 use Rattle.terms.specs.declared.Plan.{Plan}
 use Rattle.terms.specs.declared.Timestamp.{Timestamp}
 use Rattle.terms.specs.declared.Clients.the-variants.{Crash, Byzantine}
 use Rattle.terms.specs.declared.Verdict.{Verdict}
 use Rattle.terms.specs.declared.Verdict.the-variants.{Complete, Repair, Aborted, Incomplete}
-use Rattle.terms.proofs.Rungs.{None, both}
+use Rattle.terms.proofs.Rungs.{both}
 use Rattle.terms.proofs.Plans.{PlanIs, plan-is}
 use Rattle.terms.proofs.Facts.{facts}
 use Rattle.fragments.specs.Fragments.{from, laid, Sources}
@@ -282,11 +282,11 @@ module _ (p : Plan) (s : Session) (f d i : List ℕ) (k : Check) (e : checkNumbe
 pub desk-sum : (p : Plan) (d : List ℕ) → length d ≡ p .n * recordLength p → length d ≡ p .n * (40 + 32 * p .n + p .f)
 desk-sum p d l = l ∙ rw (record-length p)
 
-pub closed-is : (p : Plan) (s : Session) (d : List ℕ) (x : Closed) (high low : ℕ) → high ≡ complete p → low ≡ incomplete p
+pub closed-is : (p : Plan) (s : Session) (d : List ℕ) (x : Closed) (high low : ℕ) → high ≡ COMPLETE p → low ≡ INCOMPLETE p
     → x ≡ closeOf (s .marks) d (p .n) (40 + 32 * p .n) (40 + 32 * p .n + p .f) (p .member) high low → x ≡ closed p s d
 closed-is p s d x high low e f q =
     q ∙ ap₂ (λ (a b : ℕ). closeOf (s .marks) d (p .n) (40 + 32 * p .n) (40 + 32 * p .n + p .f) (p .member) a b) e f
-    ∙ ap (λ (r : ℕ). closeOf (s .marks) d (p .n) (headLength p) r (p .member) (complete p) (incomplete p)) (sym (record-length p))
+    ∙ ap (λ (r : ℕ). closeOf (s .marks) d (p .n) (headLength p) r (p .member) (COMPLETE p) (INCOMPLETE p)) (sym (record-length p))
 
 -- ---- rungs 5, 6, 12
 module _ (p : Plan) (s : Session) (f : List ℕ) (x : Bool) (b : x ≡ bears p f) where

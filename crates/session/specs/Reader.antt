@@ -19,7 +19,7 @@ use lib.ListN.{length, getD, take}
 use lib.Dec.{ltb, leb}
 use Rattle.octets.specs.Bytes.{put}
 use Rattle.terms.specs.Ladder.{first}
-use Rattle.terms.specs.Terms.{planOk, recordLength, complete, incomplete}
+use Rattle.terms.specs.Terms.{planOk, recordLength, COMPLETE, INCOMPLETE}
 use Rattle.terms.specs.Stamp.{stampNumber}
 use Rattle.terms.specs.declared.Plan.{Plan}
 use Rattle.terms.specs.declared.Timestamp.{Timestamp}
@@ -96,7 +96,7 @@ abbrev pub acted : Plan → Session → Closed → List ℕ → List ℕ → Out
 acted p s c d i = actFor (c .lead) p s c d i
 
 abbrev pub closed : Plan → Session → List ℕ → Closed
-closed p s d = closeOf (s .marks) d (p .n) (headLength p) (recordLength p) (p .member) (complete p) (incomplete p)
+closed p s d = closeOf (s .marks) d (p .n) (headLength p) (recordLength p) (p .member) (COMPLETE p) (INCOMPLETE p)
 
 unfoldable pub settled : Plan → Session → List ℕ → List ℕ → Outcome
 settled p s d i = cond (ltb (heardCount (s .marks)) (replies p)) (outcome stillOpen s d i) (acted p s (closed p s d) d i)

@@ -20,7 +20,7 @@ use lib.Dec.{eqb}
 use Rattle.octets.specs.Bytes.{part, put, over, alike}
 use Rattle.octets.proofs.Laws.{length-part, part-all, part-put-same}
 use Rattle.octets.proofs.Meaning.{is-alike}
-use Rattle.terms.specs.Ladder.{first}
+use Rattle.terms.specs.Ladder.{first, None}
 use Rattle.terms.specs.Terms.{refusalNumber}
 use Rattle.terms.specs.declared.Plan.{Plan}
 use Rattle.terms.specs.declared.Refusal.{Refusal}
@@ -41,7 +41,7 @@ use Rattle.step.specs.declared.Due.the-variants as due
 use Rattle.step.specs.Step.{asksToWrite, answerOf, lengthOf, Looked, Stepped, dueAfter}
 
 module _ (p : Plan) (f b y : List ℕ) where
-  by-verdict : (P : ServedOutcome → Type 0) → ((k : ℕ) → P (servedOutcome (refused k) b y)) → (rungs.None (nodeLadder p f b y) → P (answered p f b y)) → P (served p f b y)
+  by-verdict : (P : ServedOutcome → Type 0) → ((k : ℕ) → P (servedOutcome (refused k) b y)) → (None (nodeLadder p f b y) → P (answered p f b y)) → P (served p f b y)
   unfolding served
   by-verdict P r a =
       subst P (sym (rungs.first-read (nodeLadder p f b y) (λ (k : ℕ). servedOutcome (refused k) b y) (answered p f b y)))

@@ -5,7 +5,7 @@ use Prim.Native.Nat.{ℕ, _+_, _-_, _≤_, _<_}
 use native.Mathlib.Omega.{arith}
 use lib.Dec.{leb}
 use borrow.Author.Tests.{lt-ltb, le-ltb, lt-leb, le-leb, leb-true, leb-false}
-use Rattle.terms.specs.Terms.{planOk, complete, incomplete, classOf, verdictOf, decided}
+use Rattle.terms.specs.Terms.{planOk, COMPLETE, INCOMPLETE, classOf, verdictOf, decided}
 use Rattle.terms.specs.declared.Plan.{Plan}
 use Rattle.terms.specs.declared.Member.{Member}
 use Rattle.terms.specs.declared.Member.the-variants.{Repairable, NonRepair}
@@ -75,8 +75,8 @@ module _ (high low size : ℕ) where
   is-unclassifiable h k = rw (lt-leb high size h, le-ltb size low k)
 
 -- the first triple is the candidate only where all N-t replies say so: it always has COMPLETE replies
-pub replies-complete : (p : Plan) → planOk p ≡ true → (size : ℕ) → p .n - p .t ≤ size → classOf (complete p) (incomplete p) size ≡ class.Complete
-replies-complete p e size h = let f = facts p e in sym (is-complete (complete p) (incomplete p) size (omega arith))
+pub replies-complete : (p : Plan) → planOk p ≡ true → (size : ℕ) → p .n - p .t ≤ size → classOf (COMPLETE p) (INCOMPLETE p) size ≡ class.Complete
+replies-complete p e size h = let f = facts p e in sym (is-complete (COMPLETE p) (INCOMPLETE p) size (omega arith))
 
 -- ---- no size is unclassifiable exactly when t = 0
 unclassifiable-is : (high low size : ℕ) → classOf high low size ≡ class.Unclassifiable → (size < high) × (low ≤ size)
@@ -91,21 +91,21 @@ unclassifiable-is high low size e = go (leb high size) (leb low size) refl refl
         absurd (omega arith)
 
 module _ (p : Plan) (ok : planOk p ≡ true) where
-  pub none-unclassifiable : p .t ≡ 0 → (size : ℕ) → classOf (complete p) (incomplete p) size ≡ class.Unclassifiable → ⊥
+  pub none-unclassifiable : p .t ≡ 0 → (size : ℕ) → classOf (COMPLETE p) (INCOMPLETE p) size ≡ class.Unclassifiable → ⊥
   none-unclassifiable z size e =
       let f = facts p ok in
       let b = plan-is p ok .b-t in
-      let u = unclassifiable-is (complete p) (incomplete p) size e in
+      let u = unclassifiable-is (COMPLETE p) (INCOMPLETE p) size e in
       omega arith
 
-  pub unclassifiable-none : ((size : ℕ) → classOf (complete p) (incomplete p) size ≡ class.Unclassifiable → ⊥) → p .t ≡ 0
+  pub unclassifiable-none : ((size : ℕ) → classOf (COMPLETE p) (INCOMPLETE p) size ≡ class.Unclassifiable → ⊥) → p .t ≡ 0
   unclassifiable-none h = go (leb 1 (p .t)) refl
     where
       go : (s : Bool) → leb 1 (p .t) ≡ s → p .t ≡ 0
       go true f =
           let t = leb-true 1 (p .t) f in
           let g = facts p ok in
-          absurd (h (incomplete p) (sym (is-unclassifiable (complete p) (incomplete p) (incomplete p) (omega arith) (omega arith))))
+          absurd (h (INCOMPLETE p) (sym (is-unclassifiable (COMPLETE p) (INCOMPLETE p) (INCOMPLETE p) (omega arith) (omega arith))))
       go false f = let t = leb-false 1 (p .t) f in omega arith
 
 -- ---- the verdict, by a class that was found and a member that a match told

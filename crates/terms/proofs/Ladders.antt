@@ -4,8 +4,7 @@ use Prim.Native.Nat.{ℕ}
 use mathlib.Core.Path.{_≡_, refl, ap, _∙_}
 use mathlib.Core.Bool.{Bool, true, false, cond}
 use mathlib.Core.List.{List, [], _∷_, _++_}
-use Rattle.terms.specs.Ladder.{Rung, on, first}
-use Rattle.terms.proofs.Rungs.{None, Given}
+use Rattle.terms.specs.Ladder.{Rung, on, first, None, Given}
 
 -- What holds of each refusal where it is given, and of the pass where none applies, holds of the outcome.
 pub by-ladder : {A : Type 0} (P : A → Type 0) (l : List Rung) (refuse : ℕ → A) (pass : A) → ((k : ℕ) → Given l k → P (refuse k)) → (None l → P pass)

@@ -1,12 +1,12 @@
 -- What an accepted plan is. Assumes nothing.
 use mathlib.Core.Path.{_≡_, refl, sym, _∙_}
-use mathlib.Core.Bool.{Bool, true, false, cond}
+use mathlib.Core.Bool.{Bool, true, false, cond, not}
 use Prim.Native.Nat.{ℕ, _+_, _-_, _*_, _≤_, _<_}
 use native.Mathlib.Omega.{arith}
 use lib.Dec.{leb}
-use borrow.Author.Tests.{le-leb, lt-leb, leb-true, leb-false}
+use borrow.Author.Tests.{not-true, not-false, le-leb, lt-leb, leb-true, leb-false}
 use Rattle.terms.specs.Ladder.{all}
-use Rattle.terms.specs.Terms.{planOk, tableOk, columnOf}
+use Rattle.terms.specs.Terms.{planOk, countsOk, limitsOk, tableOk, columnOf}
 use Rattle.terms.specs.declared.Plan.{Plan}
 use Rattle.terms.specs.declared.Member.{Member}
 use Rattle.terms.specs.declared.Member.the-variants.{Repairable, NonRepair}
@@ -48,7 +48,13 @@ column-back Repairable n t b q m h =
 column-back NonRepair n t b q m h =
     rw (le-leb (t + b + 1) q (omega arith), le-leb q (n - 2 * t - 2 * b) (omega arith), le-leb 1 m (omega arith), le-leb m (q + b) (omega arith))
 
--- the document's facts of every accepted plan
+-- the document's facts of every accepted plan: on N, t, b, Q and m, and on F and W
+pub record CountsAre (p : Plan) : Type 0 where
+  pub n-low : 1 ≤ p .n
+  pub n-high : p .n ≤ 16
+  pub b-t : p .b ≤ p .t
+  pub column : Column (p .member) (p .n) (p .t) (p .b) (p .q) (p .m)
+
 pub record PlanIs (p : Plan) : Type 0 where
   pub n-low : 1 ≤ p .n
   pub n-high : p .n ≤ 16
@@ -59,27 +65,39 @@ pub record PlanIs (p : Plan) : Type 0 where
   pub w-high : p .w ≤ 65535
   pub column : Column (p .member) (p .n) (p .t) (p .b) (p .q) (p .m)
 
-pub plan-is : (p : Plan) → planOk p ≡ true → PlanIs p
-unfolding planOk tableOk all
-plan-is p e =
+pub counts-are : (p : Plan) → countsOk p ≡ true → CountsAre p
+unfolding countsOk tableOk all
+counts-are p e =
     let e1 = both (leb 1 (p .n)) _ e in
     let e2 = both (leb (p .n) 16) _ (e1 .1) in
     let e3 = both (leb (p .b) (p .t)) _ (e2 .1) in
-    let e4 = both (leb 1 (p .f)) _ (e3 .1) in
+    let e4 = both (tableOk p) _ (e3 .1) in
+    record { n-low = leb-true _ _ (e1 .0); n-high = leb-true _ _ (e2 .0); b-t = leb-true _ _ (e3 .0); column = column-is _ _ _ _ _ _ (e4 .0) }
+
+pub plan-is : (p : Plan) → planOk p ≡ true → PlanIs p
+unfolding planOk limitsOk all
+plan-is p e =
+    let e0 = both (countsOk p) _ e in
+    let c = counts-are p (e0 .0) in
+    let e4 = both (leb 1 (p .f)) _ (e0 .1) in
     let e5 = both (leb (p .f) 1024) _ (e4 .1) in
     let e6 = both (leb 1 (p .w)) _ (e5 .1) in
     let e7 = both (leb (p .w) 65535) _ (e6 .1) in
-    let e8 = both (tableOk p) _ (e7 .1) in
     record {
-      n-low = leb-true _ _ (e1 .0);
-      n-high = leb-true _ _ (e2 .0);
-      b-t = leb-true _ _ (e3 .0);
+      n-low = c .n-low;
+      n-high = c .n-high;
+      b-t = c .b-t;
       f-low = leb-true _ _ (e4 .0);
       f-high = leb-true _ _ (e5 .0);
       w-low = leb-true _ _ (e6 .0);
       w-high = leb-true _ _ (e7 .0);
-      column = column-is _ _ _ _ _ _ (e8 .0);
+      column = c .column;
     }
+
+pub plan-back : (p : Plan) → PlanIs p → planOk p ≡ true
+unfolding planOk countsOk limitsOk tableOk all
+plan-back p q =
+    rw (le-leb 1 (p .n) (q .n-low), le-leb (p .n) 16 (q .n-high), le-leb (p .b) (p .t) (q .b-t), column-back _ _ _ _ _ _ (q .column), le-leb 1 (p .f) (q .f-low), le-leb (p .f) 1024 (q .f-high), le-leb 1 (p .w) (q .w-low), le-leb (p .w) 65535 (q .w-high))
 
 pub not-ok : (t : Bool) → (t ≡ true → ⊥) → false ≡ t
 not-ok true h = absurd (h refl)
@@ -95,20 +113,35 @@ column-small : (k : Member) (n t b q m : ℕ) → n ≤ 16 → Column k n t b q 
 column-small Repairable n t b q m h c = (omega arith, omega arith, omega arith)
 column-small NonRepair n t b q m h c = (omega arith, omega arith, omega arith)
 
-pub small : (p : Plan) → planOk p ≡ true → Small p
-small p e =
-    let q = plan-is p e in
+counts-small : (p : Plan) → CountsAre p → Small p
+counts-small p q =
     let s = column-small (p .member) (p .n) (p .t) (p .b) (p .q) (p .m) (q .n-high) (q .column) in
     record { t-small = s .0; q-small = s .1; m-small = s .2 }
 
+pub small : (p : Plan) → planOk p ≡ true → Small p
+unfolding planOk
+small p e = counts-small p (counts-are p (both (countsOk p) _ e .0))
+
 -- the last rule decides
-pub plan-last : (p : Plan) (r : Bool) → 1 ≤ p .n → p .n ≤ 16 → p .b ≤ p .t → 1 ≤ p .f → p .f ≤ 1024 → 1 ≤ p .w → p .w ≤ 65535 → r ≡ tableOk p → r ≡ planOk p
-unfolding planOk all
-plan-last p r a b c d e f g h =
-    rw (le-leb 1 (p .n) a, le-leb (p .n) 16 b, le-leb (p .b) (p .t) c, le-leb 1 (p .f) d, le-leb (p .f) 1024 e, le-leb 1 (p .w) f, le-leb (p .w) 65535 g)
+pub counts-last : (p : Plan) (r : Bool) → 1 ≤ p .n → p .n ≤ 16 → p .b ≤ p .t → r ≡ tableOk p → r ≡ countsOk p
+unfolding countsOk all
+counts-last p r a b c h =
+    rw (le-leb 1 (p .n) a, le-leb (p .n) 16 b, le-leb (p .b) (p .t) c)
     (h ∙ itself (tableOk p))
 
+pub limits-last : (p : Plan) → 1 ≤ p .f → p .f ≤ 1024 → 1 ≤ p .w → leb (p .w) 65535 ≡ limitsOk p
+unfolding limitsOk all
+limits-last p d e f = rw (le-leb 1 (p .f) d, le-leb (p .f) 1024 e, le-leb 1 (p .w) f) (itself (leb (p .w) 65535))
+
 -- ---- the turns of the code
+pub plan-counts : (p : Plan) (x : Bool) → x ≡ countsOk p → not x ≡ true → false ≡ planOk p
+unfolding planOk
+plan-counts p x e t = rw (← e, not-true x t)
+
+pub plan-limits : (p : Plan) (x r : Bool) → x ≡ countsOk p → not x ≡ false → r ≡ limitsOk p → r ≡ planOk p
+unfolding planOk
+plan-limits p x r e t f = f ∙ rw (← e, not-false x t)
+
 leb-same : (a b c d : ℕ) → (a ≤ b → c ≤ d) → (c ≤ d → a ≤ b) → leb a b ≡ cond (leb c d) true false
 leb-same a b c d f g = go (leb c d) refl
   where
@@ -145,8 +178,17 @@ module _ (p : Plan) (low : p .t + p .b + 1 ≤ p .q) (one : 1 ≤ p .m) where
       rw (e, le-leb (p .t + p .b + 1) (p .q) low, le-leb (p .q) (p .n - 2 * p .t - 2 * p .b) (omega arith), le-leb 1 (p .m) one)
       (leb-same (p .m) (p .q + p .b) (p .m) (p .q + p .b) (λ k. k) (λ k. k))
 
-pub plan-no : (p : Plan) → (PlanIs p → Small p → ⊥) → false ≡ planOk p
-plan-no p h = not-ok _ (λ e. h (plan-is p e) (small p e))
+pub counts-no : (p : Plan) → (CountsAre p → Small p → ⊥) → false ≡ countsOk p
+counts-no p h = not-ok _ (λ e. h (counts-are p e) (counts-small p (counts-are p e)))
+
+pub limits-no : (p : Plan) → ((1 ≤ p .f) × (p .f ≤ 1024) × (1 ≤ p .w) → ⊥) → false ≡ limitsOk p
+unfolding limitsOk all
+limits-no p h =
+    not-ok _ (λ e.
+    let e4 = both (leb 1 (p .f)) _ e in
+    let e5 = both (leb (p .f) 1024) _ (e4 .1) in
+    let e6 = both (leb 1 (p .w)) _ (e5 .1) in
+    h (leb-true _ _ (e4 .0), leb-true _ _ (e5 .0), leb-true _ _ (e6 .0)))
 
 -- a sum held against a number, and what is left of the number
 pub leb-moved : (a w most : ℕ) → w ≤ most → leb a (most - w) ≡ leb (a + w) most

@@ -1,12 +1,12 @@
 -- Laws of ladders. Assumes nothing.
 use mathlib.Core.Path.{_≡_, refl, sym, ap, _∙_}
 use mathlib.Core.Bool.{Bool, true, false, cond}
-use mathlib.Core.List.{List, [], _∷_, _++_}
+use mathlib.Core.List.{List, [], _∷_}
 use Prim.Native.Nat.{ℕ}
-use Prim.{Unit, tt}
+use Prim.{tt}
 use native.Mathlib.Omega.{arith}
 use lib.Dec.{eqb}
-use Rattle.terms.specs.Ladder.{Rung, on, first}
+use Rattle.terms.specs.Ladder.{Rung, on, first, None}
 use Rattle.terms.specs.Terms.{refusalNumber}
 use Rattle.terms.specs.declared.Refusal.{Refusal}
 use Rattle.terms.specs.declared.Refusal.the-variants.{OutsidePlan, WrongLength, WrongBook, WrongFrame, TimeZero, HashFails, OtherBytes, NoRoom, OutOfRange, NotAwaited, AlreadyHeard, NotBelow, AskTooHigh, HasEnded}
@@ -33,18 +33,6 @@ module _ {A : Type 0} where
   passed refuse pass {z} p = p
 
 -- ---- the law of a ladder
--- none of these applies
-abbrev pub None : List Rung → Type 0
-None [] = Unit {0}
-None (x ∷ xs) = (x .applies ≡ false) × None xs
-
--- a refusal of number k stands in the list, its condition holds, and none before it
-pub record Given (l : List Rung) (k : ℕ) : Type 0 where
-  pub before : List Rung
-  pub after : List Rung
-  pub is : l ≡ before ++ (on k true ∷ after)
-  pub none : None before
-
 -- what a ladder came to
 pub data Came : Type 0 where
   refused : ℕ → Came

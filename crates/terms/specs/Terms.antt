@@ -1,8 +1,9 @@
 -- The plan, its two thresholds and what they decide. Document 01, "The plan", "Reading", "Refusal numbers"; the report's Table 2.
---   columnOf tableOk planOk   the rules of a plan: the column of its member, and the ranges
---   recordLength              R
+--   columnOf tableOk countsOk the rules on N, t, b, Q, m and the member: the column of the member in the table, and N's range
+--   limitsOk planOk           those on F and W; and all the rules of a plan
+--   recordLength slotsOf      R; the slots of a desk
 --   openingOk                 the opening ask number leaves room for W more: 13 at opening
---   complete incomplete       the two thresholds of a plan
+--   COMPLETE INCOMPLETE       the two thresholds of a plan
 --   classOf                   the class of a candidate set of a size, by two thresholds
 --   unsure verdictOf decided  what a read decides by: the class and the member
 --   refusalNumber             the document's number of a refusal
@@ -11,9 +12,10 @@ use Prim.Native.Nat.{ℕ, _+_, _-_, _*_}
 use mathlib.Core.Bool.{Bool, true, false, cond}
 use mathlib.Core.List.{List, [], _∷_}
 use lib.Dec.{ltb, leb}
-use Rattle.terms.specs.Ladder.{all}
+use Rattle.terms.specs.Ladder.{all, _and_}
 use Rattle.terms.specs.Stamp.{top}
 use Rattle.terms.specs.declared.Plan.{Plan}
+use Rattle.terms.specs.declared.Slots.{Slots}
 use Rattle.terms.specs.declared.Member.{Member}
 use Rattle.terms.specs.declared.Member.the-variants.{Repairable, NonRepair}
 use Rattle.terms.specs.declared.Class.{Class}
@@ -31,25 +33,36 @@ columnOf NonRepair n t b q m = leb (t + b + 1) q ∷ leb q (n - 2 * t - 2 * b) �
 unfoldable pub tableOk : Plan → Bool
 tableOk p = all (columnOf (p .member) (p .n) (p .t) (p .b) (p .q) (p .m))
 
--- N 1 to 16; b ≤ t; F 1 to 1,024; W 1 to 65,535; and the table
-unfoldable pub planOk : Plan → Bool
-planOk p =
-    all (leb 1 (p .n) ∷ leb (p .n) 16 ∷ leb (p .b) (p .t) ∷ leb 1 (p .f) ∷ leb (p .f) 1024 ∷ leb 1 (p .w) ∷ leb (p .w) 65535 ∷ tableOk p ∷ [])
+-- N 1 to 16; b and t from 0 with b ≤ t; and the table
+unfoldable pub countsOk : Plan → Bool
+countsOk p = all (leb 1 (p .n) ∷ leb (p .n) 16 ∷ leb (p .b) (p .t) ∷ tableOk p ∷ [])
 
--- R
+-- F 1 to 1,024; W 1 to 65,535
+unfoldable pub limitsOk : Plan → Bool
+limitsOk p = all (leb 1 (p .f) ∷ leb (p .f) 1024 ∷ leb 1 (p .w) ∷ leb (p .w) 65535 ∷ [])
+
+unfoldable pub planOk : Plan → Bool
+planOk p = countsOk p and limitsOk p
+
+-- ---- a record, and where the records of a desk lie
+-- R: timestamp 40, cross checksum 32·N, fragment F
 unfoldable pub recordLength : Plan → ℕ
 recordLength p = 40 + 32 * p .n + p .f
+
+-- a desk is N slots of R bytes, each a head of timestamp and cross checksum, and then a fragment
+abbrev pub slotsOf : Plan → Slots
+slotsOf p = record { n = p .n; head = 40 + 32 * p .n; fragment = p .f; size = recordLength p }
 
 -- opening ask number plus W at most 2^64-1
 abbrev pub openingOk : Plan → ℕ → Bool
 openingOk p a = leb (a + p .w) top
 
 -- COMPLETE = Q+b and INCOMPLETE = Q-t
-abbrev pub complete : Plan → ℕ
-complete p = p .q + p .b
+abbrev pub COMPLETE : Plan → ℕ
+COMPLETE p = p .q + p .b
 
-abbrev pub incomplete : Plan → ℕ
-incomplete p = p .q - p .t
+abbrev pub INCOMPLETE : Plan → ℕ
+INCOMPLETE p = p .q - p .t
 
 -- ---- a candidate set, by two thresholds
 -- of COMPLETE or more: complete; below INCOMPLETE: incomplete; any other: unclassifiable

@@ -1,5 +1,3 @@
-use Prim.Native.Nat.{_-_}
-use native.Mathlib.Omega.{arith}
 use Rattle.terms.proofs.Plans as laws
 use borrow.Author.Needs.{needs}
 use Rattle.terms.proofs.plan_ok.Statement.{statement}
@@ -9,15 +7,7 @@ pub plan-ok-spec : {M : Type 1} → statement M
 plan-ok-spec =
     tie.close
     (tie.spec
-    (λ c. laws.plan-no _ (λ h s. omega arith))
-    (λ c. laws.plan-no _ (λ h s. omega arith))
-    (λ c. laws.plan-no _ (λ h s. omega arith))
-    (λ c. laws.plan-no _ (λ h s. omega arith))
-    (λ c. laws.plan-no _ (λ h s. omega arith))
-    (λ c. laws.plan-no _ (λ h s. omega arith))
-    (λ c. laws.plan-no _ (λ h s. omega arith))
-    (λ c. laws.plan-no _ (λ h s. omega arith))
-    (λ c. laws.plan-no _ (λ h s. omega arith))
-    (λ c. laws.plan-no _ (λ h s. omega arith))
     (λ c κs. search needs)
-    (λ c. laws.plan-last _ _ (omega arith) (omega arith) (omega arith) (omega arith) (omega arith) (omega arith) (omega arith) (c .table-ok .ensures)))
+    (λ c. laws.plan-counts _ _ (c .before .counts-ok .ensures) (c .if1 .taken))
+    (λ c κs. search needs)
+    (λ c. laws.plan-limits _ _ _ (c .before .before .counts-ok .ensures) (c .before .if1 .left) (c .limits-ok .ensures)))

@@ -7,7 +7,7 @@
 --   comes-back written-comes-back   an encoded block comes back from any m of its N fragments; so does what our writer writes
 -- The figures are in report/specs, with (01) beside what document 01 adds or closes. That the hash and the field are those of the papers is
 -- said by the contracts of `digest`, `product` and `quotient`, over sha256/specs and field/specs. Each refusal exactly: Demand1, with
--- is-refused, fresh-is-refused, opening-refuses, owed-refuses, so-write and so-read of conduct. Assumes nothing.
+-- is-refused, fresh-is-refused, opening-refuses, owed-refuses, so-write and so-read of client. Assumes nothing.
 use Prim.Native.Nat.{ℕ, _+_, _*_, _≤_, _<_}
 use mathlib.Core.Path.{_≡_}
 use mathlib.Core.Bool.{true}
@@ -31,10 +31,10 @@ use Rattle.session.specs.declared.Operation.the-variants.{Write, Read}
 use Rattle.session.specs.Opening.{OpenCall}
 use Rattle.session.specs.Reader.{headLength}
 use Rattle.session.specs.Writer.{recordsFor}
-use Rattle.conduct.specs.History.{Call, History, lastBook}
-use Rattle.conduct.specs.Turns.{Turn}
+use Rattle.store.specs.History.{Call, History, lastBook}
+use Rattle.client.specs.Turns.{Turn}
 use Rattle.report.specs.Triple.{Same}
-use Rattle.conduct.proofs.ComesBack.{block-comes-back}
+use Rattle.client.proofs.ComesBack.{block-comes-back}
 use Rattle.report.specs.Figure1.{INITIALIZE, RECEIVE-TIME-REQUEST, RECEIVE-READ-LATEST, RECEIVE-READ-PREVIOUS}
 use Rattle.report.specs.Ours.{history, timeIn}
 use Rattle.report.specs.Run.{OfPlan, received, ReadCalls, AllApart, AllClose, closedOver, EachTells}
@@ -94,7 +94,7 @@ pub comes-back : (m F : ℕ) (item : List ℕ) → m ≤ 256 → Octets item →
 comes-back = any-m-of-n
 
 -- The N records that our writer makes of an item at a time, in its desk, give the item to our reader's decoding from any m of its N slots.
--- For a reply that is answered done: read-comes-back and repair-comes-back of conduct.
+-- For a reply that is answered done: read-comes-back and repair-comes-back of client.
 pub written-comes-back : (p : Plan) (time : ℕ) (item : List ℕ) → planOk p ≡ true → Octets item → length item ≡ p .m * p .f → (out : List ℕ)
     → length out ≡ p .m * p .f → (nodes : List ℕ) → Distinct nodes → All (λ (z : ℕ). z < p .n) nodes → length nodes ≡ p .m
     → laid (recordsFor p time item) (headLength p) (recordLength p) (p .f) nodes 0 (p .f) (p .m) out ≡ item

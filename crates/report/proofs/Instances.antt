@@ -43,13 +43,13 @@ use Rattle.node.specs.Node as node
 use Rattle.node.specs.Node.{NodeCall, served, answered, sends, replyTo, replied, timeFails, hashFails, otherHeld, noRoom}
 use Rattle.node.specs.declared.Made.the-variants.{Fresh}
 use Rattle.node.specs.Fresh.{FreshCall, freshened}
-use Rattle.conduct.specs.History.{Call}
-use Rattle.conduct.proofs.Node as theorems
+use Rattle.store.specs.History.{Call}
+use Rattle.store.proofs.Node as theorems
 use Rattle.report.specs.Triple.{Message, Same}
 use Rattle.report.specs.Figure1.{INITIALIZE}
 use Rattle.report.specs.Ours.{history, bearing, responseOf, responses}
-use Rattle.conduct.specs.Turns as turns
-use Rattle.conduct.proofs.Instances.{small, small-octets}
+use Rattle.client.specs.Turns as turns
+use Rattle.store.proofs.Instances.{small, small-octets}
 use Rattle.report.specs.Run.{received, ReadCalls, closing, closedOver, EachTells, AllClose, Apart, AllApart}
 use Rattle.report.specs.WriteRun.{WriteCalls, untimed, EachWrites}
 use Rattle.report.proofs.Node.{Executes, write-acts, Added, fresh-run}

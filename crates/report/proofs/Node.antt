@@ -24,6 +24,7 @@ use Rattle.terms.specs.Stamp.{stamp, time}
 use Rattle.terms.specs.Terms.{planOk, recordLength}
 use Rattle.terms.specs.declared.Plan.{Plan}
 use Rattle.terms.specs.declared.Refusal.{Refusal}
+use Rattle.terms.proofs.Small.{strict}
 use Rattle.frame.specs.Frame.{kindOf, frameNode, askOf, bodyOf, frame, goodRequest}
 use Rattle.frame.proofs.Frames.{request-is}
 use Rattle.record.specs.Record.{hashesOk, timeZero}
@@ -39,12 +40,12 @@ use Rattle.node.specs.declared.Made.the-variants.{Fresh}
 use Rattle.node.specs.Fresh.{FreshCall, FreshOutcome, freshOutcome, made, freshened, freshLadder}
 use Rattle.node.specs.Fresh as fresh
 use Rattle.node.proofs.Laws as nodes
-use Rattle.conduct.specs.Deliver.{Among}
-use Rattle.conduct.specs.History.{Call, History, lastBook}
-use Rattle.conduct.proofs.Order as order
-use Rattle.conduct.proofs.One as one
-use Rattle.conduct.proofs.Node as calls
-use Rattle.conduct.proofs.Kept as keeps
+use Rattle.store.specs.Deliver.{Among}
+use Rattle.store.specs.History.{Call, History, lastBook}
+use Rattle.store.proofs.Order as order
+use Rattle.store.proofs.One as one
+use Rattle.store.proofs.Node as calls
+use Rattle.store.proofs.Kept as keeps
 use Rattle.terms.proofs.Ladders as ladders
 use Rattle.report.specs.Triple.{Triple, each, In, Same}
 use Rattle.report.specs.Figure1.{initial, INITIALIZE, RECEIVE-TIME-REQUEST, VALIDATE, with-it, Written, RECEIVE-WRITE-REQUEST, RECEIVE-READ-LATEST, RECEIVE-READ-PREVIOUS}
@@ -192,7 +193,7 @@ module _ (p : Plan) (f b y : List ℕ) (ob : Octets b) (of : Octets f) where
         low : 1 ≤ time (bodyOf f)
         low =
             let z : eqb (time (bodyOf f)) 0 ≡ false = rw k at (clear .time) in
-            order.strict 0 (time (bodyOf f)) (omega arith) (λ e. eqb-false (time (bodyOf f)) 0 z (sym e))
+            strict 0 (time (bodyOf f)) (omega arith) (λ e. eqb-false (time (bodyOf f)) 0 z (sym e))
 
     -- RECEIVE_WRITE_REQUEST
     pub write-acts : kindOf f ≡ 3 → Executes p f b y b₂ y₂

@@ -55,7 +55,7 @@ use Rattle.report.specs.Figure3.{READ-LATEST, READ-PREVIOUS, Decision, r
 use Rattle.report.specs.Ours.{family, responses, sending, commandOf}
 use Rattle.report.specs.Decides.{Decides}
 use Rattle.report.specs.Run as run
-use Rattle.conduct.specs.Turns as turns
+use Rattle.client.specs.Turns as turns
 use Rattle.report.specs.Run.{closedBy, closing, closedOver, Tells, Repairing, EachTells, Gathers, AllClose, AllApart}
 use Rattle.report.proofs.Lists.{strung-same}
 use Rattle.report.proofs.Sets.{size-is}

@@ -1,5 +1,5 @@
--- The hypotheses of the theorems on whole runs can be met by a read of two rounds and a repair, and by a write that is done: those of conduct's
--- ReadInstance.antt and WriteInstance.antt, call by call from their openings. Instances.antt has runs of one call.
+-- The hypotheses of the theorems on whole runs can be met by a read of two rounds and a repair, and by a write that is done: those of client's
+-- Instances/Read.antt and Instances/Write.antt, call by call from their openings. Instances.antt has runs of one call.
 --   read-repairs-so    READ, of round 1, of both rounds and of the repair; each closed set is what DO_READ gathered for the command to be sent
 --   write-done-so      WRITE, up to done
 -- Assumes nothing.
@@ -25,11 +25,11 @@ use Rattle.session.specs.declared.Operation.the-variants.{Read}
 use Rattle.session.specs.Session.{askNow, kindAwaited}
 use Rattle.session.specs.Ranges.{standingRules, openRules, inRange}
 use Rattle.session.specs.Reply.{lengthsOk, awaited, isHeard, bears, replyLadder, recordLadder}
-use Rattle.conduct.specs.Turns.{Turn}
-use Rattle.conduct.proofs.Instances.{small, small-octets}
-use Rattle.conduct.proofs.ReadInstance as reads
-use Rattle.conduct.proofs.ReadInstance.{plan, ask, hash, poor, stamp-bytes, good, desk, desk-poor, desk-good, desk-full, desk-long}
-use Rattle.conduct.proofs.WriteInstance as writes
+use Rattle.client.specs.Turns.{Turn}
+use Rattle.store.proofs.Instances.{small, small-octets}
+use Rattle.client.proofs.Instances.Read as reads
+use Rattle.client.proofs.Instances.Read.{plan, ask, hash, poor, stamp-bytes, good, desk, desk-poor, desk-good, desk-full, desk-long}
+use Rattle.client.proofs.Instances.Write as writes
 use Rattle.report.specs.Triple.{Message}
 use Rattle.report.specs.Figure1.{initial}
 use Rattle.report.specs.Ours.{bearing, responseOf, responses}

@@ -48,7 +48,7 @@ use Rattle.session.proofs.Writers.{record-is, Taking, taking}
 use Rattle.report.specs.Triple.{Triple, Message, larger, MAX}
 use Rattle.report.specs.Figure2.{READ-TIMESTAMP, MAKE-CROSS-CHECKSUM, MAKE-TIMESTAMP, DO-WRITE, ts-written, WRITE}
 use Rattle.report.specs.Ours.{family, stampedAs, bearing, sending}
-use Rattle.conduct.specs.Turns as turns
+use Rattle.client.specs.Turns as turns
 use Rattle.report.specs.WriteRun.{WriteCalls, Timed, untimed, timing, Wrote, Sending, EachWrites}
 use Rattle.report.proofs.Lists.{strung-row, listed-same}
 

@@ -32,8 +32,8 @@ use Rattle.session.specs.Reader.{ReadReplyCall}
 use Rattle.node.specs.declared.Answer.{Answer}
 use Rattle.node.specs.declared.Answer.the-variants.{Refused, Replied}
 use Rattle.node.specs.Node.{writes}
-use Rattle.conduct.specs.History.{Call}
-use Rattle.conduct.specs.Turns.{Turn}
+use Rattle.store.specs.History.{Call}
+use Rattle.client.specs.Turns.{Turn}
 use Rattle.report.specs.Triple.{Triple, Message, null, In, Same}
 use Rattle.report.specs.Figure1.{RECEIVE-WRITE-REQUEST}
 use Rattle.report.specs.Figure2.{enough}

@@ -25,7 +25,7 @@ use Rattle.session.specs.Writer.{WriteReplyCall}
 use Rattle.report.specs.Triple.{null, MAX}
 use Rattle.report.specs.Figure2.{enough, ts-written, WRITE}
 use Rattle.report.specs.Ours.{family, sending}
-use Rattle.conduct.specs.Turns.{Turn}
+use Rattle.client.specs.Turns.{Turn}
 
 -- each call met its contract; a frame is bytes
 abbrev pub WriteCalls : Plan → Session → List ℕ → List Turn → Type 0

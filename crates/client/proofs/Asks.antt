@@ -23,6 +23,7 @@ use Rattle.terms.specs.Terms.{planOk, recordLength}
 use Rattle.terms.specs.declared.Ask.{Ask}
 use Rattle.terms.specs.declared.Plan.{Plan}
 use Rattle.terms.specs.declared.Timestamp.{Timestamp}
+use Rattle.terms.proofs.Down.{clear}
 use Rattle.terms.proofs.Rungs.{clash, both}
 use Rattle.frame.specs.Frame.{frameNode, askOf, bodyOf, goodReply, oneOf}
 use Rattle.rounds.specs.declared.Heard.{Heard}
@@ -93,7 +94,7 @@ module _ (p : Plan) (s : Session) (f d i : List ℕ) where
       closing : None (readLadder p s f d (length i)) → isStoring (s .stage) ≡ false → To (reading.act-of p s f d i)
       closing n q =
           let low = low-round (reading.taken p s f d (length i) n .range) in
-          let going = n .1 .1 .1 .0 in
+          let going = (clear (readLadder p s f d (length i)) n 14) in
           shapes.goes To p (afterReply p s f) close (deskAfter p f d) i
           (record {
             finds = λ x y. record { opening = refl; goes = ends refl };
@@ -132,7 +133,7 @@ module _ (p : Plan) (s : Session) (f d i : List ℕ) where
       (go n (isStoring (s .stage)) refl)))
     where
       range : None (writeLadder p s f d (length i)) → inRange p s d ≡ true
-      range n = both (sameOperation Write (s .operation)) (inRange p s d) (not-false (sameOperation Write (s .operation) and inRange p s d) (n .1 .1 .0)) .1
+      range n = both (sameOperation Write (s .operation)) (inRange p s d) (not-false (sameOperation Write (s .operation) and inRange p s d) (clear (writeLadder p s f d (length i)) n 9)) .1
 
       full : (n : None (writeLadder p s f d (length i))) → isStoring (s .stage) ≡ false → replies p ≤ heardCount (asked .marks)
           → (x : Bool) → eqb (asked .greatest .0) 18446744073709551615 ≡ x → Leads (writeReply p s f d i)
@@ -140,7 +141,7 @@ module _ (p : Plan) (s : Session) (f d i : List ℕ) where
           subst Leads (sym (writing.spends-clock p s f d i n q h (eqb-true (asked .greatest .0) 18446744073709551615 g))) (record { opening = refl; goes = ends refl })
       full n q h false g =
           subst Leads (sym (writing.opens-write p s f d i n q h (eqb-false (asked .greatest .0) 18446744073709551615 g)))
-          (write-opens s (low-round (range n)) (n .1 .1 .1 .0) q Record (frameNode f) _ (time (bodyOf f)))
+          (write-opens s (low-round (range n)) (clear (writeLadder p s f d (length i)) n 14) q Record (frameNode f) _ (time (bodyOf f)))
 
       asks : None (writeLadder p s f d (length i)) → isStoring (s .stage) ≡ false → (x : Bool) → ltb (heardCount (asked .marks)) (replies p) ≡ x
           → Leads (writeReply p s f d i)

@@ -20,7 +20,7 @@ use Rattle.octets.specs.Bytes.{part, Octets}
 use Rattle.octets.proofs.Laws.{length-part, length-be, part-middle, slot-fits}
 use Rattle.sha256.proofs.Laws.{sha256-length}
 use Rattle.terms.specs.Ladder.{all}
-use Rattle.terms.specs.Terms.{planOk, countsOk, limitsOk, tableOk, columnOf, recordLength, COMPLETE, INCOMPLETE}
+use Rattle.terms.specs.Terms.{planOk, countsOk, limitsOk, columnOf, recordLength, COMPLETE, INCOMPLETE}
 use Rattle.terms.specs.declared.Plan.{Plan}
 use Rattle.terms.specs.declared.Member.the-variants.{Repairable}
 use Rattle.terms.specs.declared.Clients.the-variants.{Byzantine}
@@ -154,7 +154,7 @@ pub pair : List ℕ
 pair = 0 ∷ 128 ∷ []
 
 accepted-plan : planOk plan ≡ true
-unfolding plan planOk countsOk limitsOk tableOk columnOf all
+unfolding plan planOk countsOk limitsOk columnOf all
 accepted-plan = refl
 
 pair-small : small pair ≡ true

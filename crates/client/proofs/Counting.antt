@@ -12,6 +12,7 @@ use lib.ListN.{length, length-set}
 use Rattle.terms.specs.Ladder.{_and_, None}
 use Rattle.terms.specs.declared.Ask.{Ask}
 use Rattle.terms.specs.declared.Plan.{Plan}
+use Rattle.terms.proofs.Down.{clear}
 use Rattle.terms.proofs.Rungs.{clash}
 use Rattle.terms.proofs.Plans.{plan-is}
 use Rattle.frame.specs.Frame.{frameNode}
@@ -68,10 +69,10 @@ module _ (p : Plan) (s : Session) (f d i : List ℕ) (k : ℕ) (a : At s k) wher
 
   module _ (n : None (readLadder p s f d (length i))) where
     ended-not : isEnded (s .stage) ≡ false
-    ended-not = n .1 .1 .1 .0
+    ended-not = clear (readLadder p s f d (length i)) n 14
 
     heard-not : isHeard s (frameNode f) ≡ false
-    heard-not = n .1 .1 .1 .1 .1 .1 .0
+    heard-not = clear (readLadder p s f d (length i)) n 11
 
     in-marks : frameNode f < 16
     in-marks = let t = reading.taken p s f d (length i) n in let q = plan-is p (t .plan) .n-high in let h = t .node in omega arith

@@ -19,6 +19,7 @@ use Rattle.terms.specs.declared.Member.the-variants.{Repairable, NonRepair}
 use Rattle.terms.specs.declared.Class.the-variants as class
 use Rattle.terms.specs.declared.Verdict.{Verdict}
 use Rattle.terms.specs.declared.Verdict.the-variants as verdict
+use Rattle.terms.proofs.Down.{clear}
 use Rattle.terms.proofs.Rungs.{both}
 use Rattle.terms.proofs.Facts.{is-complete, is-incomplete, is-unclassifiable, decided-is}
 use Rattle.terms.proofs.Stamps.{stamp-at-number}
@@ -94,11 +95,11 @@ pub record Taken (p : Plan) (s : Session) (f d : List ℕ) (item : ℕ) : Type 0
 pub taken : (p : Plan) (s : Session) (f d : List ℕ) (item : ℕ) → None (readLadder p s f d item) → Taken p s f d item
 taken p s f d item n =
     record {
-      plan = not-false (planOk p) (n .0);
-      desk = lengths-are p (length d) item (not-false (lengthsOk p (length d) item) (n .1 .0)) .desk-is;
-      range = both (sameOperation Read (s .operation)) (inRange p s d) (not-false (sameOperation Read (s .operation) and inRange p s d) (n .1 .1 .0)) .1;
-      node = reply-is p f (not-false (goodReply p f) (n .1 .1 .1 .1 .0)) .node-low;
-      frame = not-false (goodReply p f) (n .1 .1 .1 .1 .0);
+      plan = not-false (planOk p) (clear (readLadder p s f d item) n 1);
+      desk = lengths-are p (length d) item (not-false (lengthsOk p (length d) item) (clear (readLadder p s f d item) n 2)) .desk-is;
+      range = both (sameOperation Read (s .operation)) (inRange p s d) (not-false (sameOperation Read (s .operation) and inRange p s d) (clear (readLadder p s f d item) n 9)) .1;
+      node = reply-is p f (not-false (goodReply p f) (clear (readLadder p s f d item) n 4)) .node-low;
+      frame = not-false (goodReply p f) (clear (readLadder p s f d item) n 4);
     }
 
 module _ (p : Plan) (s : Session) (f d i : List ℕ) where

@@ -15,7 +15,7 @@ use Rattle.octets.specs.Bytes.{part, num, numFrom, be, beOnto}
 use Rattle.sha256.specs.Sha256.{sha256, after, compressOf, addedOf, roundsOf, roundOf, T1, T2, scheduleOf, words, padding, bigEndian, K}
 use Rattle.terms.specs.Ladder.{Rung, first, all}
 use Rattle.terms.specs.Stamp.{then, stampAt, stampNumber}
-use Rattle.terms.specs.Terms.{planOk, countsOk, limitsOk, tableOk, columnOf, recordLength}
+use Rattle.terms.specs.Terms.{planOk, countsOk, limitsOk, columnOf, recordLength}
 use Rattle.frame.specs.Frame.{shaped, bodyFits, forParty, oneOf, goodFrame, goodReply}
 use Rattle.record.specs.Record.{crossOf}
 use Rattle.record.specs.Desk.{slotOf}
@@ -71,7 +71,7 @@ module _ (before : List (List Message)) where
   closing-1 = none-closed (replyLadder Read plan reads.start reads.reply-1 desk 1) before _ (none-closed (recordLadder plan reads.start reads.reply-1) before _ refl)
 
   closing-2 : closing plan reads.first-heard reads.reply-2 desk-poor 1 before ≡ heard-in desk-poor ∷ before
-  unfolding closing responses responseOf reads.reply-2 plan desk-poor poor hash first planOk countsOk limitsOk tableOk columnOf all recordLength lengthsOk inRange standingRules openRules every
+  unfolding closing responses responseOf reads.reply-2 plan desk-poor poor hash first planOk countsOk limitsOk columnOf all recordLength lengthsOk inRange standingRules openRules every
       heardCount slotsFit slotFits slotStamp goodReply goodFrame shaped forParty oneOf bodyFits awaited askNow kindAwaited isHeard bears underOf num numFrom part be beOnto
   closing-2 = refl
 
@@ -80,7 +80,7 @@ module _ (before : List (List Message)) where
   closing-3 = none-closed (replyLadder Read plan reads.second-round reads.reply-3 desk-poor 1) before _ (none-closed (recordLadder plan reads.second-round reads.reply-3) before _ refl)
 
   closing-4 : closing plan reads.second-heard reads.reply-4 desk-good 1 before ≡ heard-in desk-good ∷ before
-  unfolding closing responses responseOf reads.reply-4 plan desk-poor poor desk-good good stamp-bytes hash first planOk countsOk limitsOk tableOk columnOf all recordLength lengthsOk inRange
+  unfolding closing responses responseOf reads.reply-4 plan desk-poor poor desk-good good stamp-bytes hash first planOk countsOk limitsOk columnOf all recordLength lengthsOk inRange
       standingRules openRules every heardCount slotsFit slotFits slotStamp goodReply goodFrame shaped forParty oneOf bodyFits awaited askNow kindAwaited isHeard bears underOf
       num numFrom part be beOnto stampAt stampNumber then
   closing-4 = refl

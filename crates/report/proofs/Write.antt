@@ -17,6 +17,7 @@ use Rattle.terms.specs.Ladder.{first, _and_, None}
 use Rattle.terms.specs.Stamp.{stamp, time, stampNumber, top}
 use Rattle.terms.specs.declared.Plan.{Plan}
 use Rattle.terms.specs.declared.Ask.{Ask}
+use Rattle.terms.proofs.Down.{clear}
 use Rattle.terms.proofs.Rungs.{both, clash}
 use Rattle.terms.proofs.Plans.{plan-is}
 use Rattle.terms.proofs.Stamps.{stamp-at-number}
@@ -235,12 +236,12 @@ module _ (p : Plan) (s : Session) (f d i : List ℕ) (w : Timed) where
 
     few : heardCount (s .marks) < replies p
     few =
-        let r = both (not (isRead (s .operation))) (inRange p s d) (not-false (not (isRead (s .operation)) and inRange p s d) (n .1 .1 .0)) in
-        ltb-true (heardCount (s .marks)) (replies p) (in-range-facts p s d (r .1) (n .1 .1 .1 .0) .1 .few)
+        let r = both (not (isRead (s .operation))) (inRange p s d) (not-false (not (isRead (s .operation)) and inRange p s d) (clear (replyLadder Write p s f d (length i)) n 9)) in
+        ltb-true (heardCount (s .marks)) (replies p) (in-range-facts p s d (r .1) (clear (replyLadder Write p s f d (length i)) n 14) .1 .few)
 
     no-mark : markOf (s .marks) (frameNode f) ≡ Unheard
     unfolding isHeard
-    no-mark = not-heard (markOf (s .marks) (frameNode f)) (n .1 .1 .1 .1 .1 .1 .0)
+    no-mark = not-heard (markOf (s .marks) (frameNode f)) (clear (replyLadder Write p s f d (length i)) n 11)
 
     counted : length (s .marks) ≡ 16 → heardCount (set (s .marks) (frameNode f) (record { is = Record })) ≡ suc (heardCount (s .marks))
     counted l =
@@ -272,7 +273,7 @@ module _ (p : Plan) (s : Session) (f d i : List ℕ) (w : Timed) where
             writes-on p (markedOf s (frameNode f) Record) d w st
             (record { times = k .0 .times; stamp = k .0 .stamp; sends = k .0 .sends }, length-set (s .marks) (frameNode f) (record { is = Record }) ∙ k .1)
             (omega (arith, counted (k .1), few))
-        go Ended st = absurd (clash (sym (ap isEnded st) ∙ n .1 .1 .1 .0))
+        go Ended st = absurd (clash (sym (ap isEnded st) ∙ (clear (replyLadder Write p s f d (length i)) n 14)))
 
   call-right : Keeps p s d w → Right p (writeReply p s f d i) (timing p s f d i w)
   call-right keep =

@@ -17,7 +17,7 @@ use Rattle.sha256.specs.Sha256.{sha256}
 use Rattle.sha256.proofs.Laws.{sha256-length, whole}
 use Rattle.terms.specs.Ladder.{Rung, on, first, all}
 use Rattle.terms.specs.Stamp.{stamp, time}
-use Rattle.terms.specs.Terms.{planOk, countsOk, limitsOk, tableOk, columnOf, recordLength}
+use Rattle.terms.specs.Terms.{planOk, countsOk, limitsOk, columnOf, recordLength}
 use Rattle.terms.specs.declared.Plan.{Plan}
 use Rattle.terms.specs.declared.Member.the-variants.{Repairable}
 use Rattle.terms.specs.declared.Clients.the-variants.{Byzantine}
@@ -48,7 +48,7 @@ pub plan : Plan
 plan = record { n = 1; t = 0; b = 0; q = 1; m = 1; f = 1; member = Repairable; clients = Byzantine; w = 1 }
 
 accepted-plan : planOk plan ≡ true
-unfolding plan planOk countsOk limitsOk tableOk columnOf all
+unfolding plan planOk countsOk limitsOk columnOf all
 accepted-plan = refl
 
 r-is : recordLength plan ≡ 73

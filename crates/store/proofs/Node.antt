@@ -13,6 +13,7 @@ use Rattle.terms.specs.declared.Plan.{Plan}
 use Rattle.terms.specs.declared.Member.the-variants.{Repairable}
 use Rattle.terms.specs.declared.Clients.the-variants.{Crash}
 use Rattle.terms.specs.declared.Refusal.{Refusal}
+use Rattle.terms.proofs.Down as down
 use Rattle.terms.proofs.Rungs as rungs
 use Rattle.frame.specs.Frame.{goodRequest, goodFrame, bodyFits}
 use Rattle.record.specs.Record.{hashesOk}
@@ -97,14 +98,14 @@ pub record Clear (p : Plan) (f b y : List ℕ) : Type 0 where
 
 pub clear : (p : Plan) (f b y : List ℕ) → None (nodeLadder p f b y) → Clear p f b y
 clear p f b y n = record {
-  plan = not-false _ (n .0);
-  lengths = not-false _ (n .1 .0);
-  good = not-false _ (n .1 .1 .0);
-  request = not-false _ (n .1 .1 .1 .0);
-  time = n .1 .1 .1 .1 .0;
-  hash = n .1 .1 .1 .1 .1 .0;
-  other = n .1 .1 .1 .1 .1 .1 .0;
-  room = n .1 .1 .1 .1 .1 .1 .1 .0;
+  plan = not-false _ (down.clear (nodeLadder p f b y) n 1);
+  lengths = not-false _ (down.clear (nodeLadder p f b y) n 2);
+  good = not-false _ (down.clear (nodeLadder p f b y) n 3);
+  request = not-false _ (down.clear (nodeLadder p f b y) n 4);
+  time = down.clear (nodeLadder p f b y) n 5;
+  hash = down.clear (nodeLadder p f b y) n 6;
+  other = down.clear (nodeLadder p f b y) n 7;
+  room = down.clear (nodeLadder p f b y) n 8;
 }
 
 -- The same of a fresh book, in its order 1, 2, 4.

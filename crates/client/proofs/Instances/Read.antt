@@ -23,7 +23,7 @@ use Rattle.sha256.specs.Sha256 as sha
 use Rattle.sha256.specs.Sha256.{sha256, compressOf, addedOf, roundsOf, roundOf, T1, T2, scheduleOf, words, padding, bigEndian, K}
 use Rattle.terms.specs.Ladder.{first, all, _and_}
 use Rattle.terms.specs.Stamp.{then, stampAt, stampNumber}
-use Rattle.terms.specs.Terms.{planOk, countsOk, limitsOk, tableOk, columnOf, recordLength, classOf, decided}
+use Rattle.terms.specs.Terms.{planOk, countsOk, limitsOk, columnOf, recordLength, classOf, decided}
 use Rattle.terms.specs.declared.Ask.{Ask}
 use Rattle.terms.specs.declared.Plan.{Plan}
 use Rattle.terms.specs.declared.Refusal.the-variants.{NotAwaited}
@@ -165,43 +165,43 @@ abbrev pub opened : Opened
 opened = record { answer = Accepted; session = start }
 
 pub opened-so : OpenCall Read plan ask opened
-unfolding openWith first planOk countsOk limitsOk tableOk columnOf all plan
+unfolding openWith first planOk countsOk limitsOk columnOf all plan
 opened-so = record { is = refl }
 
 pub met-1 : ReadReplyCall plan (start) reply-1 desk (0 ∷ []) (record { answer = Open; session = first-heard }) desk-poor (0 ∷ [])
-unfolding reply-1 hash poor stamp-bytes good desk desk-poor desk-good desk-full plan readReply first planOk countsOk limitsOk tableOk columnOf all recordLength lengthsOk inRange standingRules openRules heardCount every slotsFit slotFits slotStamp underOf num numFrom part
+unfolding reply-1 hash poor stamp-bytes good desk desk-poor desk-good desk-full plan readReply first planOk countsOk limitsOk columnOf all recordLength lengthsOk inRange standingRules openRules heardCount every slotsFit slotFits slotStamp underOf num numFrom part
     goodReply goodFrame shaped forParty oneOf bodyFits awaited askNow kindAwaited isHeard bears be beOnto accepted heard settled
     hashesOk timeZero fragmentHash alike put stampAt stampNumber then sha256 sha.after compressOf addedOf roundsOf roundOf T1 T2 scheduleOf words padding bigEndian K
 met-1 = record { is = refl }
 
 met-2 : ReadReplyCall plan (first-heard) reply-2 desk-poor (0 ∷ []) (record { answer = Open; session = second-round }) desk-poor (0 ∷ [])
-unfolding reply-2 hash poor stamp-bytes good desk desk-poor desk-good desk-full plan readReply first planOk countsOk limitsOk tableOk columnOf all recordLength lengthsOk inRange standingRules openRules heardCount every slotsFit slotFits slotStamp underOf num numFrom part
+unfolding reply-2 hash poor stamp-bytes good desk desk-poor desk-good desk-full plan readReply first planOk countsOk limitsOk columnOf all recordLength lengthsOk inRange standingRules openRules heardCount every slotsFit slotFits slotStamp underOf num numFrom part
     goodReply goodFrame shaped forParty oneOf bodyFits awaited askNow kindAwaited isHeard bears be beOnto accepted heard settled
     hashesOk timeZero fragmentHash alike put stampAt stampNumber then sha256 sha.after compressOf addedOf roundsOf roundOf T1 T2 scheduleOf words padding bigEndian K actFor actOn sound failing closeWith leadOf stepOf aheadOf setOf joinsOf decided classOf
     validates row crossMade regenerated among tabulate value blend weightOf ratio xtime mulN mul square sumPow inv div
 met-2 = record { is = refl }
 
 met-3 : ReadReplyCall plan (second-round) reply-3 desk-poor (0 ∷ []) (record { answer = Open; session = second-heard }) desk-good (0 ∷ [])
-unfolding reply-3 hash poor stamp-bytes good desk desk-poor desk-good desk-full plan readReply first planOk countsOk limitsOk tableOk columnOf all recordLength lengthsOk inRange standingRules openRules heardCount every slotsFit slotFits slotStamp underOf num numFrom part
+unfolding reply-3 hash poor stamp-bytes good desk desk-poor desk-good desk-full plan readReply first planOk countsOk limitsOk columnOf all recordLength lengthsOk inRange standingRules openRules heardCount every slotsFit slotFits slotStamp underOf num numFrom part
     goodReply goodFrame shaped forParty oneOf bodyFits awaited askNow kindAwaited isHeard bears be beOnto accepted heard settled
     hashesOk timeZero fragmentHash alike put stampAt stampNumber then sha256 sha.after compressOf addedOf roundsOf roundOf T1 T2 scheduleOf words padding bigEndian K
 met-3 = record { is = refl }
 
 met-4 : ReadReplyCall plan (second-heard) reply-4 desk-good (0 ∷ []) (record { answer = Open; session = repair-round }) desk-full (0 ∷ [])
-unfolding reply-4 hash poor stamp-bytes good desk desk-poor desk-good desk-full plan readReply first planOk countsOk limitsOk tableOk columnOf all recordLength lengthsOk inRange standingRules openRules heardCount every slotsFit slotFits slotStamp underOf num numFrom part
+unfolding reply-4 hash poor stamp-bytes good desk desk-poor desk-good desk-full plan readReply first planOk countsOk limitsOk columnOf all recordLength lengthsOk inRange standingRules openRules heardCount every slotsFit slotFits slotStamp underOf num numFrom part
     goodReply goodFrame shaped forParty oneOf bodyFits awaited askNow kindAwaited isHeard bears be beOnto accepted heard settled
     hashesOk timeZero fragmentHash alike put stampAt stampNumber then sha256 sha.after compressOf addedOf roundsOf roundOf T1 T2 scheduleOf words padding bigEndian K actFor actOn sound failing closeWith leadOf stepOf aheadOf setOf joinsOf decided classOf
     validates row crossMade regenerated among tabulate value blend weightOf ratio xtime mulN mul square sumPow inv div repaired refilled slotFilled
 met-4 = record { is = refl }
 
 met-5 : ReadReplyCall plan (repair-round) reply-5 desk-full (0 ∷ []) (record { answer = Open; session = once-stored }) desk-full (0 ∷ [])
-unfolding reply-5 hash poor stamp-bytes good desk desk-poor desk-good desk-full plan readReply first planOk countsOk limitsOk tableOk columnOf all recordLength lengthsOk inRange standingRules openRules heardCount every slotsFit slotFits slotStamp underOf num numFrom part
+unfolding reply-5 hash poor stamp-bytes good desk desk-poor desk-good desk-full plan readReply first planOk countsOk limitsOk columnOf all recordLength lengthsOk inRange standingRules openRules heardCount every slotsFit slotFits slotStamp underOf num numFrom part
     goodReply goodFrame shaped forParty oneOf bodyFits awaited askNow kindAwaited isHeard bears be beOnto accepted heard settled
     hashesOk timeZero fragmentHash alike put stampAt stampNumber then stored
 met-5 = record { is = refl }
 
 met-6 : ReadReplyCall plan (once-stored) reply-6 desk-full (0 ∷ []) (record { answer = Done (stampAt desk-good 0) 2; session = ended }) desk-full (7 ∷ [])
-unfolding reply-6 hash poor stamp-bytes good desk desk-poor desk-good desk-full plan readReply first planOk countsOk limitsOk tableOk columnOf all recordLength lengthsOk inRange standingRules openRules heardCount every slotsFit slotFits slotStamp underOf num numFrom part
+unfolding reply-6 hash poor stamp-bytes good desk desk-poor desk-good desk-full plan readReply first planOk countsOk limitsOk columnOf all recordLength lengthsOk inRange standingRules openRules heardCount every slotsFit slotFits slotStamp underOf num numFrom part
     goodReply goodFrame shaped forParty oneOf bodyFits awaited askNow kindAwaited isHeard bears be beOnto accepted heard settled
     hashesOk timeZero fragmentHash alike put stampAt stampNumber then stored collected laid from regenerated among tabulate value
 met-6 = record { is = refl }
@@ -289,7 +289,7 @@ unfoldable pub late : List ℕ
 late = frame 7 2 5 []
 
 late-met : ReadReplyCall plan second-heard late desk-good (0 ∷ []) (record { answer = Refused NotAwaited; session = second-heard }) desk-good (0 ∷ [])
-unfolding late hash stamp-bytes good desk-good plan readReply first planOk countsOk limitsOk tableOk columnOf all recordLength lengthsOk inRange standingRules openRules heardCount every
+unfolding late hash stamp-bytes good desk-good plan readReply first planOk countsOk limitsOk columnOf all recordLength lengthsOk inRange standingRules openRules heardCount every
     slotsFit slotFits slotStamp underOf num numFrom part goodReply goodFrame shaped forParty oneOf bodyFits awaited askNow kindAwaited be beOnto stampAt stampNumber then
     desk-poor poor
 late-met = record { is = refl }
@@ -333,7 +333,7 @@ unfolding stampFor
 stamped-so = ap (λ (c : List ℕ). stampAt (stampMade 1 c) 0) cross-so ∙ ap (λ (t : List ℕ). stampAt t 0) stamp-so
 
 pub plan-ok : planOk plan ≡ true
-unfolding plan planOk countsOk limitsOk tableOk columnOf all
+unfolding plan planOk countsOk limitsOk columnOf all
 plan-ok = refl
 
 pub seven-small : small (7 ∷ []) ≡ true

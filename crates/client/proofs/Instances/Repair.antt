@@ -11,7 +11,7 @@ use mathlib.Core.Logic.{inr}
 use lib.ListN.{length, replicate}
 use Rattle.octets.specs.Bytes.{part, put, num, numFrom, alike}
 use Rattle.terms.specs.Ladder.{first, all}
-use Rattle.terms.specs.Terms.{planOk, countsOk, limitsOk, tableOk, columnOf, recordLength, classOf, decided}
+use Rattle.terms.specs.Terms.{planOk, countsOk, limitsOk, columnOf, recordLength, classOf, decided}
 use Rattle.terms.specs.Stamp.{then, stampAt, stampNumber, zeroStamp}
 use Rattle.terms.specs.declared.Plan.{Plan}
 use Rattle.terms.specs.declared.Member.the-variants.{Repairable}
@@ -82,7 +82,7 @@ left = repaired plan (closed plan (markedOf session 2 First) desk) 0 desk
 
 -- the call opens a repair round
 pub opens-so : ReadReplyCall plan session frame desk item took left item
-unfolding plan slot desk session frame item took left readReply first planOk countsOk limitsOk tableOk columnOf all recordLength lengthsOk inRange standingRules openRules
+unfolding plan slot desk session frame item took left readReply first planOk countsOk limitsOk columnOf all recordLength lengthsOk inRange standingRules openRules
     heardCount every slotsFit slotFits slotStamp underOf num numFrom part alike goodReply goodFrame shaped forParty oneOf bodyFits awaited askNow kindAwaited
     isHeard bears accepted heard settled actFor actOn sound closeWith leadOf stepOf aheadOf setOf joinsOf decided classOf
 opens-so = record { is = refl }
@@ -132,7 +132,7 @@ last-turn =
     }
 
 turns-so : Turns plan (took .session) left (first-turn ∷ second-turn ∷ last-turn ∷ [])
-unfolding first-turn second-turn last-turn turn-open stored-by plan slot desk session item took left readReply first planOk countsOk limitsOk tableOk columnOf all recordLength lengthsOk
+unfolding first-turn second-turn last-turn turn-open stored-by plan slot desk session item took left readReply first planOk countsOk limitsOk columnOf all recordLength lengthsOk
     inRange standingRules openRules heardCount every slotsFit slotFits slotStamp underOf num numFrom part alike goodReply goodFrame shaped forParty oneOf bodyFits
     awaited askNow kindAwaited isHeard bears accepted stored collected laid from closeWith leadOf stepOf aheadOf setOf joinsOf repaired refilled slotFilled regenerated
     among tabulate value blend weightOf ratio xtime mulN mul square sumPow inv div put stampAt stampNumber then
@@ -147,7 +147,7 @@ pub opened : Opened
 opened = record { answer = Accepted; session = freshOf Read 1 Free (record { 0 = 5 }) }
 
 opened-so : OpenCall Read plan (record { 0 = 5 }) opened
-unfolding opened openWith first planOk countsOk limitsOk tableOk columnOf all plan
+unfolding opened openWith first planOk countsOk limitsOk columnOf all plan
 opened-so = record { is = refl }
 
 pub heard-one : Turn
@@ -161,7 +161,7 @@ heard-one =
     }
 
 heard-so : ReadReplyCall plan (opened .session) frame desk item (heard-one .took) desk item
-unfolding plan slot desk opened heard-one frame item readReply first planOk countsOk limitsOk tableOk columnOf all recordLength lengthsOk inRange standingRules openRules
+unfolding plan slot desk opened heard-one frame item readReply first planOk countsOk limitsOk columnOf all recordLength lengthsOk inRange standingRules openRules
     heardCount every slotsFit slotFits underOf num numFrom part goodReply goodFrame shaped forParty oneOf bodyFits awaited askNow kindAwaited isHeard bears
     accepted heard settled
 heard-so = record { is = refl }

@@ -16,7 +16,7 @@ use Rattle.octets.proofs.Meaning.{num-be}
 use Rattle.sha256.specs.Sha256.{sha256}
 use Rattle.terms.specs.Ladder.{first, all, _and_}
 use Rattle.terms.specs.Stamp.{stamp, time}
-use Rattle.terms.specs.Terms.{planOk, countsOk, limitsOk, tableOk, columnOf, recordLength}
+use Rattle.terms.specs.Terms.{planOk, countsOk, limitsOk, columnOf, recordLength}
 use Rattle.terms.specs.declared.Plan.{Plan}
 use Rattle.terms.specs.declared.Ask.{Ask}
 use Rattle.terms.specs.declared.Member.the-variants.{Repairable}
@@ -52,7 +52,7 @@ pub plan : Plan
 plan = record { n = 2; t = 0; b = 0; q = 1; m = 1; f = 1; member = Repairable; clients = Byzantine; w = 1 }
 
 accepted-plan : planOk plan ≡ true
-unfolding plan planOk countsOk limitsOk tableOk columnOf all
+unfolding plan planOk countsOk limitsOk columnOf all
 accepted-plan = refl
 
 r-is : recordLength plan ≡ 105

@@ -14,7 +14,7 @@ use Rattle.sha256.specs.Sha256 as sha
 use Rattle.sha256.specs.Sha256.{sha256, compressOf, addedOf, roundsOf, roundOf, T1, T2, scheduleOf, words, padding, bigEndian, K}
 use Rattle.terms.specs.Ladder.{first, all}
 use Rattle.terms.specs.Stamp.{then, stampAt, stampNumber}
-use Rattle.terms.specs.Terms.{planOk, countsOk, limitsOk, tableOk, columnOf, recordLength, classOf, decided}
+use Rattle.terms.specs.Terms.{planOk, countsOk, limitsOk, columnOf, recordLength, classOf, decided}
 use Rattle.field.specs.Field.{xtime, mulN, mul, square, sumPow, inv, div}
 use Rattle.fragments.specs.Fragments.{All, among, fragment, laid, tabulate, ratio, weightOf, blend, value, regenerated}
 use Rattle.frame.specs.Frame.{frame, shaped, bodyFits, oneOf, forParty, goodFrame, goodReply}
@@ -56,7 +56,7 @@ call =
     }
 
 pub done-so : ReadReplyCall plan first-heard second-reply desk-good (0 ∷ []) (call .took) desk-two (7 ∷ [])
-unfolding second-reply hash stamp-bytes good desk-good desk-two plan readReply first planOk countsOk limitsOk tableOk columnOf all recordLength lengthsOk inRange standingRules openRules heardCount every
+unfolding second-reply hash stamp-bytes good desk-good desk-two plan readReply first planOk countsOk limitsOk columnOf all recordLength lengthsOk inRange standingRules openRules heardCount every
     slotsFit slotFits slotStamp underOf num numFrom part goodReply goodFrame shaped forParty oneOf bodyFits awaited askNow kindAwaited isHeard bears be beOnto accepted heard settled
     hashesOk timeZero fragmentHash alike put stampAt stampNumber then sha256 sha.after compressOf addedOf roundsOf roundOf T1 T2 scheduleOf words padding bigEndian K actFor actOn
     sound closeWith leadOf stepOf aheadOf setOf joinsOf decided classOf validates row crossMade regenerated among tabulate value blend weightOf ratio xtime mulN mul square sumPow inv

@@ -15,7 +15,7 @@ use lib.ListN.{replicate}
 use Rattle.octets.specs.Bytes.{part, num, numFrom, be, beOnto}
 use Rattle.terms.specs.Ladder.{first, all}
 use Rattle.terms.specs.Stamp.{then, stampAt, stampNumber}
-use Rattle.terms.specs.Terms.{planOk, countsOk, limitsOk, tableOk, columnOf, recordLength}
+use Rattle.terms.specs.Terms.{planOk, countsOk, limitsOk, columnOf, recordLength}
 use Rattle.terms.specs.declared.Refusal.the-variants.{NotAwaited}
 use Rattle.frame.specs.Frame.{frame, askOf, shaped, bodyFits, oneOf, forParty, goodFrame, goodReply}
 use Rattle.rounds.specs.declared.Bound.the-variants.{Free}
@@ -83,16 +83,16 @@ abbrev pub opened : Opened
 opened = record { answer = Accepted; session = start }
 
 pub opened-so : OpenCall Write plan ask opened
-unfolding openWith first planOk countsOk limitsOk tableOk columnOf all plan
+unfolding openWith first planOk countsOk limitsOk columnOf all plan
 opened-so = record { is = refl }
 
 pub met-1 : WriteReplyCall plan start (time-reply 0) desk (7 ∷ []) (call-1 .took) desk
-unfolding time-reply desk plan writeReply first planOk countsOk limitsOk tableOk columnOf all recordLength lengthsOk inRange standingRules openRules heardCount every num numFrom part
+unfolding time-reply desk plan writeReply first planOk countsOk limitsOk columnOf all recordLength lengthsOk inRange standingRules openRules heardCount every num numFrom part
     goodReply goodFrame shaped forParty oneOf bodyFits awaited askNow kindAwaited isHeard be beOnto acceptedWrite timeTurn
 met-1 = record { is = refl }
 
 filled : leaves stillOpen (storingOf (timedOf once-timed 1 0) (stampFor plan 1 (7 ∷ []))) (recordsFor plan 1 (7 ∷ [])) ≡ writeReply plan once-timed (time-reply 1) desk (7 ∷ [])
-unfolding time-reply desk plan writeReply first planOk countsOk limitsOk tableOk columnOf all recordLength lengthsOk inRange standingRules openRules heardCount every num numFrom part
+unfolding time-reply desk plan writeReply first planOk countsOk limitsOk columnOf all recordLength lengthsOk inRange standingRules openRules heardCount every num numFrom part
     goodReply goodFrame shaped forParty oneOf bodyFits awaited askNow kindAwaited isHeard be beOnto acceptedWrite timeTurn timeEnd
 filled = refl
 
@@ -100,12 +100,12 @@ pub met-2 : WriteReplyCall plan once-timed (time-reply 1) desk (7 ∷ []) (call-
 met-2 = record { is = (λ j. leaves stillOpen (storingOf (timedOf once-timed 1 0) (sym stamped-so j)) (sym written-so j)) ∙ filled }
 
 pub met-3 : WriteReplyCall plan write-round (write-reply 0) desk-full (7 ∷ []) (call-3 .took) desk-full
-unfolding write-reply stamp-bytes hash good desk-full plan writeReply first planOk countsOk limitsOk tableOk columnOf all recordLength lengthsOk inRange standingRules openRules heardCount every
+unfolding write-reply stamp-bytes hash good desk-full plan writeReply first planOk countsOk limitsOk columnOf all recordLength lengthsOk inRange standingRules openRules heardCount every
     num numFrom part goodReply goodFrame shaped forParty oneOf bodyFits awaited askNow kindAwaited isHeard be beOnto acceptedWrite writeTurn stampAt stampNumber then
 met-3 = record { is = refl }
 
 pub met-4 : WriteReplyCall plan once-stored (write-reply 2) desk-full (7 ∷ []) (call-4 .took) desk-full
-unfolding write-reply stamp-bytes hash good desk-full plan writeReply first planOk countsOk limitsOk tableOk columnOf all recordLength lengthsOk inRange standingRules openRules heardCount every
+unfolding write-reply stamp-bytes hash good desk-full plan writeReply first planOk countsOk limitsOk columnOf all recordLength lengthsOk inRange standingRules openRules heardCount every
     num numFrom part goodReply goodFrame shaped forParty oneOf bodyFits awaited askNow kindAwaited isHeard be beOnto acceptedWrite writeTurn stampAt stampNumber then
 met-4 = record { is = refl }
 
@@ -133,7 +133,7 @@ kept-so = every-session Write plan ask opened opened-so refl desk desk-long (cal
 
 -- ---- node 2 answers the time round late, when the write round has heard node 0: refused 10
 late-met : WriteReplyCall plan once-stored (time-reply 2) desk-full (7 ∷ []) (record { answer = Refused NotAwaited; session = once-stored }) desk-full
-unfolding time-reply stamp-bytes hash good desk-full plan writeReply first planOk countsOk limitsOk tableOk columnOf all recordLength lengthsOk inRange standingRules openRules heardCount every
+unfolding time-reply stamp-bytes hash good desk-full plan writeReply first planOk countsOk limitsOk columnOf all recordLength lengthsOk inRange standingRules openRules heardCount every
     num numFrom part goodReply goodFrame shaped forParty oneOf bodyFits awaited askNow kindAwaited be beOnto stampAt
 late-met = record { is = refl }
 

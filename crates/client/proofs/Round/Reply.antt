@@ -11,6 +11,7 @@ use Rattle.terms.specs.Ladder.{_and_, None}
 use Rattle.terms.specs.Terms.{planOk}
 use Rattle.terms.specs.Stamp.{stamp}
 use Rattle.terms.specs.declared.Plan.{Plan}
+use Rattle.terms.proofs.Down.{clear}
 use Rattle.terms.proofs.Rungs.{both, clash}
 use Rattle.frame.specs.Frame.{frameNode, bodyOf, goodReply}
 use Rattle.record.specs.Record.{hashesOk, timeZero}
@@ -80,24 +81,24 @@ module _ (p : Plan) (s : Session) (f d i : List ℕ) where
   pub taken : readRound s ≡ true → Acceptable p s d i f → Taken p s f d i
   taken r e =
       let a = not-refused p s f d i e in
-      let range = both (isRead (s .operation)) (inRange p s d) (not-false (isRead (s .operation) and inRange p s d) (a .1 .1 .0)) .1 in
-      let k = in-range-facts p s d range (a .1 .1 .1 .0) in
+      let range = both (isRead (s .operation)) (inRange p s d) (not-false (isRead (s .operation) and inRange p s d) (clear (readLadder p s f d (length i)) a 9)) .1 in
+      let k = in-range-facts p s d range (clear (readLadder p s f d (length i)) a 14) in
       record {
         ready = record {
-          plan = not-false (planOk p) (a .0);
-          lengths = not-false (lengthsOk p (length d) (length i)) (a .1 .0);
+          plan = not-false (planOk p) (clear (readLadder p s f d (length i)) a 1);
+          lengths = not-false (lengthsOk p (length d) (length i)) (clear (readLadder p s f d (length i)) a 2);
           round = r;
           standing = k .0;
           slots = k .1;
         };
         fits = record {
-          good = not-false (goodReply p f) (a .1 .1 .1 .1 .0);
-          await = not-false (awaited s f) (a .1 .1 .1 .1 .1 .0);
-          timed = a .1 .1 .1 .1 .1 .1 .1 .0;
-          hashed = a .1 .1 .1 .1 .1 .1 .1 .1 .0;
-          under = a .1 .1 .1 .1 .1 .1 .1 .1 .1 .0;
+          good = not-false (goodReply p f) (clear (readLadder p s f d (length i)) a 4);
+          await = not-false (awaited s f) (clear (readLadder p s f d (length i)) a 10);
+          timed = clear (readLadder p s f d (length i)) a 5;
+          hashed = clear (readLadder p s f d (length i)) a 6;
+          under = clear (readLadder p s f d (length i)) a 12;
         };
-        fresh = a .1 .1 .1 .1 .1 .1 .0;
+        fresh = clear (readLadder p s f d (length i)) a 11;
       }
 
   pub accepts : Taken p s f d i → readReply p s f d i ≡ settled p (afterReply p s f) (deskAfter p f d) i

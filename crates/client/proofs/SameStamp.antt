@@ -33,11 +33,7 @@ use Rattle.session.specs.Writer.{crossFor, recordsFor}
 use Rattle.session.proofs.Writers.{record-is}
 use Rattle.client.specs.Endings.{afterReply, deskAfter}
 use Rattle.client.proofs.ComesBack.{read-comes-back}
-
--- rec is a record that node z gave, i the item that was written
-pub record Unlike (p : Plan) (i : List ℕ) (z : ℕ) (rec : List ℕ) : Type 0 where
-  pub cross : sha256 (crossOf p rec) ≡ sha256 (crossFor p i) → crossOf p rec ≡ crossFor p i
-  pub fragments : sha256 (fragmentOf p rec) ≡ sha256 (fragment (p .m) (p .f) i z) → fragmentOf p rec ≡ fragment (p .m) (p .f) i z
+use Rattle.client.specs.SameStamp.{Unlike, Bears}
 
 module _ (p : Plan) (t : ℕ) (i : List ℕ) (whole : length i ≡ p .m * p .f) (z : ℕ) (low : z < p .n) (rec : List ℕ) (long : length rec ≡ recordLength p)
     (stamped : stampOf rec ≡ stampMade t (crossFor p i)) (hashed : hashesOk p z rec ≡ true) (unlike : Unlike p i z rec) where
@@ -73,13 +69,6 @@ module _ (p : Plan) (t : ℕ) (i : List ℕ) (whole : length i ≡ p .m * p .f) 
   pub record-written : rec ≡ slotOf p (recordsFor p t i) z
   record-written =
       parts-are ∙ (λ j. stamped j ++ (cross-is j ++ fragment-is j)) ∙ sym (record-is p t i whole z low)
-
--- what slot z of a desk holds: node z is one of the plan's, the record bears the write's timestamp, refusal 6 does not apply to it, no clash
-pub record Bears (p : Plan) (t : ℕ) (i d : List ℕ) (z : ℕ) : Type 0 where
-  pub low : z < p .n
-  pub stamped : stampOf (slotOf p d z) ≡ stampMade t (crossFor p i)
-  pub hashed : hashesOk p z (slotOf p d z) ≡ true
-  pub unlike : Unlike p i z (slotOf p d z)
 
 module _ (p : Plan) (t : ℕ) (i : List ℕ) (ok : planOk p ≡ true) (bytes : Octets i) (whole : length i ≡ p .m * p .f)
     (out : List ℕ) (room : length out ≡ p .m * p .f) where

@@ -4,3 +4,4 @@ pub mod Round
 pub mod Repair
 pub mod Sessions
 pub mod Asks
+pub mod SameStamp

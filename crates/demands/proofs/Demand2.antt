@@ -39,10 +39,12 @@ use Rattle.report.specs.Figure1.{INITIALIZE, RECEIVE-TIME-REQUEST, RECEIVE-READ
 use Rattle.report.specs.Ours.{history, timeIn}
 use Rattle.report.specs.Run.{OfPlan, received, ReadCalls, AllApart, AllClose, closedOver, EachTells}
 use Rattle.report.specs.WriteRun.{WriteCalls, untimed, EachWrites}
-use Rattle.report.proofs.Plans.{Ranges, Table2-of, accepted-is, accepted-back}
-use Rattle.report.proofs.Node.{Sends, Executes, time-acts, latest-acts, previous-acts, write-acts, fresh-run}
+use Rattle.report.proofs.Plans.{accepted-is, accepted-back}
+use Rattle.report.proofs.Node.{time-acts, latest-acts, previous-acts, write-acts, fresh-run}
 use Rattle.report.proofs.Run.{opened-read}
 use Rattle.report.proofs.Write.{opened-write}
+use Rattle.report.specs.Table2.{Ranges, Table2-of}
+use Rattle.report.specs.Acts.{AsFigure1}
 
 -- A plan is accepted exactly when it is within document 01's ranges and Table 2 holds of it.
 pub plan-as-the-report : (p : Plan) → planOk p ≡ true → Ranges p × Table2-of p
@@ -50,13 +52,6 @@ plan-as-the-report = accepted-is
 
 pub plan-by-the-report : (p : Plan) → Ranges p → Table2-of p → planOk p ≡ true
 plan-by-the-report = accepted-back
-
--- Figure 1, by the kind of the request: what is sent, and the History after it.
-pub record AsFigure1 (p : Plan) (f b y b₂ y₂ : List ℕ) : Type 0 where
-  pub time : kindOf f ≡ 1 → (y₂ ≡ over (frame 2 (frameNode f) (askOf f) (be 8 (timeIn (RECEIVE-TIME-REQUEST (history p b))))) y) × (b₂ ≡ b)
-  pub latest : kindOf f ≡ 5 → Sends p f y y₂ (RECEIVE-READ-LATEST (history p b)) × (b₂ ≡ b)
-  pub previous : kindOf f ≡ 6 → Sends p f y y₂ (RECEIVE-READ-PREVIOUS (history p b) (stamp (bodyOf f))) × (b₂ ≡ b)
-  pub write : kindOf f ≡ 3 → Executes p f b y b₂ y₂
 
 pub node-as-the-report : (p : Plan) (f b y : List ℕ) → Octets f → Octets b → (n : ℕ) (b₂ y₂ : List ℕ) → NodeCall p f b y (Replied n) b₂ y₂
     → AsFigure1 p f b y b₂ y₂

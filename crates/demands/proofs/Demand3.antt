@@ -7,10 +7,10 @@ use lib.ListN.{length}
 use Rattle.terms.specs.declared.Plan.{Plan}
 use Rattle.session.specs.declared.Session.{Session}
 use Rattle.session.specs.Session.{replies}
-use Rattle.store.specs.Deliver.{Delivery, delivered, finalBook, Contents}
+use Rattle.store.specs.Deliver.{Delivery, Setting, delivered, finalBook, Contents}
 use Rattle.client.specs.Turns.{Turn, Turns}
 use Rattle.client.specs.Round.{roundAt, RoundOpens, Accepted, SameReplies, Lent, repliesOf, answersOf, leftBy}
-use Rattle.store.proofs.Books.{Setting, every-book, what-is-left, any-order}
+use Rattle.store.proofs.Books.{every-book, what-is-left, any-order}
 use Rattle.client.proofs.Round.Calls.{any-order-calls}
 
 -- "Take good books and a set of write requests. Each book and reply buffer has room, and at one node no two requests that pass the checks,

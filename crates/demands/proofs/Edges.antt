@@ -1,8 +1,8 @@
 -- Every case of the table of edges holds. Assumes nothing.
 use Prim.{tt}
 use Prim.Native.Nat.{ℕ}
-use mathlib.Core.Path.{_≡_, refl, _∙_}
-use mathlib.Core.Bool.{Bool, true, false, cond}
+use mathlib.Core.Path.{_≡_, refl, sym, _∙_}
+use mathlib.Core.Bool.{Bool, true, false}
 use mathlib.Core.List.{List, [], _∷_}
 use lib.Dec.{leb}
 use borrow.Author.Tests.{le-leb}
@@ -13,6 +13,7 @@ use Rattle.terms.specs.declared.Plan.{Plan}
 use Rattle.terms.specs.declared.Member.{Member}
 use Rattle.terms.specs.declared.Member.the-variants.{Repairable, NonRepair}
 use Rattle.terms.specs.declared.Class.the-variants.{Unclassifiable}
+use Rattle.terms.proofs.Picks.{itself}
 use Rattle.terms.proofs.Facts.{none-unclassifiable}
 use Rattle.node.specs.Node.{served}
 use Rattle.node.specs.Fresh.{freshened}
@@ -29,11 +30,7 @@ rulesOk s = countsOk (s .member) (s .n) (s .t) (s .b) (s .q) (s .m)
 -- with F and W in range, they decide
 in-range : (s : Counts) → Every s (λ (p : Plan). planOk p ≡ rulesOk s)
 unfolding planOk limitsOk all
-in-range s F W c f₁ f₂ w₁ w₂ = rw (le-leb 1 F f₁, le-leb F 1024 f₂, le-leb 1 W w₁, le-leb W 65535 w₂) (go (rulesOk s))
-  where
-    go : (t : Bool) → cond t true false ≡ t
-    go true = refl
-    go false = refl
+in-range s F W c f₁ f₂ w₁ w₂ = rw (le-leb 1 F f₁, le-leb F 1024 f₂, le-leb 1 W w₁, le-leb W 65535 w₂) (sym (itself (rulesOk s)))
 
 accepts : (s : Counts) → rulesOk s ≡ true → Every s (λ (p : Plan). planOk p ≡ true)
 accepts s e F W c f₁ f₂ w₁ w₂ = in-range s F W c f₁ f₂ w₁ w₂ ∙ e

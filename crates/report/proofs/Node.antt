@@ -55,6 +55,7 @@ use Rattle.report.specs.Run.{OfPlan, replies-to, received}
 use Rattle.report.proofs.Triples.{stamp-low, time-in, time-none, validate-is}
 use Rattle.report.proofs.Lists.{same-more, same-trans}
 use Rattle.report.proofs.Latest.{time-of, latest-of, previous-of}
+use Rattle.report.specs.Acts.{Sends, Executes, Added}
 
 -- ---- the records of a book
 -- what holds of every part of R bytes, and of none, holds of the last record
@@ -112,18 +113,6 @@ module _ (p : Plan) where
       back (inr (inr h)) = of-triples (In X (initial ∷ each (tripleOf p) ks)) X rs h (λ z m e. held z (more z m) e)
 
 -- ---- the call
--- a read reply that bears the only triple of a set
-pub record Sends (p : Plan) (f y y₂ : List ℕ) (set : List Triple) : Type 0 where
-  pub body : List ℕ
-  pub sent : y₂ ≡ over (frame 7 (frameNode f) (askOf f) body) y
-  pub is : set ≡ tripleOf p body ∷ []
-
--- a write that was executed: WRITE_RESPONSE is sent, which here bears the timestamp, and the History is Figure 1's
-pub record Executes (p : Plan) (f b y b₂ y₂ : List ℕ) : Type 0 where
-  pub valid : RECEIVE-WRITE-REQUEST (family p) (nodeOf b) (history p b) (tripleOf p (bodyOf f)) .sent ≡ true
-  pub set : Same (history p b₂) (RECEIVE-WRITE-REQUEST (family p) (nodeOf b) (history p b) (tripleOf p (bodyOf f)) .History)
-  pub sent : y₂ ≡ over (frame 4 (frameNode f) (askOf f) (part (bodyOf f) 0 40)) y
-
 module _ (p : Plan) (f b y : List ℕ) (ob : Octets b) (of : Octets f) where
   -- a request to write: VALIDATE is the condition of refusal 6
   write-body : goodRequest p (nodeOf b) f ≡ true → kindOf f ≡ 3 → 40 ≤ length (bodyOf f)
@@ -227,18 +216,7 @@ module _ (p : Plan) (f b y : List ℕ) (ob : Octets b) (of : Octets f) where
       let q = calls.clear p f b y (calls.replied-is p f b y n b₂ y₂ c .0) in
       absurd (clash (sym (ap not v) ∙ validates r k ∙ q .hash))
 
-  -- one that it lets through is executed, where none of the conditions that document 01 adds stands against it: 1 to 4 of plan, lengths, book and
-  -- frame; 5, a time of 0; 7, other bytes held at this timestamp; 8, no room
-  pub record Added : Type 0 where
-    pub plan : planOk p ≡ true
-    pub lengths : bookReplyOk p (length b) (length y) ≡ true
-    pub book : goodBook p b ≡ true
-    pub request : goodRequest p (nodeOf b) f ≡ true
-    pub time : timeFails f ≡ false
-    pub other : otherHeld p f b ≡ false
-    pub room : noRoom p f b ≡ false
-
-  pub valid-acts : Added → kindOf f ≡ 3 → VALIDATE (family p) (nodeOf b) (tripleOf p (bodyOf f)) ≡ true
+  pub valid-acts : Added p f b y → kindOf f ≡ 3 → VALIDATE (family p) (nodeOf b) (tripleOf p (bodyOf f)) ≡ true
       → (a : Answer) (b₂ y₂ : List ℕ) → NodeCall p f b y a b₂ y₂ → servedOutcome (saidServed a) b₂ y₂ ≡ answered p f b y
   unfolding served
   valid-acts h k v a b₂ y₂ c =

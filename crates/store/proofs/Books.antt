@@ -12,7 +12,7 @@ use Rattle.terms.specs.declared.Plan.{Plan}
 use Rattle.book.specs.Records.{rising}
 use Rattle.book.specs.Book.{recordsOf, laidOut, usedOf}
 use Rattle.book.proofs.Laid as laid
-use Rattle.store.specs.Deliver.{Among, acceptedAt, keptAll, gathered, finalBook, Delivery, sent, delivered, Ready, Delivers, Contents}
+use Rattle.store.specs.Deliver.{Among, acceptedAt, keptAll, gathered, finalBook, Delivery, sent, delivered, Ready, Delivers, Contents, Setting}
 use Rattle.store.proofs.Order as order
 use Rattle.store.proofs.Order.{Agree, Of}
 use Rattle.store.proofs.One as one
@@ -82,12 +82,6 @@ module _ (p : Plan) (books : ℕ → List ℕ) (fs : List (List ℕ)) (i : ℕ) 
             ap (λ (x : List ℕ). drop (usedOf p F) x) (q .bytes ∙ laid.over-is (laidOut p i K) (books i) (usedOf p F) ln)
             ∙ drop-at (laidOut p i K) (drop (usedOf p F) (books i)) (usedOf p F) ln;
       }
-
--- What the demand takes: an accepted plan, N books that are ready for the set, and a run that delivers it.
-pub record Setting (p : Plan) (books : ℕ → List ℕ) (fs : List (List ℕ)) (ds : List Delivery) : Type 0 where
-  pub plan : planOk p ≡ true
-  pub ready : (i : ℕ) → i < p .n → Ready p books fs i
-  pub delivers : (i : ℕ) → i < p .n → Delivers p fs ds i
 
 -- Every one of the N books is left as the book that the definition gives from the old book and the set.
 pub every-book : (p : Plan) (books : ℕ → List ℕ) (fs : List (List ℕ)) (ds : List Delivery) → Setting p books fs ds → (i : ℕ) → i < p .n

@@ -37,7 +37,7 @@ use Rattle.node.specs.Fresh.{FreshCall, freshened}
 use Rattle.terms.specs.declared.Refusal.the-variants.{OutsidePlan}
 use Rattle.store.proofs.Node as calls
 use Rattle.node.specs.Node.{timeFails, hashFails, served, answered, sends, replyTo, replied, ServedOutcome, servedOutcome, NodeCall, nodeLadder}
-use Rattle.store.specs.Deliver.{Among, passes, acceptedAt, keptAll, gathered, Delivery, sent, delivered, Ready, Delivers}
+use Rattle.store.specs.Deliver.{Among, passes, acceptedAt, keptAll, gathered, Delivery, sent, delivered, Ready, Delivers, Setting}
 use Rattle.store.specs.History.{Call, History}
 use Rattle.store.proofs.Order as order
 use Rattle.store.proofs.One as one
@@ -275,12 +275,12 @@ at-zero P h zero l = h
 at-zero P h (suc i) l = absurd (omega arith)
 
 -- the third demand holds of them
-pub given-first : theorems.Setting plan books set first-run
+pub given-first : Setting plan books set first-run
 unfolding plan
 given-first =
     record { plan = accepted-plan; ready = at-zero (Ready plan books set) ready; delivers = at-zero (Delivers plan set first-run) first-delivers }
 
-pub given-second : theorems.Setting plan books set second-run
+pub given-second : Setting plan books set second-run
 unfolding plan
 given-second =
     record { plan = accepted-plan; ready = at-zero (Ready plan books set) ready; delivers = at-zero (Delivers plan set second-run) second-delivers }

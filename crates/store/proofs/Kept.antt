@@ -27,7 +27,7 @@ use Rattle.node.specs.declared.Answer.{Answer}
 use Rattle.node.specs.declared.Answer.the-variants.{Refused, Replied}
 use Rattle.node.proofs.Laws as nodes
 use Rattle.store.specs.Deliver.{Among, passes}
-use Rattle.store.specs.History.{Call, History, lastBook}
+use Rattle.store.specs.History.{Call, History, lastBook, After}
 use Rattle.store.proofs.Order as order
 use Rattle.store.proofs.One as one
 use Rattle.store.proofs.Node as theorems
@@ -53,11 +53,6 @@ own rec (x ∷ rs) n z h e = go (order.among-case x z rs h) (own rec rs (q .1) z
         let s : eqb (stamp x) (stamp rec) ≡ true = eq-eqb _ _ (ap (λ (w : List ℕ). stamp w) k ∙ e) in
         sym k ∙ alike-is x rec (not-false _ (rw s at (q .0)))
     go (inr k) ih = ih k e
-
--- what is left of a book b that was good under p
-pub record After (p : Plan) (b b₂ : List ℕ) : Type 0 where
-  pub good : goodBook p b₂ ≡ true
-  pub keeps : (z : List ℕ) → Among z (recordsOf p b) → Among z (recordsOf p b₂)
 
 same-after : (p : Plan) (b b₂ : List ℕ) → goodBook p b ≡ true → b₂ ≡ b → After p b b₂
 same-after p b b₂ g e =

@@ -6,11 +6,11 @@
 --   passes, acceptedAt      a request passes the checks of a node; the records of those that do
 --   gathered, finalBook   the old records and the accepted ones, each once, by timestamp; laid out over the old book
 --   Delivery sent delivered   a request brought to a node; those that a run brings to one node; the books after a run
---   Ready, Delivers       what the demand takes of a node's book and a set, and of a run
+--   Ready, Delivers, Setting   what the demand takes of a node's book and a set, of a run, and of all N
 --   Contents              what it says of the bytes that are left
 -- books i is the book of node i. Assumes nothing.
 use Prim.{Unit}
-use Prim.Native.Nat.{ℕ, _+_, _*_, _≤_}
+use Prim.Native.Nat.{ℕ, _+_, _*_, _≤_, _<_}
 use mathlib.Core.Path.{_≡_}
 use mathlib.Core.Bool.{Bool, true, cond, not}
 use mathlib.Core.List.{List, [], _∷_}
@@ -20,7 +20,7 @@ use lib.ListN.{length, drop}
 use Rattle.octets.specs.Bytes.{over, Octets}
 use Rattle.terms.specs.Ladder.{_and_}
 use Rattle.terms.specs.Stamp.{stamp}
-use Rattle.terms.specs.Terms.{recordLength}
+use Rattle.terms.specs.Terms.{planOk, recordLength}
 use Rattle.terms.specs.declared.Plan.{Plan}
 use Rattle.frame.specs.Frame.{bodyOf, goodRequest}
 use Rattle.book.specs.Records.{holds, kept, rising}
@@ -95,3 +95,9 @@ pub record Contents (p : Plan) (b : List ℕ) (fs : List (List ℕ)) : Type 0 wh
   pub rise : rising (recordsOf p (finalBook p b fs)) ≡ true
   pub size : length (finalBook p b fs) ≡ length b
   pub tail : drop (usedOf p (finalBook p b fs)) (finalBook p b fs) ≡ drop (usedOf p (finalBook p b fs)) b
+
+-- what the demand takes: an accepted plan, N books that are ready for the set, and a run that delivers it.
+pub record Setting (p : Plan) (books : ℕ → List ℕ) (fs : List (List ℕ)) (ds : List Delivery) : Type 0 where
+  pub plan : planOk p ≡ true
+  pub ready : (i : ℕ) → i < p .n → Ready p books fs i
+  pub delivers : (i : ℕ) → i < p .n → Delivers p fs ds i

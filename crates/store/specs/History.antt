@@ -2,11 +2,15 @@
 -- Assumes nothing.
 use Prim.{Unit}
 use Prim.Native.Nat.{ℕ}
+use mathlib.Core.Path.{_≡_}
+use mathlib.Core.Bool.{true}
 use mathlib.Core.List.{List, [], _∷_}
 use Rattle.octets.specs.Bytes.{Octets}
 use Rattle.terms.specs.declared.Plan.{Plan}
 use Rattle.node.specs.declared.Answer.{Answer}
 use Rattle.node.specs.Node.{NodeCall}
+use Rattle.book.specs.Book.{goodBook, recordsOf}
+use Rattle.store.specs.Deliver.{Among}
 
 -- what a call was lent beside the book, its answer, and what it left
 pub record Call : Type 0 where
@@ -26,3 +30,8 @@ History b (c ∷ cs) =
 abbrev pub lastBook : List ℕ → List Call → List ℕ
 lastBook b [] = b
 lastBook b (c ∷ cs) = lastBook (c .bookLeft) cs
+
+-- what is left of a book b that was good under p
+pub record After (p : Plan) (b b₂ : List ℕ) : Type 0 where
+  pub good : goodBook p b₂ ≡ true
+  pub keeps : (z : List ℕ) → Among z (recordsOf p b) → Among z (recordsOf p b₂)

@@ -33,7 +33,7 @@ use Rattle.session.proofs.Writers.{record-passes}
 use Rattle.client.specs.Endings.{afterReply, deskAfter}
 use Rattle.client.specs.Turns.{Turn}
 use Rattle.terms.proofs.Small.{small-octets}
-use Rattle.client.proofs.SameStamp.{Bears, stamp-comes-back}
+use Rattle.client.proofs.SameStamp.{stamp-comes-back}
 use Rattle.client.proofs.Instances.Read.{plan, hash, stamp-bytes, good, desk-good, desk-full, first-heard, cross, cross-so, stamp-so, written-so, plan-ok, seven-small}
 
 unfoldable pub second-reply : List ℕ

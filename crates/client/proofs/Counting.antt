@@ -30,7 +30,7 @@ use Rattle.session.specs.Reader.{Outcome, outcome, readReply}
 use Rattle.session.proofs.Openings.{accepted-session}
 use Rattle.session.proofs.ReadKept.{asking as is-asking, not-asking}
 use Rattle.client.specs.Endings.{readLadder, heardAs, afterReply}
-use Rattle.client.specs.Turns.{Turn, Turns, closedRounds, Reports, lastSaid}
+use Rattle.client.specs.Turns.{Turn, Reads, Calls, closedRounds, Reports, lastSaid}
 use Rattle.terms.proofs.Ladders as ladders
 use Rattle.client.proofs.Reading as reading
 use Rattle.session.proofs.Closings as shapes
@@ -210,19 +210,19 @@ module _ (p : Plan) where
   onward s k t us n (last e g w) f = rw (e, le-leb (replies p) (k + 1) g) (f 1 0 w)
 
   -- the last answer, if it reports rounds, reports those closed before and those that the replies closed
-  counts-all : (s : Session) (d : List ℕ) (k : ℕ) (t : Turn) (ts : List Turn) → At s k → Turns p s d (t ∷ ts) → (n : ℕ) → Reports (lastSaid t ts) n
+  counts-all : (s : Session) (d : List ℕ) (k : ℕ) (t : Turn) (ts : List Turn) → At s k → Calls (Reads p) s d (t ∷ ts) → (n : ℕ) → Reports (lastSaid t ts) n
       → (n ≡ closedBy s + closedRounds p k s (t ∷ ts)) × (n ≤ p .w)
   counts-all s d k t [] a h n r =
-      onward s k t [] n (subst (Turned p s k) (sym (h .0 .is)) (turned p s (t .reply) d (t .item) k a))
+      onward s k t [] n (subst (Turned p s k) (sym (h .0 .1 .is)) (turned p s (t .reply) d (t .item) k a))
       (λ x k₂ w. let y = w .tells n r in let z = w .more in unfold closedRounds in (omega arith, y .1))
   counts-all s d k t (v ∷ us) a h n r =
-      onward s k t (v ∷ us) n (subst (Turned p s k) (sym (h .0 .is)) (turned p s (t .reply) d (t .item) k a))
+      onward s k t (v ∷ us) n (subst (Turned p s k) (sym (h .0 .1 .is)) (turned p s (t .reply) d (t .item) k a))
       (λ x k₂ w. let y = counts-all (t .took .session) (t .deskLeft) k₂ v us (w .at) (h .1) n r in let z = w .more in (omega arith, y .1))
 
 -- THE ROUNDS THAT A READ REPORTS ARE THOSE IT CLOSED, and at most W: from an accepted opening on, whatever replies come, late, damaged or
 -- refused ones among them, with whatever desk and item buffers.
 pub counted-rounds : (p : Plan) (a : Ask) (r : Opened) → OpenCall Read p a r → r .answer ≡ Accepted → (d : List ℕ) (t : Turn) (ts : List Turn)
-    → Turns p (r .session) d (t ∷ ts) → (n : ℕ) → Reports (lastSaid t ts) n → (n ≡ closedRounds p 0 (r .session) (t ∷ ts)) × (n ≤ p .w)
+    → Calls (Reads p) (r .session) d (t ∷ ts) → (n : ℕ) → Reports (lastSaid t ts) n → (n ≡ closedRounds p 0 (r .session) (t ∷ ts)) × (n ≤ p .w)
 unfolding closedBy heardCount
 counted-rounds p a r call e d t ts h n q =
     let z = accepted-session Read p a r call e in

@@ -1,6 +1,8 @@
--- Replies to a reader one after another, and how many read rounds they close. Document 01: "Rounds used are reported with every read ending
--- and never exceed W. A repair round is not counted."
---   Turn Turns         a reply with what the call was lent and left; each on the session and desk that the one before it left
+-- Calls of a client one after another, and how many read rounds they close. Document 01, "The client": a session is a value handed in and
+-- handed back. "Rounds used are reported with every read ending and never exceed W. A repair round is not counted."
+--   Turn               a reply with what the call was lent and left
+--   Reads Writes Either   what one call met: a reader's contract, a writer's, either
+--   Calls              calls one after another, each on the session and desk that the one before it handed back
 --   counts             the reply was accepted in a read round
 --   closedRounds       a read round closes at its N-t-th accepted reply; k were accepted in the round that is open
 --   Reports            an answer reports this number of rounds, where it reports one
@@ -10,12 +12,15 @@ use Prim.Native.Nat.{ℕ, _+_}
 use mathlib.Core.Bool.{Bool, cond, not}
 use mathlib.Core.List.{List, [], _∷_}
 use mathlib.Core.Path.{_≡_}
+use mathlib.Core.Logic.{_⊎_}
 use lib.Dec.{leb}
+use Rattle.octets.specs.Bytes.{Octets}
 use Rattle.terms.specs.Ladder.{_and_}
 use Rattle.terms.specs.declared.Plan.{Plan}
 use Rattle.session.specs.declared.Session.{Session}
 use Rattle.session.specs.declared.Took.{Took}
 use Rattle.session.specs.Session.{isAsking, replies, Said, refused, stillOpen, done, neverWritten, aborted, roundsSpent, clockSpent, saidOf, isRefused}
+use Rattle.session.specs.Writer.{WriteReplyCall}
 use Rattle.session.specs.Reader.{ReadReplyCall}
 
 pub record Turn : Type 0 where
@@ -25,10 +30,20 @@ pub record Turn : Type 0 where
   pub deskLeft : List ℕ
   pub itemLeft : List ℕ
 
-abbrev pub Turns : Plan → Session → List ℕ → List Turn → Type 0
-Turns p s d [] = Unit {0}
-Turns p s d (t ∷ ts) =
-    ReadReplyCall p s (t .reply) d (t .item) (t .took) (t .deskLeft) (t .itemLeft) × Turns p (t .took .session) (t .deskLeft) ts
+-- the call met its contract, as a reader's or a writer's, on a session and a desk; a frame is bytes
+abbrev pub Reads : Plan → Session → List ℕ → Turn → Type 0
+Reads p s d t = Octets (t .reply) × ReadReplyCall p s (t .reply) d (t .item) (t .took) (t .deskLeft) (t .itemLeft)
+
+abbrev pub Writes : Plan → Session → List ℕ → Turn → Type 0
+Writes p s d t = Octets (t .reply) × WriteReplyCall p s (t .reply) d (t .item) (t .took) (t .deskLeft)
+
+abbrev pub Either : Plan → Session → List ℕ → Turn → Type 0
+Either p s d t = Writes p s d t ⊎ Reads p s d t
+
+-- calls one after another, each on the session and the desk that the one before it handed back
+abbrev pub Calls : (Session → List ℕ → Turn → Type 0) → Session → List ℕ → List Turn → Type 0
+Calls C s d [] = Unit {0}
+Calls C s d (t ∷ ts) = C s d t × Calls C (t .took .session) (t .deskLeft) ts
 
 abbrev pub counts : Session → Turn → Bool
 counts s t = isAsking (s .stage) and not (isRefused (saidOf (t .took .answer)))

@@ -49,12 +49,14 @@ use Rattle.report.specs.Triple.{Message, Same}
 use Rattle.report.specs.Figure1.{INITIALIZE}
 use Rattle.report.specs.Ours.{history, bearing, responseOf, responses}
 use Rattle.client.specs.Turns as turns
-use Rattle.store.proofs.Instances.{small, small-octets}
-use Rattle.report.specs.Run.{received, ReadCalls, closing, closedOver, EachTells, AllClose, Apart, AllApart}
-use Rattle.report.specs.WriteRun.{WriteCalls, untimed, EachWrites}
-use Rattle.report.proofs.Node.{Executes, write-acts, Added, fresh-run}
+use Rattle.terms.proofs.Small.{small, small-octets}
+use Rattle.report.specs.Run.{received, closing, closedOver, EachTells, AllClose, Apart, AllApart}
+use Rattle.report.specs.WriteRun.{untimed, EachWrites}
+use Rattle.report.proofs.Node.{write-acts, fresh-run}
 use Rattle.report.proofs.Run.{opened-read}
 use Rattle.report.proofs.Write.{opened-write}
+use Rattle.client.specs.Turns.{Reads, Writes, Calls}
+use Rattle.report.specs.Acts.{Executes, Added}
 
 abbrev plan : Plan
 plan = record { n = 1; t = 0; b = 0; q = 1; m = 1; f = 1; member = Repairable; clients = Byzantine; w = 1 }
@@ -109,9 +111,9 @@ met : ReadReplyCall plan start reply desk (0 ∷ []) (record { answer = Done (st
 unfolding left
 met = record { is = λ j. outcome (sym said-is j) (left .session) (left .desk) (left .item) }
 
-calls : ReadCalls plan start desk (call ∷ [])
+calls : Calls (Reads plan) start desk (call ∷ [])
 unfolding call
-calls = (small-octets reply reply-small, met, tt)
+calls = ((small-octets reply reply-small, met), tt)
 
 -- one round is closed, by one response
 heard-one : Message
@@ -165,9 +167,9 @@ write-met : WriteReplyCall plan start-to-write time-reply desk (7 ∷ []) (recor
 unfolding after-time
 write-met = record { is = λ j. leaves (sym still-is j) (after-time .session) (after-time .desk) }
 
-write-calls : WriteCalls plan start-to-write desk (write-call ∷ [])
+write-calls : Calls (Writes plan) start-to-write desk (write-call ∷ [])
 unfolding write-call
-write-calls = (small-octets time-reply time-small, write-met, tt)
+write-calls = ((small-octets time-reply time-small, write-met), tt)
 
 -- the theorem at this run
 pub write-so : EachWrites plan start-to-write desk untimed (write-call ∷ [])
@@ -214,7 +216,7 @@ pub executed : Executes plan request book (replicate 88 0) (taken .book) (taken 
 executed = write-acts plan request book (replicate 88 0) (small-octets book book-small) (small-octets request request-small) 55 (taken .book) (taken .reply) node-met kind-is
 
 -- and none of the conditions that document 01 adds stands against it
-added : Added plan request book (replicate 88 0) (small-octets book book-small) (small-octets request request-small)
+added : Added plan request book (replicate 88 0)
 added =
     let c = theorems.clear plan request book (replicate 88 0) (theorems.replied-is plan request book (replicate 88 0) 55 (taken .book) (taken .reply) node-met .0) in
     record {

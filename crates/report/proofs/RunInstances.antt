@@ -26,27 +26,21 @@ use Rattle.session.specs.Session.{askNow, kindAwaited}
 use Rattle.session.specs.Ranges.{standingRules, openRules, inRange}
 use Rattle.session.specs.Reply.{lengthsOk, awaited, isHeard, bears, replyLadder, recordLadder}
 use Rattle.client.specs.Turns.{Turn}
-use Rattle.store.proofs.Instances.{small, small-octets}
+use Rattle.terms.proofs.Small.{small, small-octets}
 use Rattle.client.proofs.Instances.Read as reads
 use Rattle.client.proofs.Instances.Read.{plan, ask, hash, poor, stamp-bytes, good, desk, desk-poor, desk-good, desk-full, desk-long}
 use Rattle.client.proofs.Instances.Write as writes
 use Rattle.report.specs.Triple.{Message}
 use Rattle.report.specs.Figure1.{initial}
 use Rattle.report.specs.Ours.{bearing, responseOf, responses}
-use Rattle.report.specs.Run.{ReadCalls, closing, closedOver, EachTells, AllClose, Apart, AllApart}
-use Rattle.report.specs.WriteRun.{WriteCalls, untimed, EachWrites}
+use Rattle.report.specs.Run.{closing, closedOver, EachTells, AllClose, Apart, AllApart}
+use Rattle.report.specs.WriteRun.{untimed, EachWrites}
 use Rattle.report.proofs.Run.{opened-read}
 use Rattle.report.proofs.Write.{opened-write}
 
 -- ---- the read
 abbrev pub read-calls : List Turn
 read-calls = reads.call-1 ∷ reads.call-2 ∷ reads.call-3 ∷ reads.call-4 ∷ reads.call-5 ∷ reads.call-6 ∷ []
-
-read-met : ReadCalls plan reads.start desk read-calls
-read-met =
-    let b = reads.replies-so in
-    let c = reads.calls in
-    (b .0, c .0, (b .2 .0, c .1 .0, (b .2 .2 .0, c .1 .1 .0, (b .2 .2 .2 .0, c .1 .1 .1 .0, (b .2 .2 .2 .2 .0, c .1 .1 .1 .1 .0, (b .2 .2 .2 .2 .2 .0, c .1 .1 .1 .1 .1 .0, tt))))))
 
 -- the response sets of its two rounds: a record of node 0, the first triple of node 1
 abbrev heard-in : List ℕ → List Message
@@ -139,7 +133,7 @@ desk-small = refl
 -- the theorem at this run
 pub read-repairs-so : EachTells plan reads.start desk [] read-calls × AllClose plan (closedOver plan reads.start desk [] read-calls)
 read-repairs-so =
-    opened-read plan ask reads.opened desk read-calls reads.opened-so refl desk-long (small-octets desk desk-small) read-met (subst AllApart (sym closed-so) apart-so)
+    opened-read plan ask reads.opened desk read-calls reads.opened-so refl desk-long (small-octets desk desk-small) reads.calls (subst AllApart (sym closed-so) apart-so)
 
 -- ---- the write
 abbrev pub write-calls : List Turn
@@ -147,7 +141,4 @@ write-calls = writes.call-1 ∷ writes.call-2 ∷ writes.call-3 ∷ writes.call-
 
 -- the theorem at this run
 pub write-done-so : EachWrites plan writes.start desk untimed write-calls
-write-done-so = opened-write plan ask writes.opened desk write-calls writes.opened-so refl write-met
-  where
-    write-met : WriteCalls plan writes.start desk write-calls
-    write-met = let b = writes.calls in (b .0, writes.met-1, (b .2 .0, writes.met-2, (b .2 .2 .0, writes.met-3, (b .2 .2 .2 .0, writes.met-4, tt))))
+write-done-so = opened-write plan ask writes.opened desk write-calls writes.opened-so refl writes.calls

@@ -50,8 +50,9 @@ use Rattle.report.specs.Triple.{Triple, Message, larger, MAX}
 use Rattle.report.specs.Figure2.{READ-TIMESTAMP, MAKE-CROSS-CHECKSUM, MAKE-TIMESTAMP, DO-WRITE, ts-written, WRITE}
 use Rattle.report.specs.Ours.{family, stampedAs, bearing, sending}
 use Rattle.client.specs.Turns as turns
-use Rattle.report.specs.WriteRun.{WriteCalls, Timed, untimed, timing, Wrote, Sending, EachWrites}
+use Rattle.report.specs.WriteRun.{Timed, untimed, timing, Wrote, Sending, EachWrites}
 use Rattle.report.proofs.Lists.{strung-row, listed-same}
+use Rattle.client.specs.Turns.{Writes, Calls}
 
 -- ---- the records of an item at a time are what DO_WRITE sends
 module _ (p : Plan) (t : ℕ) (i : List ℕ) (l : length i ≡ p .m * p .f) where
@@ -287,19 +288,19 @@ sent : (p : Plan) (s : Session) (d : List ℕ) (w : Timed) → s .stage ≡ Stor
 sent p s d w e k = let q : Sending p s d w × (length (s .marks) ≡ 16) = subst (λ (y : Stage). KeepsAt y p s d w) e k in q .0
 
 -- EACH CALL OF A WRITE SENDS AND TELLS WHAT FIGURE 2'S WRITE DOES
-pub write-run : (p : Plan) (s : Session) (d : List ℕ) (w : Timed) (cs : List turns.Turn) → Keeps p s d w → WriteCalls p s d cs → EachWrites p s d w cs
+pub write-run : (p : Plan) (s : Session) (d : List ℕ) (w : Timed) (cs : List turns.Turn) → Keeps p s d w → Calls (Writes p) s d cs → EachWrites p s d w cs
 write-run p s d w [] k r = tt
 write-run p s d w (c ∷ cs) k r =
     let q : Right p (leaves (saidOf (c .took .answer)) (c .took .session) (c .deskLeft)) (timing p s (c .reply) d (c .item) w) =
-    subst (λ (o : Leaves). Right p o (timing p s (c .reply) d (c .item) w)) (sym (r .1 .is)) (call-right p s (c .reply) d (c .item) w k) in (
+    subst (λ (o : Leaves). Right p o (timing p s (c .reply) d (c .item) w)) (sym (r .0 .1 .is)) (call-right p s (c .reply) d (c .item) w k) in (
       q .wrote,
       (λ e. sent p (c .took .session) (c .deskLeft) (timing p s (c .reply) d (c .item) w) e (q .keeps)),
-      write-run p (c .took .session) (c .deskLeft) (timing p s (c .reply) d (c .item) w) cs (q .keeps) (r .2),
+      write-run p (c .took .session) (c .deskLeft) (timing p s (c .reply) d (c .item) w) cs (q .keeps) (r .1),
     )
 
 -- FROM OPENING: no time is heard yet
 pub opened-write : (p : Plan) (a : Ask) (r : Opened) (d : List ℕ) (cs : List turns.Turn) → OpenCall Write p a r → r .answer ≡ Accepted
-    → WriteCalls p (r .session) d cs → EachWrites p (r .session) d untimed cs
+    → Calls (Writes p) (r .session) d cs → EachWrites p (r .session) d untimed cs
 opened-write p a r d cs call e h = write-run p (r .session) d untimed cs start h
   where
     fresh : Keeps p (freshOf Write 1 Free a) d untimed

@@ -52,13 +52,12 @@ use Rattle.session.specs.Reader.{sound, failing, actOn, actFor, closed, settled
 use Rattle.session.specs.Writer.{crossFor, stampFor, recordsFor}
 use Rattle.session.proofs.Kept.{Kept}
 use Rattle.client.specs.Endings.{afterReply, deskAfter}
-use Rattle.client.specs.Turns.{Turn, Turns, closedRounds}
-use Rattle.client.specs.Sessions.{Replies}
+use Rattle.client.specs.Turns.{Turn, Reads, Calls, closedRounds, Either}
 use Rattle.client.specs.Repair.{Holds, EachTurn, Rests}
 use Rattle.client.specs.Asks.{NotCounted}
 use Rattle.terms.proofs.Small.{small, small-octets}
 use Rattle.client.proofs.Counting.{counted-rounds}
-use Rattle.client.proofs.Sessions.{every-session, other-operation}
+use Rattle.client.proofs.Sessions.{every-session, either-way, other-operation}
 use Rattle.client.proofs.RepairRound.{repair-opens, repair-ends}
 use Rattle.client.proofs.Asks.{late-read-reply}
 use Rattle.client.proofs.ComesBack.{repair-comes-back}
@@ -206,14 +205,6 @@ unfolding reply-6 hash poor stamp-bytes good desk desk-poor desk-good desk-full 
     hashesOk timeZero fragmentHash alike put stampAt stampNumber then stored collected laid from regenerated among tabulate value
 met-6 = record { is = refl }
 
-pub calls : Turns plan start desk (call-1 ∷ call-2 ∷ call-3 ∷ call-4 ∷ call-5 ∷ call-6 ∷ [])
-calls = (met-1, (met-2, (met-3, (met-4, (met-5, (met-6, tt))))))
-
--- the rounds reported are the two that were closed, and the repair round is not counted
-pub counted-so : (2 ≡ closedRounds plan 0 start (call-1 ∷ call-2 ∷ call-3 ∷ call-4 ∷ call-5 ∷ call-6 ∷ [])) × (2 ≤ 2)
-unfolding plan
-counted-so = counted-rounds plan ask opened opened-so refl desk call-1 (call-2 ∷ call-3 ∷ call-4 ∷ call-5 ∷ call-6 ∷ []) calls 2 refl
-
 -- ---- the frames and the desk are bytes
 module _ where
   small-1 : small reply-1 ≡ true
@@ -244,20 +235,25 @@ module _ where
   unfolding small desk-good good stamp-bytes hash
   small-desk = refl
 
-pub replies-so : Replies plan start desk (call-1 ∷ call-2 ∷ call-3 ∷ call-4 ∷ call-5 ∷ call-6 ∷ [])
-replies-so = (
-  small-octets reply-1 small-1,
-  inr met-1,
+pub calls : Calls (Reads plan) start desk (call-1 ∷ call-2 ∷ call-3 ∷ call-4 ∷ call-5 ∷ call-6 ∷ [])
+calls = (
+  (small-octets reply-1 small-1, met-1),
   (
-    small-octets reply-2 small-2,
-    inr met-2,
+    (small-octets reply-2 small-2, met-2),
     (
-      small-octets reply-3 small-3,
-      inr met-3,
-      (small-octets reply-4 small-4, inr met-4, (small-octets reply-5 small-5, inr met-5, (small-octets reply-6 small-6, inr met-6, tt))),
+      (small-octets reply-3 small-3, met-3),
+      ((small-octets reply-4 small-4, met-4), ((small-octets reply-5 small-5, met-5), ((small-octets reply-6 small-6, met-6), tt))),
     ),
   ),
 )
+
+-- the rounds reported are the two that were closed, and the repair round is not counted
+pub counted-so : (2 ≡ closedRounds plan 0 start (call-1 ∷ call-2 ∷ call-3 ∷ call-4 ∷ call-5 ∷ call-6 ∷ [])) × (2 ≤ 2)
+unfolding plan
+counted-so = counted-rounds plan ask opened opened-so refl desk call-1 (call-2 ∷ call-3 ∷ call-4 ∷ call-5 ∷ call-6 ∷ []) calls 2 refl
+
+pub replies-so : Calls (Either plan) start desk (call-1 ∷ call-2 ∷ call-3 ∷ call-4 ∷ call-5 ∷ call-6 ∷ [])
+replies-so = either-way plan start desk (call-1 ∷ call-2 ∷ call-3 ∷ call-4 ∷ call-5 ∷ call-6 ∷ []) calls
 
 pub desk-long : length desk ≡ plan .n * recordLength plan
 unfolding plan desk recordLength
@@ -282,7 +278,7 @@ held-so =
 pub rested-so : EachTurn (Rests plan (closed plan (afterReply plan second-heard reply-4) (deskAfter plan reply-4 desk-good)) (deskAfter plan reply-4 desk-good) desk-full)
     (call-5 ∷ call-6 ∷ [])
 rested-so =
-    repair-ends plan second-heard reply-4 desk-good (0 ∷ []) refl (call-4 .took) desk-full (0 ∷ []) met-4 refl (call-5 ∷ call-6 ∷ []) (met-5, (met-6, tt))
+    repair-ends plan second-heard reply-4 desk-good (0 ∷ []) refl (call-4 .took) desk-full (0 ∷ []) met-4 refl (call-5 ∷ call-6 ∷ []) (calls .1 .1 .1 .1)
 
 -- ---- node 2 answers round 1 late, when round 2 has heard node 0: refused 10
 unfoldable pub late : List ℕ
@@ -301,7 +297,7 @@ asked-first = refl
 pub late-so : NotCounted (refused 10)
 late-so =
     late-read-reply plan start desk (call-1 ∷ call-2 ∷ call-3 ∷ [])
-    (small-octets reply-1 small-1, inr met-1, (small-octets reply-2 small-2, inr met-2, (small-octets reply-3 small-3, inr met-3, tt))) (λ a b. omega arith) late asked-first
+    (replies-so .0, (replies-so .1 .0, (replies-so .1 .1 .0, tt))) (λ a b. omega arith) late asked-first
     desk-good (0 ∷ []) (record { answer = Refused NotAwaited; session = second-heard }) desk-good (0 ∷ []) late-met .0
 
 -- ---- the item is the one that was written: the desk that the repair filled is the one that a writer of the byte 7 fills at time 1

@@ -38,7 +38,7 @@ use Rattle.session.specs.declared.opening.Opened.{Opened}
 use Rattle.session.specs.declared.opening.Opening.the-variants.{Accepted}
 use Rattle.session.proofs.Kept.{Kept}
 use Rattle.client.specs.Endings.{afterReply, deskAfter}
-use Rattle.client.specs.Turns.{Turn, Turns}
+use Rattle.client.specs.Turns.{Turn, Reads, Calls}
 use Rattle.client.specs.Repair.{Holds, EachTurn, Rests}
 use Rattle.client.proofs.Sessions.{every-session}
 use Rattle.terms.proofs.Small.{small, small-octets}
@@ -110,6 +110,10 @@ fragments-are = refl
 stored-by : ℕ → List ℕ
 stored-by k = (0 ∷ 0 ∷ 0 ∷ 51 ∷ 1 ∷ 4 ∷ k ∷ 0 ∷ 0 ∷ 0 ∷ 0 ∷ 0 ∷ 0 ∷ 0 ∷ 6 ∷ 0 ∷ 0 ∷ 0 ∷ 0 ∷ 0 ∷ 0 ∷ 0 ∷ 1 ∷ []) ++ replicate 32 0
 
+stored-small : (small (stored-by 0) ≡ true) × (small (stored-by 1) ≡ true) × (small (stored-by 3) ≡ true)
+unfolding small stored-by
+stored-small = (refl, refl, refl)
+
 turn-open : ℕ → Session → Turn
 turn-open k s =
     record { reply = stored-by k; item = item; took = record { answer = Open; session = markedOf s k Record }; deskLeft = left; itemLeft = item }
@@ -131,12 +135,15 @@ last-turn =
       itemLeft = 0 ∷ 128 ∷ [];
     }
 
-turns-so : Turns plan (took .session) left (first-turn ∷ second-turn ∷ last-turn ∷ [])
+turns-so : Calls (Reads plan) (took .session) left (first-turn ∷ second-turn ∷ last-turn ∷ [])
 unfolding first-turn second-turn last-turn turn-open stored-by plan slot desk session item took left readReply first planOk countsOk limitsOk columnOf all recordLength lengthsOk
     inRange standingRules openRules heardCount every slotsFit slotFits slotStamp underOf num numFrom part alike goodReply goodFrame shaped forParty oneOf bodyFits
     awaited askNow kindAwaited isHeard bears accepted stored collected laid from closeWith leadOf stepOf aheadOf setOf joinsOf repaired refilled slotFilled regenerated
     among tabulate value blend weightOf ratio xtime mulN mul square sumPow inv div put stampAt stampNumber then
-turns-so = (record { is = refl }, (record { is = refl }, (record { is = refl }, tt)))
+turns-so = (
+  (small-octets (stored-by 0) (stored-small .0), record { is = refl }),
+  ((small-octets (stored-by 1) (stored-small .1), record { is = refl }), ((small-octets (stored-by 3) (stored-small .2), record { is = refl }), tt)),
+)
 
 pub ends-so : EachTurn (Rests plan (closed plan (afterReply plan session frame) (deskAfter plan frame desk)) (deskAfter plan frame desk) left) (first-turn ∷ second-turn ∷ last-turn ∷ [])
 unfolding session took
@@ -174,7 +181,7 @@ pub every-so : Kept plan (heard-one .took .session) desk
 unfolding heard-one
 every-so =
     every-session Read plan (record { 0 = 5 }) opened opened-so opened-accepted desk desk-long (heard-one ∷ [])
-    (small-octets frame frame-small, inr heard-so, tt)
+    (inr (small-octets frame frame-small, heard-so), tt)
   where
     opened-accepted : opened .answer ≡ Accepted
     opened-accepted = unfold opened in refl

@@ -35,6 +35,7 @@ use Rattle.client.specs.Turns.{Turn}
 use Rattle.terms.proofs.Small.{small-octets}
 use Rattle.client.proofs.SameStamp.{stamp-comes-back}
 use Rattle.client.proofs.Instances.Read.{plan, hash, stamp-bytes, good, desk-good, desk-full, first-heard, cross, cross-so, stamp-so, written-so, plan-ok, seven-small}
+use Rattle.client.specs.SameStamp.{Bears}
 
 unfoldable pub second-reply : List ℕ
 second-reply = frame 7 1 5 good

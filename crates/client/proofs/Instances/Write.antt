@@ -33,8 +33,7 @@ use Rattle.session.specs.Ranges.{standingRules, openRules, inRange}
 use Rattle.session.specs.Reply.{lengthsOk, awaited, isHeard}
 use Rattle.session.specs.Writer.{timedOf, stampFor, recordsFor, leaves, timeEnd, timeTurn, writeTurn, acceptedWrite, writeReply, WriteReplyCall}
 use Rattle.session.proofs.Kept.{Kept}
-use Rattle.client.specs.Turns.{Turn}
-use Rattle.client.specs.Sessions.{Replies}
+use Rattle.client.specs.Turns.{Turn, Writes, Either, Calls}
 use Rattle.client.specs.Asks.{NotCounted}
 use Rattle.terms.proofs.Small.{small, small-octets}
 use Rattle.client.proofs.Sessions.{every-session}
@@ -117,19 +116,20 @@ write-small : (small (write-reply 0) ≡ true) × (small (write-reply 2) ≡ tru
 unfolding small write-reply stamp-bytes be beOnto
 write-small = (refl, refl)
 
-pub calls : Replies plan start desk (call-1 ∷ call-2 ∷ call-3 ∷ call-4 ∷ [])
+pub calls : Calls (Writes plan) start desk (call-1 ∷ call-2 ∷ call-3 ∷ call-4 ∷ [])
 calls = (
-  small-octets (time-reply 0) (time-small .0),
-  inl met-1,
+  (small-octets (time-reply 0) (time-small .0), met-1),
   (
-    small-octets (time-reply 1) (time-small .1),
-    inl met-2,
-    (small-octets (write-reply 0) (write-small .0), inl met-3, (small-octets (write-reply 2) (write-small .1), inl met-4, tt)),
+    (small-octets (time-reply 1) (time-small .1), met-2),
+    ((small-octets (write-reply 0) (write-small .0), met-3), ((small-octets (write-reply 2) (write-small .1), met-4), tt)),
   ),
 )
 
+replies-so : Calls (Either plan) start desk (call-1 ∷ call-2 ∷ call-3 ∷ call-4 ∷ [])
+replies-so = (inl (calls .0), (inl (calls .1 .0), (inl (calls .1 .1 .0), (inl (calls .1 .1 .1 .0), tt))))
+
 pub kept-so : Kept plan ended desk-full
-kept-so = every-session Write plan ask opened opened-so refl desk desk-long (call-1 ∷ call-2 ∷ call-3 ∷ call-4 ∷ []) calls
+kept-so = every-session Write plan ask opened opened-so refl desk desk-long (call-1 ∷ call-2 ∷ call-3 ∷ call-4 ∷ []) replies-so
 
 -- ---- node 2 answers the time round late, when the write round has heard node 0: refused 10
 late-met : WriteReplyCall plan once-stored (time-reply 2) desk-full (7 ∷ []) (record { answer = Refused NotAwaited; session = once-stored }) desk-full
@@ -143,6 +143,6 @@ asked-first = refl
 
 pub late-so : NotCounted (refused 10)
 late-so =
-    late-write-reply plan start desk (call-1 ∷ call-2 ∷ call-3 ∷ []) (calls .0, calls .1, (calls .2 .0, calls .2 .1, (calls .2 .2 .0, calls .2 .2 .1, tt)))
+    late-write-reply plan start desk (call-1 ∷ call-2 ∷ call-3 ∷ []) (replies-so .0, (replies-so .1 .0, (replies-so .1 .1 .0, tt)))
     (λ a b. let z : _≡_ {A = ℕ} 0 1 = cc in omega arith) (time-reply 2) asked-first desk-full (7 ∷ []) (record { answer = Refused NotAwaited; session = once-stored }) desk-full
     late-met .0

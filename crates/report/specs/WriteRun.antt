@@ -10,7 +10,6 @@ use mathlib.Core.Path.{_≡_}
 use mathlib.Core.Bool.{cond}
 use mathlib.Core.List.{List, [], _∷_}
 use lib.ListN.{length}
-use Rattle.octets.specs.Bytes.{Octets}
 use Rattle.terms.specs.Ladder.{first}
 use Rattle.terms.specs.Stamp.{time, stampNumber, top}
 use Rattle.terms.specs.declared.Plan.{Plan}

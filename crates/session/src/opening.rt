@@ -1,6 +1,7 @@
 // Opening a write and a read: document 01, "Refusal numbers", 1 and 13. No buffer is lent. The bound is a parameter inside, for reads
 // that start below a timestamp.
 use crate::Operation;
+use crate::Round;
 use crate::Session;
 use crate::Stage;
 use rounds::Bound;
@@ -33,11 +34,14 @@ impl Session {
     {
         let greatest = Time(0);
         let stamp = terms::zero_stamp();
+        let first = Round {
+            stage: Stage::Asking,
+            number: round,
+            bound: bound,
+        };
         Session {
             operation: operation,
-            stage: Stage::Asking,
-            round: round,
-            bound: bound,
+            round: first,
             opening: opening,
             greatest: greatest,
             stamp: stamp,

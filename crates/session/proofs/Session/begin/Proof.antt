@@ -23,19 +23,19 @@ at-ask c = next 13 (at-plan (c .before)) refl (ap not (sym (c .before .plan-ok .
 returns : tie.Need-returns
 unfolding openWith
 returns c =
-    stop _ _ (at-plan (c .before)) (ap not (sym (c .before .plan-ok .ensures)) ∙ c .if1 .taken) (ap (λ (s : Session). opens 1 s) (c .before .before .fresh .ensures))
+    stop _ _ (at-plan (c .before)) (ap not (sym (c .before .plan-ok .ensures)) ∙ c .if1 .taken) (ap (λ (s : Session). opens 1 s) (c .before .before .none .ensures))
 
 returns-2 : tie.Need-returns-2
 unfolding openWith
 returns-2 c =
     stop _ _ (at-ask (c .before .before)) (ap not (sym (c .before .opening-ok .ensures)) ∙ c .if2 .taken)
-    (ap (λ (s : Session). opens 13 s) (c .before .before .before .before .fresh .ensures))
+    (ap (λ (s : Session). opens 13 s) (c .before .before .before .before .none .ensures))
 
 returns-3 : tie.Need-returns-3
 unfolding openWith
 returns-3 c =
     end _ _ (next 0 (at-ask (c .before .before .before)) refl (ap not (sym (c .before .before .opening-ok .ensures)) ∙ c .before .if2 .left)) refl
-    (ap (λ (s : Session). opens 0 s) (c .fresh2 .ensures))
+    (ap (λ (s : Session). opens 0 s) (c .fresh .ensures))
 
 pub begin-spec : {M : Type 1} → statement M
 begin-spec =

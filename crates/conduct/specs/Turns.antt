@@ -31,7 +31,7 @@ Turns p s d (t ∷ ts) =
     ReadReplyCall p s (t .reply) d (t .item) (t .took) (t .deskLeft) (t .itemLeft) × Turns p (t .took .session) (t .deskLeft) ts
 
 abbrev pub counts : Session → Turn → Bool
-counts s t = isAsking (s .stage) and not (isRefused (saidOf (t .took .answer)))
+counts s t = isAsking (s .round .stage) and not (isRefused (saidOf (t .took .answer)))
 
 unfoldable pub closedRounds : Plan → ℕ → Session → List Turn → ℕ
 closedRounds p k s [] = 0

@@ -192,7 +192,7 @@ same-opening p s d (c ∷ cs) h =
 
 -- THE ASK NUMBER OF AN EARLIER ROUND IS SMALLER THAN THAT OF THE OPEN ONE: cs are the calls since s was handed back
 pub asks-rise : (p : Plan) (s : Session) (d : List ℕ) (cs : List Turn) → Calls (EitherTurn p) s d cs → IsOver s (lastSession s cs)
-    → isEnded (lastSession s cs .stage) ≡ false → askNow s < askNow (lastSession s cs)
+    → isEnded (lastSession s cs .round .stage) ≡ false → askNow s < askNow (lastSession s cs)
 asks-rise p s d cs h past going = go (later p s s d cs (same refl refl refl) h)
   where
     go : Later s (lastSession s cs) → askNow s < askNow (lastSession s cs)

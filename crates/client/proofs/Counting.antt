@@ -38,7 +38,7 @@ use Rattle.client.proofs.Round.Kept as kept
 
 -- ---- the rounds that a session has closed: those before the one that is open
 pub roundsBehind : Session → ℕ
-roundsBehind s = cond (isAsking (s .stage)) (s .round - 1) (s .round)
+roundsBehind s = cond (isAsking (s .round .stage)) (s .round .number - 1) (s .round .number)
 
 -- k replies were accepted in the read round that is open
 pub record At (s : Session) (k : ℕ) : Type 0 where
@@ -68,7 +68,7 @@ module _ (p : Plan) (s : Session) (f d i : List ℕ) (k : ℕ) (a : At s k) wher
   stays h = sym (add-zero (roundsBehind s))
 
   module _ (n : None (readLadder p s f d (length i))) where
-    ended-not : isEnded (s .stage) ≡ false
+    ended-not : isEnded (s .round .stage) ≡ false
     ended-not = clear (readLadder p s f d (length i)) n 14
 
     heard-not : isHeard s (frameNode f) ≡ false
@@ -87,7 +87,7 @@ module _ (p : Plan) (s : Session) (f d i : List ℕ) (k : ℕ) (a : At s k) wher
           kept.count-marked p s f (a .marks) in-marks heard-not
           ∙ ap (λ (x : ℕ). x + 1) (a .heard asking)
 
-      here : roundsBehind s ≡ s .round - 1
+      here : roundsBehind s ≡ s .round .number - 1
       unfolding roundsBehind
       here = rw asking
 
@@ -98,13 +98,13 @@ module _ (p : Plan) (s : Session) (f d i : List ℕ) (k : ℕ) (a : At s k) wher
       low : s .round .number ≤ p .w
       low = reading.low-round p s f d i n
 
-      one-more : roundsBehind s + 1 ≡ s .round
+      one-more : roundsBehind s + 1 ≡ s .round .number
       one-more = let h = here in let l = a .low in omega arith
 
-      ended : (o : Outcome) → o .session ≡ endedOf (afterReply p s f) → ((m : ℕ) → Reports (o .said) m → m ≡ s .round) → Step p s k o 1 0
+      ended : (o : Outcome) → o .session ≡ endedOf (afterReply p s f) → ((m : ℕ) → Reports (o .said) m → m ≡ s .round .number) → Step p s k o 1 0
       unfolding roundsBehind
       ended o e t =
-          let z : roundsBehind (o .session) ≡ s .round = rw e in
+          let z : roundsBehind (o .session) ≡ s .round .number = rw e in
           record {
             at = rw e (record { marks = length-marks (heardAs p f); heard = λ w. (let y : _≡_ {A = ℕ} 0 1 = cc in absurd (omega arith)); low = a .low });
             more = z ∙ sym one-more;
@@ -153,7 +153,7 @@ module _ (p : Plan) (s : Session) (f d i : List ℕ) (k : ℕ) (a : At s k) wher
               }))
 
     -- a repair round
-    in-repair : isStoring (s .stage) ≡ true → Turned p s k (readReply p s f d i)
+    in-repair : isStoring (s .round .stage) ≡ true → Turned p s k (readReply p s f d i)
     unfolding roundsBehind
     in-repair q = go (ltb (heardCount (markedOf s (frameNode f) Record .marks)) (replies p)) refl
       where
@@ -181,8 +181,8 @@ module _ (p : Plan) (s : Session) (f d i : List ℕ) (k : ℕ) (a : At s k) wher
   turned =
       subst (Turned p s k) (sym (reading.one-ladder p s f d i))
       (ladders.by-ladder (Turned p s k) (readLadder p s f d (length i)) (λ (j : ℕ). outcome (refused j) s d i) _
-      (λ j g. apart (side (isAsking (s .stage))) (record { at = a; more = sym (add-zero (roundsBehind s)); tells = λ m y. absurd y }))
-      (λ n. subst (Turned p s k) (reading.is-accepted p s f d i n) (go n (isStoring (s .stage)) refl)))
+      (λ j g. apart (side (isAsking (s .round .stage))) (record { at = a; more = sym (add-zero (roundsBehind s)); tells = λ m y. absurd y }))
+      (λ n. subst (Turned p s k) (reading.is-accepted p s f d i n) (go n (isStoring (s .round .stage)) refl)))
     where
       side : (x : Bool) → (x and false) ≡ false
       side true = refl

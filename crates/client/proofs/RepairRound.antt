@@ -146,7 +146,7 @@ module _ (p : Plan) (s : Session) (f d i : List ℕ) (past : isAsking (s .round 
       (λ g. counts (hearing p s f d (length i) e .going)))
 
 module _ (p : Plan) (u : Session) (e d : List ℕ) (r : Refilled p u e d) where
-  rests : (s : Session) (ts : List Turn) → isAsking (s .stage) ≡ false → Calls (ReadTurn p) s d ts → EachTurn (Rests p (closed p u e) e d) ts
+  rests : (s : Session) (ts : List Turn) → isAsking (s .round .stage) ≡ false → Calls (ReadTurn p) s d ts → EachTurn (Rests p (closed p u e) e d) ts
   rests s [] past h = tt
   rests s (t ∷ ts) past h =
       let x : Stays p s (t .reply) d (t .item) past _ = subst (Stays p s (t .reply) d (t .item) past) (sym (h .0 .1 .is)) (stays p s (t .reply) d (t .item) past) in
@@ -159,8 +159,8 @@ module _ (p : Plan) (u : Session) (e d : List ℕ) (r : Refilled p u e d) where
 
 -- WHATEVER REPLIES FOLLOW leave the desk so filled; the one that ends the read writes the item that the m lowest of the set decode to, from
 -- the desk as it was: what the desk's first m slots give
-pub repair-ends : (p : Plan) (s : Session) (f d i : List ℕ) → isStoring (s .stage) ≡ false → (t : Took) (d₂ i₂ : List ℕ) → ReadReplyCall p s f d i t d₂ i₂
-    → isStoring (t .session .stage) ≡ true → (ts : List Turn) → Calls (ReadTurn p) (t .session) d₂ ts
+pub repair-ends : (p : Plan) (s : Session) (f d i : List ℕ) → isStoring (s .round .stage) ≡ false → (t : Took) (d₂ i₂ : List ℕ) → ReadReplyCall p s f d i t d₂ i₂
+    → isStoring (t .session .round .stage) ≡ true → (ts : List Turn) → Calls (ReadTurn p) (t .session) d₂ ts
     → EachTurn (Rests p (closed p (afterReply p s f) (deskAfter p f d)) (deskAfter p f d) d₂) ts
 repair-ends p s f d i asks t d₂ i₂ call opens ts h =
     rests p (afterReply p s f) (deskAfter p f d) d₂ (refills p s f d i asks t d₂ i₂ call opens) (t .session) ts (not-asking (t .session .round .stage) opens) h

@@ -335,7 +335,7 @@ module _ (p : Plan) (s : Session) (f d i : List ℕ) (sets : List (List Message)
         subst (Same (responses p (set (s .marks) node (record { is = Record })) (put d (node * recordLength p) (bodyOf f)) (p .n)))
         (sym (puts p (commandOf (s .round .bound)) before (said-by p node (bodyOf f))
         (valid-record p node (bodyOf f) (omega (arith, long-body p f b, record-length p)) (octets-drop 15 f of) (body-passed b .timed) ∙ body-passed b .hashes)
-        (in-time-is (s .bound) (stamp (bodyOf f)) ∙ not-false (underOf (s .bound) (stamp (bodyOf f))) (rw b at (clear (recordLadder p s f) n₂ 12)))
+        (in-time-is (s .round .bound) (stamp (bodyOf f)) ∙ not-false (underOf (s .round .bound) (stamp (bodyOf f))) (rw b at (clear (recordLadder p s f) n₂ 12)))
         (unheard-has p (s .marks) d node (p .n) unmarked)))
         (record-after p (s .marks) d node node-low inside unmarked (bodyOf f) (k .desk) (long-body p f b))
 

@@ -76,9 +76,9 @@ positive (suc x) h = omega arith
 -- ---- what is known between two calls: by the stage, of the session, its desk and what was received
 -- in a read round: READ is to send what the bound says, and the marks and slots are the response set of its DO_READ
 pub record Asks (p : Plan) (s : Session) (d : List ℕ) (w : Polled) : Type 0 where
-  pub decision : READ (family p) (w .rounds) ≡ reading (commandOf (s .bound))
-  pub rounds : s .round ≡ suc (length (w .rounds))
-  pub set : DO-READ (family p) (commandOf (s .bound)) (w .now) ≡ responses p (s .marks) d (p .n)
+  pub decision : READ (family p) (w .rounds) ≡ reading (commandOf (s .round .bound))
+  pub rounds : s .round .number ≡ suc (length (w .rounds))
+  pub set : DO-READ (family p) (commandOf (s .round .bound)) (w .now) ≡ responses p (s .marks) d (p .n)
   pub desk : length d ≡ p .n * recordLength p
   pub octets : Octets d
   pub size : length (s .marks) ≡ 16
@@ -91,7 +91,7 @@ pub record Stores (p : Plan) (s : Session) (d : List ℕ) (closed : List (List M
   pub decision : READ (family p) closed ≡ repaired sent (stampNumber (s .stamp)) Data
   pub sends : sending p d ≡ sent
   pub holds : strung (fragmentIn p d) (p .m) ≡ Data
-  pub rounds : s .round ≡ length closed
+  pub rounds : s .round .number ≡ length closed
   pub size : length (s .marks) ≡ 16
 
 abbrev pub KeepsAt : Stage → Plan → Session → List ℕ → Polled → Type 0
@@ -100,7 +100,7 @@ KeepsAt Storing p s d w = Stores p s d (w .rounds)
 KeepsAt Ended p s d w = Unit {0}
 
 abbrev pub Keeps : Plan → Session → List ℕ → Polled → Type 0
-Keeps p s d w = KeepsAt (s .stage) p s d w
+Keeps p s d w = KeepsAt (s .round .stage) p s d w
 
 -- what a call leaves, and what it says
 pub record Leaves (p : Plan) (o : Outcome) (w : Polled) : Type 0 where
@@ -109,8 +109,8 @@ pub record Leaves (p : Plan) (o : Outcome) (w : Polled) : Type 0 where
   pub full : AllFull p (w .rounds)
 
 -- ---- a read round after a mark, w with the message that was heard
-module _ (p : Plan) (s : Session) (d i : List ℕ) (w : Polled) (st : s .stage ≡ Asking) (k : Asks p s d w)
-    (ok : planOk p ≡ true) (li : length i ≡ p .m * p .f) (rest : restUnheard (s .marks) (p .n) ≡ true) (few : s .round ≤ p .w)
+module _ (p : Plan) (s : Session) (d i : List ℕ) (w : Polled) (st : s .round .stage ≡ Asking) (k : Asks p s d w)
+    (ok : planOk p ≡ true) (li : length i ≡ p .m * p .f) (rest : restUnheard (s .marks) (p .n) ≡ true) (few : s .round .number ≤ p .w)
     (most : heardCount (s .marks) ≤ replies p) (sz : AllFull p (w .rounds)) where
   abbrev set-now : List Message
   set-now = responses p (s .marks) d (p .n)
@@ -121,14 +121,14 @@ module _ (p : Plan) (s : Session) (d i : List ℕ) (w : Polled) (st : s .stage �
   set-is : ResponseSet (family p) (w .rounds) (w .now) ≡ set-now
   set-is = ap (λ (x : Decision). gathered (family p) x (w .now)) (k .decision) ∙ k .set
 
-  count-is : length (DO-READ (family p) (commandOf (s .bound)) (w .now)) ≡ heardCount (s .marks)
+  count-is : length (DO-READ (family p) (commandOf (s .round .bound)) (w .now)) ≡ heardCount (s .marks)
   count-is = ap length (k .set) ∙ size-is p (s .marks) d rest
 
   still : heardCount (s .marks) < replies p → Leaves p (outcome stillOpen s d i) w
   still l =
       record {
         keeps = subst (λ (x : Stage). KeepsAt x p s d w) (sym st) k;
-        tells = inl (record { command = commandOf (s .bound); is = k .decision; few = omega (arith, count-is, l) });
+        tells = inl (record { command = commandOf (s .round .bound); is = k .decision; few = omega (arith, count-is, l) });
         full = sz;
       }
 
@@ -154,9 +154,9 @@ module _ (p : Plan) (s : Session) (d i : List ℕ) (w : Polled) (st : s .stage �
     loop-next = ap (λ (x : Decision). goes-on (family p) x (w .now)) (k .decision) ∙ ap (LOOP (family p)) (k .set)
 
     full-now : AllFull p (w .now ∷ w .rounds)
-    full-now = (record { command = commandOf (s .bound); asked = k .decision; full = count-is ∙ omega (arith, most, enough) }, sz)
+    full-now = (record { command = commandOf (s .round .bound); asked = k .decision; full = count-is ∙ omega (arith, most, enough) }, sz)
 
-    counted : s .round ≡ length (w .now ∷ w .rounds)
+    counted : s .round .number ≡ length (w .now ∷ w .rounds)
     counted = k .rounds
 
     by-decision : (o : Outcome) (x : Decision) → READ (family p) (w .now ∷ w .rounds) ≡ x → Decides p s d i o x → Leaves p o rolled-over
@@ -179,15 +179,15 @@ module _ (p : Plan) (s : Session) (d i : List ℕ) (w : Polled) (st : s .stage �
         })
     by-decision o ABORT e c = subst (λ (y : Outcome). Leaves p y rolled-over) (sym c) (record { keeps = tt; tells = (e, counted); full = full-now })
     by-decision o (reading READ-LATEST) e c = absurd c
-    by-decision o (reading (READ-PREVIOUS ts)) e c = go (leb (p .w) (s .round)) refl
+    by-decision o (reading (READ-PREVIOUS ts)) e c = go (leb (p .w) (s .round .number)) refl
       where
-        go : (t : Bool) → leb (p .w) (s .round) ≡ t → Leaves p o rolled-over
+        go : (t : Bool) → leb (p .w) (s .round .number) ≡ t → Leaves p o rolled-over
         go true z =
-            let l = leb-true (p .w) (s .round) z in
+            let l = leb-true (p .w) (s .round .number) z in
             subst (λ (y : Outcome). Leaves p y rolled-over) (sym (c .cut l))
             (record { keeps = tt; tells = (record { ts = ts; is = e; cut = omega (arith, few, l) }, counted); full = full-now })
         go false z =
-            let l = leb-false (p .w) (s .round) z in
+            let l = leb-false (p .w) (s .round .number) z in
             let is : READ (family p) (w .now ∷ w .rounds) ≡ reading (READ-PREVIOUS (stampNumber (c .stamp))) = e ∙ ap (λ (x : ℕ). reading (READ-PREVIOUS x)) (sym (c .number)) in
             subst (λ (y : Outcome). Leaves p y rolled-over) (sym (c .next l))
             (record {
@@ -249,14 +249,14 @@ module _ (p : Plan) (d i : List ℕ) (ok : planOk p ≡ true) (ld : length d ≡
       own : (k : ℕ) → k < p .m → regenerated d head (recordLength p) (p .f) (from 0 (p .m)) k ≡ fragmentIn p d k
       own k h = sym (itself d head (recordLength p) (p .f) (from 0 (p .m)) k (sym (among-from k (p .m) ∙ lt-ltb k (p .m) h))) ∙ sym (fragment-place p d k)
 
-  stores : (s : Session) (f : List ℕ) (w : Polled) → s .stage ≡ Storing → Stores p s d (w .rounds) → AllFull p (w .rounds)
+  stores : (s : Session) (f : List ℕ) (w : Polled) → s .round .stage ≡ Storing → Stores p s d (w .rounds) → AllFull p (w .rounds)
       → heardCount (markedOf s (frameNode f) Record .marks) ≤ replies p → Leaves p (stored p s f d i) w
   unfolding stored
   stores s f w st k sz most = go (ltb (heardCount (markedOf s (frameNode f) Record .marks)) (replies p)) refl
     where
       go : (t : Bool) → ltb (heardCount (markedOf s (frameNode f) Record .marks)) (replies p) ≡ t
           → Leaves p (cond t (outcome stillOpen (markedOf s (frameNode f) Record) d i)
-          (outcome (done (stampNumber (s .stamp)) (s .round)) (endedOf (markedOf s (frameNode f) Record)) d (collected p d i))) w
+          (outcome (done (stampNumber (s .stamp)) (s .round .number)) (endedOf (markedOf s (frameNode f) Record)) d (collected p d i))) w
       go true e =
           record {
             keeps = subst (λ (x : Stage). KeepsAt x p (markedOf s (frameNode f) Record) d w) (sym st)
@@ -306,7 +306,7 @@ module _ (p : Plan) (s : Session) (f d i : List ℕ) (w : Polled) where
 
   -- what its being a message says: it came in a read round, and seven of the refusals do not apply
   record IsMessage : Type 0 where
-    asks : isAsking (s .stage) ≡ true
+    asks : isAsking (s .round .stage) ≡ true
     r1 : rung 1 ladder ≡ false
     r2 : rung 2 ladder ≡ false
     r9 : rung 9 ladder ≡ false
@@ -318,7 +318,7 @@ module _ (p : Plan) (s : Session) (f d i : List ℕ) (w : Polled) where
   is-message : isMessage p s f d (length i) ≡ true → IsMessage
   unfolding all each
   is-message e =
-      let m = both (isAsking (s .stage)) _ e in
+      let m = both (isAsking (s .round .stage)) _ e in
       let e1 = both (not (rung 1 ladder)) _ (m .1) in
       let e2 = both (not (rung 2 ladder)) _ (e1 .1) in
       let e9 = both (not (rung 9 ladder)) _ (e2 .1) in
@@ -338,7 +338,7 @@ module _ (p : Plan) (s : Session) (f d i : List ℕ) (w : Polled) where
       }
 
   -- where no refusal applies in a read round, it is one
-  message-is : None ladder → isAsking (s .stage) ≡ true → isMessage p s f d (length i) ≡ true
+  message-is : None ladder → isAsking (s .round .stage) ≡ true → isMessage p s f d (length i) ≡ true
   unfolding all each
   message-is n a =
       rw (a, clear ladder n 1, clear ladder n 2, clear ladder n 9, clear ladder n 14, clear ladder n 4, clear ladder n 10, clear ladder n 5)
@@ -362,8 +362,8 @@ module _ (p : Plan) (s : Session) (f d i : List ℕ) (w : Polled) where
     at-asking Storing e = absurd (clash (sym e))
     at-asking Ended e = absurd (clash (sym e))
 
-    st : s .stage ≡ Asking
-    st = at-asking (s .stage) (m .asks)
+    st : s .round .stage ≡ Asking
+    st = at-asking (s .round .stage) (m .asks)
 
     k : Asks p s d w
     k = subst (λ (x : Stage). KeepsAt x p s d w) st keep
@@ -374,12 +374,12 @@ module _ (p : Plan) (s : Session) (f d i : List ℕ) (w : Polled) where
     abbrev before : List Message
     before = responses p (s .marks) d (p .n)
 
-    next-set : DO-READ (family p) (commandOf (s .bound)) (messageOf p f ∷ w .now) ≡ receives (family p) (commandOf (s .bound)) before (messageOf p f)
+    next-set : DO-READ (family p) (commandOf (s .round .bound)) (messageOf p f ∷ w .now) ≡ receives (family p) (commandOf (s .round .bound)) before (messageOf p f)
     unfolding DO-READ
-    next-set = ap (λ (R : List Message). receives (family p) (commandOf (s .bound)) R (messageOf p f)) (k .set)
+    next-set = ap (λ (R : List Message). receives (family p) (commandOf (s .round .bound)) R (messageOf p f)) (k .set)
 
     -- a message that DO_READ leaves out, and a call that refuses it
-    left-out : (j : ℕ) → receives (family p) (commandOf (s .bound)) before (messageOf p f) ≡ before → Leaves p (refuse j) (rolled p with-message)
+    left-out : (j : ℕ) → receives (family p) (commandOf (s .round .bound)) before (messageOf p f) ≡ before → Leaves p (refuse j) (rolled p with-message)
     left-out j e =
         subst (λ (x : Polled). Leaves p (refuse j) x) (sym waits)
         (record {
@@ -402,7 +402,7 @@ module _ (p : Plan) (s : Session) (f d i : List ℕ) (w : Polled) where
 
         waits : rolled p with-message ≡ with-message
         waits =
-            rolled-is p s d i with-message st after plan-ok (lengths .item-is) (ranges .0 .rest) (leb-true (s .round) (p .w) (ranges .0 .high)) (omega (arith, few)) sz
+            rolled-is p s d i with-message st after plan-ok (lengths .item-is) (ranges .0 .rest) (leb-true (s .round .number) (p .w) (ranges .0 .high)) (omega (arith, few)) sz
             ∙ rw (lt-ltb (heardCount (s .marks)) (replies p) few)
 
     -- 11: heard already
@@ -411,7 +411,7 @@ module _ (p : Plan) (s : Session) (f d i : List ℕ) (w : Polled) where
     heard-again h =
         subst (λ (o : Outcome). Leaves p o (rolled p with-message))
         (stop refuse (accepted p s f d i) (down-to 11 (m .r1, (m .r2, (m .r9, (m .r14, (m .r4, (m .r10, tt))))))) h refl)
-        (left-out 11 (heard-hears p (commandOf (s .bound)) before (messageOf p f) (heard-has p (s .marks) d node (p .n) node-low h)))
+        (left-out 11 (heard-hears p (commandOf (s .round .bound)) before (messageOf p f) (heard-has p (s .marks) d node (p .n) node-low h)))
 
     module _ (h : isHeard s node ≡ false) where
       unmarked : markOf (s .marks) node ≡ Unheard
@@ -424,7 +424,7 @@ module _ (p : Plan) (s : Session) (f d i : List ℕ) (w : Polled) where
       -- the state after a mark, with the slot as the desk has it then
       module _ (mark : Mark) (one : bitOf (mark .is) ≡ 1) (e : List ℕ)
           (hears : responses p (set (s .marks) node mark) e (p .n) ≡ with-it (messageOf p f) before)
-          (valid : VALIDATE (family p) (messageOf p f) ≡ true) (timely : in-time (commandOf (s .bound)) (messageOf p f .Response .ts) ≡ true)
+          (valid : VALIDATE (family p) (messageOf p f) ≡ true) (timely : in-time (commandOf (s .round .bound)) (messageOf p f .Response .ts) ≡ true)
           (long : length e ≡ p .n * recordLength p) (bytes : Octets e)
           (passed : (j : ℕ) → j < p .n → markOf (set (s .marks) node mark) j ≡ Record → Passed p j (slotOf p e j)) where
         marked : Asks p (markedOf s node (mark .is)) e with-message
@@ -432,7 +432,7 @@ module _ (p : Plan) (s : Session) (f d i : List ℕ) (w : Polled) where
             record {
               decision = k .decision;
               rounds = k .rounds;
-              set = next-set ∙ puts p (commandOf (s .bound)) before (messageOf p f) valid timely (unheard-has p (s .marks) d node (p .n) unmarked) ∙ sym hears;
+              set = next-set ∙ puts p (commandOf (s .round .bound)) before (messageOf p f) valid timely (unheard-has p (s .marks) d node (p .n) unmarked) ∙ sym hears;
               desk = long;
               octets = bytes;
               size = length-set (s .marks) node mark ∙ k .size;
@@ -442,7 +442,7 @@ module _ (p : Plan) (s : Session) (f d i : List ℕ) (w : Polled) where
         settled-so : AllApart p (rolled p with-message .rounds) → Leaves p (settled p (markedOf s node (mark .is)) e i) (rolled p with-message)
         settled-so =
             settles p (markedOf s node (mark .is)) e i with-message st marked plan-ok (lengths .item-is) (rest-set (s .marks) (p .n) node mark node-low ∙ ranges .0 .rest)
-            (leb-true (s .round) (p .w) (ranges .0 .high))
+            (leb-true (s .round .number) (p .w) (ranges .0 .high))
             (let n16 = plan-is p plan-ok .n-high in omega (arith, count-set (s .marks) node mark inside unmarked one, few)) sz
 
       accepts : None ladder → Leaves p (heard p s f d i) (rolled p with-message) → Leaves p (readReply p s f d i) (rolled p with-message)
@@ -462,7 +462,7 @@ module _ (p : Plan) (s : Session) (f d i : List ℕ) (w : Polled) where
           (settled-so (record { is = First }) refl d
           (first-after p (s .marks) d node node-low inside unmarked ∙ ap (λ (x : Message). with-it x before) (sym says))
           (ap (VALIDATE (family p)) says ∙ valid-first p node)
-          (ap (λ (x : Message). in-time (commandOf (s .bound)) (x .Response .ts)) says ∙ first-in-time (s .bound) (s .round) (ranges .0 .bounded))
+          (ap (λ (x : Message). in-time (commandOf (s .round .bound)) (x .Response .ts)) says ∙ first-in-time (s .round .bound) (s .round .number) (ranges .0 .bounded))
           (k .desk) (k .octets) (λ j l v. go j l v (ℕ-discrete j node)) a))
         where
           says : messageOf p f ≡ said-first node
@@ -489,28 +489,28 @@ module _ (p : Plan) (s : Session) (f d i : List ℕ) (w : Polled) where
             ap (VALIDATE (family p)) says-record
             ∙ valid-record p node (bodyOf f) (omega (arith, long-body p f b, record-length p)) (octets-drop 15 f of) timed
 
-        timely-is : in-time (commandOf (s .bound)) (messageOf p f .Response .ts) ≡ underOf (s .bound) (stamp (bodyOf f))
-        timely-is = ap (λ (x : Message). in-time (commandOf (s .bound)) (x .Response .ts)) says-record ∙ in-time-is (s .bound) (stamp (bodyOf f))
+        timely-is : in-time (commandOf (s .round .bound)) (messageOf p f .Response .ts) ≡ underOf (s .round .bound) (stamp (bodyOf f))
+        timely-is = ap (λ (x : Message). in-time (commandOf (s .round .bound)) (x .Response .ts)) says-record ∙ in-time-is (s .round .bound) (stamp (bodyOf f))
 
         bad-hash : hashesOk p node (bodyOf f) ≡ false → Leaves p (readReply p s f d i) (rolled p with-message)
         unfolding readReply
         bad-hash e =
             subst (λ (o : Outcome). Leaves p o (rolled p with-message))
             (stop refuse (accepted p s f d i) (down-to 6 (m .r1, (m .r2, (m .r9, (m .r14, (m .r4, (m .r10, (h, (m .r5, tt))))))))) (rw (b, e)) refl)
-            (left-out 6 (hash-hears p (commandOf (s .bound)) before (messageOf p f) (valid-is ∙ e)))
+            (left-out 6 (hash-hears p (commandOf (s .round .bound)) before (messageOf p f) (valid-is ∙ e)))
 
         module _ (v : hashesOk p node (bodyOf f) ≡ true) where
-          too-late : underOf (s .bound) (stamp (bodyOf f)) ≡ false → Leaves p (readReply p s f d i) (rolled p with-message)
+          too-late : underOf (s .round .bound) (stamp (bodyOf f)) ≡ false → Leaves p (readReply p s f d i) (rolled p with-message)
           unfolding readReply
           too-late e =
               subst (λ (o : Outcome). Leaves p o (rolled p with-message))
               (stop refuse (accepted p s f d i) (down-to 12 (m .r1, (m .r2, (m .r9, (m .r14, (m .r4, (m .r10, (h, (m .r5, (rw (b, v), tt)))))))))) (rw (b, e)) refl)
-              (left-out 12 (late-hears p (commandOf (s .bound)) before (messageOf p f) (timely-is ∙ e)))
+              (left-out 12 (late-hears p (commandOf (s .round .bound)) before (messageOf p f) (timely-is ∙ e)))
 
           abbrev desk-after : List ℕ
           desk-after = put d (node * recordLength p) (bodyOf f)
 
-          record-right : underOf (s .bound) (stamp (bodyOf f)) ≡ true → AllApart p (rolled p with-message .rounds)
+          record-right : underOf (s .round .bound) (stamp (bodyOf f)) ≡ true → AllApart p (rolled p with-message .rounds)
               → Leaves p (readReply p s f d i) (rolled p with-message)
           unfolding heard
           record-right u a =
@@ -536,13 +536,13 @@ module _ (p : Plan) (s : Session) (f d i : List ℕ) (w : Polled) where
     message-right of a = by-heard (isHeard s node) refl
       where
         by-bound : (h : isHeard s node ≡ false) (b : bears p f ≡ true) (v : hashesOk p node (bodyOf f) ≡ true)
-            → (t : Bool) → underOf (s .bound) (stamp (bodyOf f)) ≡ t → Leaves p (readReply p s f d i) (rolled p with-message)
+            → (t : Bool) → underOf (s .round .bound) (stamp (bodyOf f)) ≡ t → Leaves p (readReply p s f d i) (rolled p with-message)
         by-bound h b v true e = record-right h of b v e a
         by-bound h b v false e = too-late h of b v e
 
         by-hash : (h : isHeard s node ≡ false) (b : bears p f ≡ true) → (t : Bool) → hashesOk p node (bodyOf f) ≡ t
             → Leaves p (readReply p s f d i) (rolled p with-message)
-        by-hash h b true e = by-bound h b e (underOf (s .bound) (stamp (bodyOf f))) refl
+        by-hash h b true e = by-bound h b e (underOf (s .round .bound) (stamp (bodyOf f))) refl
         by-hash h b false e = bad-hash h of b e
 
         by-body : (h : isHeard s node ≡ false) → (t : Bool) → bears p f ≡ t → Leaves p (readReply p s f d i) (rolled p with-message)
@@ -555,9 +555,9 @@ module _ (p : Plan) (s : Session) (f d i : List ℕ) (w : Polled) where
 
   -- any other frame: refused, or a reply of a repair round
   module _ (keep : Keeps p s d w) (sz : AllFull p (w .rounds)) where
-    in-repair : None ladder → isAsking (s .stage) ≡ false → Leaves p (accepted p s f d i) w
+    in-repair : None ladder → isAsking (s .round .stage) ≡ false → Leaves p (accepted p s f d i) w
     unfolding accepted isHeard
-    in-repair n a = go (s .stage) refl
+    in-repair n a = go (s .round .stage) refl
       where
         plan-so : planOk p ≡ true
         plan-so = not-false (planOk p) (clear ladder n 1)
@@ -576,7 +576,7 @@ module _ (p : Plan) (s : Session) (f d i : List ℕ) (w : Polled) where
             let c = count-set (s .marks) node (record { is = Record }) (omega (arith, low, l)) (not-heard (markOf (s .marks) node) (clear ladder n 11)) refl in
             omega (arith, c, ltb-true (heardCount (s .marks)) (replies p) (opens .1 .few))
 
-        go : (x : Stage) → s .stage ≡ x → Leaves p (cond (isStoring x) (stored p s f d i) (heard p s f d i)) w
+        go : (x : Stage) → s .round .stage ≡ x → Leaves p (cond (isStoring x) (stored p s f d i) (heard p s f d i)) w
         go Asking e = absurd (clash (sym (ap isAsking e) ∙ a))
         go Storing e =
             let q : Stores p s d (w .rounds) = subst (λ (x : Stage). KeepsAt x p s d w) e keep in
@@ -587,9 +587,9 @@ module _ (p : Plan) (s : Session) (f d i : List ℕ) (w : Polled) where
     other-right e =
         subst (λ (o : Outcome). Leaves p o w) (sym (one-ladder p s f d i))
         (by-ladder (λ (o : Outcome). Leaves p o w) ladder refuse (accepted p s f d i) (λ j g. record { keeps = keep; tells = tt; full = sz })
-        (λ n. in-repair n (go n (isAsking (s .stage)) refl)))
+        (λ n. in-repair n (go n (isAsking (s .round .stage)) refl)))
       where
-        go : None ladder → (t : Bool) → isAsking (s .stage) ≡ t → t ≡ false
+        go : None ladder → (t : Bool) → isAsking (s .round .stage) ≡ t → t ≡ false
         go n true a = sym (message-is n a) ∙ e
         go n false a = refl
 
@@ -618,7 +618,7 @@ runs-fewer p s d w [] a = a
 runs-fewer p s d w (c ∷ cs) a =
     fewer p s (c .reply) d (c .item) w (runs-fewer p (c .took .session) (c .deskLeft) (polls p s (c .reply) d (length (c .item)) w) cs a)
 
-repairing : (p : Plan) (s : Session) (d : List ℕ) (w : Polled) → s .stage ≡ Storing → Keeps p s d w → Repairing p s d (w .rounds)
+repairing : (p : Plan) (s : Session) (d : List ℕ) (w : Polled) → s .round .stage ≡ Storing → Keeps p s d w → Repairing p s d (w .rounds)
 repairing p s d w e k =
     let q : Stores p s d (w .rounds) = subst (λ (x : Stage). KeepsAt x p s d w) e k in
     record { Data = q .Data; is = q .decision ∙ ap (λ (l : List Message). repaired l (stampNumber (s .stamp)) (q .Data)) (sym (q .sends)) }

@@ -70,7 +70,7 @@ messageOf p f = record { S = frameNode f; Response = cond (bears p f) (tripleOf 
 -- (01) the frames that are messages of the round: those of a call, a session and a round that are in order (1, 2, 9, 14), of the right form (4), with
 -- the ask number and the kind of this round (10), and with a time that a record may have (5). 6, 11 and 12 are DO_READ's own tests
 abbrev pub isMessage : Plan → Session → List ℕ → List ℕ → ℕ → Bool
-isMessage p s f d item = isAsking (s .stage) and all (each (λ (k : ℕ). not (rung k (readLadder p s f d item))) (1 ∷ 2 ∷ 9 ∷ 14 ∷ 4 ∷ 10 ∷ 5 ∷ []))
+isMessage p s f d item = isAsking (s .round .stage) and all (each (λ (k : ℕ). not (rung k (readLadder p s f d item))) (1 ∷ 2 ∷ 9 ∷ 14 ∷ 4 ∷ 10 ∷ 5 ∷ []))
 
 -- line 16: a round that has N - t responses is closed
 abbrev pub rolled : Plan → Polled → Polled
@@ -128,7 +128,7 @@ abbrev pub EachTells : Plan → Session → List ℕ → Polled → List Turn �
 EachTells p s d before [] = Unit {0}
 EachTells p s d before (c ∷ cs) =
     Tells p (c .took .session) (saidOf (c .took .answer)) (c .itemLeft) (polls p s (c .reply) d (length (c .item)) before)
-    × (c .took .session .stage ≡ Storing → Repairing p (c .took .session) (c .deskLeft) (polls p s (c .reply) d (length (c .item)) before .rounds))
+    × (c .took .session .round .stage ≡ Storing → Repairing p (c .took .session) (c .deskLeft) (polls p s (c .reply) d (length (c .item)) before .rounds))
     × EachTells p (c .took .session) (c .deskLeft) (polls p s (c .reply) d (length (c .item)) before) cs
 
 -- a closed round: READ was to send a command, and what DO_READ gathered for it has N - t responses (line 16)

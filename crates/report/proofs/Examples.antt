@@ -10,7 +10,7 @@ use Rattle.octets.specs.Bytes.{alike}
 use Rattle.report.specs.Triple.{Triple, Message, null, suchThat, each, MAX, upTo, strung, Family}
 use Rattle.report.specs.Figure1 as node
 use Rattle.report.specs.Figure1.{initial, RECEIVE-TIME-REQUEST, RECEIVE-WRITE-REQUEST, Latest, RECEIVE-READ-LATEST, PreHistory, RECEIVE-READ-PREVIOUS}
-use Rattle.report.specs.Figure2.{READ-TIMESTAMP, MAKE-CROSS-CHECKSUM, DO-WRITE}
+use Rattle.report.specs.Figure2.{Clock, in-set, GATHERED, Times, READ-TIMESTAMP, MAKE-CROSS-CHECKSUM, DO-WRITE}
 use Rattle.report.specs.Figure3.{READ-LATEST, READ-PREVIOUS, returned, repaired, ABORT, reading, VALIDATE, in-time, has, with-it, receives, DO-READ, ts-candidate, CandidateSet, CC-of, of-first-triple, VALIDATE-CANDIDATE-SET, LOOP, READ}
 
 -- a hash of a string is its length; a cross checksum says it once for all; a fragment is the number of its node; what is decoded is the set's size
@@ -69,8 +69,12 @@ unfolding RECEIVE-WRITE-REQUEST node.VALIDATE toy alike
 write-good = refl
 
 -- ---- Figure 2
-time-10 : READ-TIMESTAMP (7 ∷ 9 ∷ 9 ∷ 4 ∷ []) ≡ 10
-unfolding READ-TIMESTAMP MAX
+-- four nodes answer, and node 3 once more, which is not counted
+abbrev clock : ℕ → ℕ → Clock
+clock S time = record { S = S; Time = time }
+
+time-10 : READ-TIMESTAMP (clock 0 7 ∷ clock 3 12 ∷ clock 1 9 ∷ clock 2 9 ∷ clock 3 4 ∷ []) ≡ 10
+unfolding READ-TIMESTAMP Times GATHERED in-set each MAX
 time-10 = refl
 
 -- ---- Figure 3

@@ -46,13 +46,13 @@ use Rattle.node.specs.declared.Made.the-variants.{Fresh}
 use Rattle.node.specs.Fresh.{FreshCall, freshened}
 use Rattle.store.specs.History.{Call}
 use Rattle.store.proofs.Node as theorems
-use Rattle.report.specs.Triple.{Message, each, Same}
+use Rattle.report.specs.Triple.{Message, Same}
 use Rattle.report.specs.Figure1.{INITIALIZE}
 use Rattle.report.specs.Ours.{family, verifierIn, history}
 use Rattle.client.specs.Turns as turns
 use Rattle.terms.proofs.Small.{small, small-octets}
 use Rattle.report.specs.Run.{received, Polled, unpolled, messageOf, polls, polledOver, EachTells, AllFull, Apart, AllApart}
-use Rattle.report.specs.WriteRun.{untimed, EachWrites}
+use Rattle.report.specs.WriteRun.{noneOf, untimed, EachWrites}
 use Rattle.report.proofs.Node.{write-acts, fresh-run}
 use Rattle.report.proofs.Run.{opened-read}
 use Rattle.report.proofs.Write.{opened-write}
@@ -126,9 +126,9 @@ gathered-one : ResponseSet (family plan) [] (heard-one ∷ []) ≡ heard-one ∷
 unfolding heard-one READ DO-READ receives VALIDATE figure1.VALIDATE in-time has with-it verifierIn alike bears reply rec recordLength num numFrom part be beOnto sha256 after compressOf addedOf roundsOf roundOf T1 T2 scheduleOf words padding bigEndian K
 gathered-one = refl
 
-closed-one : polls plan start reply desk 1 unpolled ≡ record { rounds = (heard-one ∷ []) ∷ []; now = [] }
-unfolding polls heard-one reply desk rec planOk countsOk limitsOk columnOf all each recordLength lengthsOk inRange standingRules openRules every heardCount slotsFit slotFits goodReply goodFrame shaped forParty oneOf bodyFits awaited askNow kindAwaited isHeard bears timeZero num numFrom part put be beOnto
-closed-one = ap (λ (l : List Message). cond (ltb (length l) 1) (record { rounds = []; now = heard-one ∷ [] }) (record { rounds = (heard-one ∷ []) ∷ []; now = [] })) gathered-one
+closed-one : polls plan start reply desk 1 unpolled ≡ record { rounds = (heard-one ∷ []) ∷ []; now = []; stored = [] }
+unfolding polls noneOf heard-one reply desk rec planOk countsOk limitsOk columnOf all recordLength lengthsOk inRange standingRules openRules every heardCount slotsFit slotFits goodReply goodFrame shaped forParty oneOf bodyFits awaited askNow kindAwaited isHeard bears timeZero num numFrom part put be beOnto
+closed-one = ap (λ (l : List Message). cond (ltb (length l) 1) (record { rounds = []; now = heard-one ∷ []; stored = [] }) (record { rounds = (heard-one ∷ []) ∷ []; now = []; stored = [] })) gathered-one
 
 one-apart : (m : Message) → Apart (m ∷ [])
 one-apart m x y (inl a) (inl b) t e = ap (λ (z : Message). z .Response .CC) (a ∙ sym b)

@@ -9,7 +9,7 @@ use mathlib.Core.List.{List, [], _∷_}
 use mathlib.Core.Logic.{inl, inr}
 use native.Mathlib.Decide.{ℕ-discrete}
 use native.Mathlib.Omega.{arith}
-use borrow.Author.Tests.{ltb-true, ltb-false, leb-true, leb-false, eqb-true, eqb-false, lt-ltb, not-true, not-false}
+use borrow.Author.Tests.{ltb-true, ltb-false, leb-true, leb-false, eqb-true, eqb-false, ne-eqb, lt-ltb, not-false}
 use lib.Dec.{ltb, leb, eqb}
 use lib.ListN.{length, set, length-set}
 use Rattle.octets.specs.Bytes.{put, Octets}
@@ -27,7 +27,7 @@ use Rattle.terms.proofs.Plans.{plan-is}
 use Rattle.terms.proofs.Facts.{facts}
 use Rattle.fragments.specs.Fragments.{from, regenerated, Sources}
 use Rattle.fragments.proofs.Laws.{among-from, length-from, getD-from, itself, length-regenerated}
-use Rattle.frame.specs.Frame.{frameNode, bodyOf, goodReply}
+use Rattle.frame.specs.Frame.{kindOf, frameNode, askOf, bodyOf, goodReply, answersTo}
 use Rattle.frame.proofs.Frames.{reply-is}
 use Rattle.record.specs.Record.{hashesOk, timeZero}
 use Rattle.record.specs.Desk.{slotOf, fragmentIn}
@@ -41,9 +41,9 @@ use Rattle.session.specs.declared.Session.{Session}
 use Rattle.session.specs.declared.Stage.{Stage}
 use Rattle.session.specs.declared.Stage.the-variants.{Asking, Storing, Ended}
 use Rattle.session.specs.declared.Operation.the-variants.{Read}
-use Rattle.session.specs.Session.{isRead, isAsking, isStoring, isEnded, replies, markedOf, endedOf, refused, stillOpen, done, saidOf}
+use Rattle.session.specs.Session.{isRead, isAsking, isStoring, isEnded, askNow, kindAwaited, replies, markedOf, endedOf, refused, stillOpen, done, saidOf}
 use Rattle.session.specs.Ranges.{inRange}
-use Rattle.session.specs.Reply.{bears, lengthsOk, isHeard, readLadder}
+use Rattle.session.specs.Reply.{bears, lengthsOk, awaited, isHeard, readLadder}
 use Rattle.session.specs.Reader.{Outcome, outcome, collected, acted, closed, settled, heard, stored, accepted, readReply}
 use Rattle.session.proofs.Made.{OpenIs, in-range-facts, rest-set, few-unheards}
 use Rattle.session.proofs.Rules.{Lengths, lengths-are, StandingIs}
@@ -53,7 +53,7 @@ use Rattle.session.specs.declared.opening.Opening.the-variants.{Accepted}
 use Rattle.session.specs.Opening.{OpenCall, freshOf}
 use Rattle.session.proofs.Slots.{long-body}
 use Rattle.report.specs.Triple.{Message, each, strung}
-use Rattle.report.specs.Figure2.{enough}
+use Rattle.report.specs.Figure2.{enough, acknowledged}
 use Rattle.report.specs.Figure3.{Command, READ-LATEST, READ-PREVIOUS, Decision, returned, repaired, ABORT, reading, VALIDATE, in-time, with-it, receives, DO-READ, LOOP, READ, goes-on, gathered, ResponseSet}
 use Rattle.report.specs.Ours.{family, responses, sending, commandOf}
 use Rattle.report.specs.Decides.{Decides}
@@ -68,6 +68,8 @@ use Rattle.report.proofs.Marks.{no-mark, mark-none, none-heard, slot-ow
 use Rattle.client.specs.Turns.{ReadTurn, Calls}
 use Rattle.client.specs.Sessions.{lastSession, lastDesk}
 use Rattle.client.proofs.Reading.{one-ladder}
+use Rattle.report.specs.WriteRun.{noneOf, isResponse}
+use Rattle.report.proofs.Gathers.{listed, off, all-off, put-in, kept-out, Marked, marked-none, marked-more}
 
 positive : (x : ℕ) → eqb x 0 ≡ false → 1 ≤ x
 positive zero h = absurd (eqb-false 0 0 h refl)
@@ -83,20 +85,22 @@ pub record Asks (p : Plan) (s : Session) (d : List ℕ) (w : Polled) : Type 0 wh
   pub octets : Octets d
   pub size : length (s .marks) ≡ 16
   pub passed : (k : ℕ) → k < p .n → markOf (s .marks) k ≡ Record → Passed p k (slotOf p d k)
+  pub unstored : w .stored ≡ []
 
 -- in a repair round: READ has repaired, and the desk holds what DO_WRITE sends
-pub record Stores (p : Plan) (s : Session) (d : List ℕ) (closed : List (List Message)) : Type 0 where
+pub record Stores (p : Plan) (s : Session) (d : List ℕ) (w : Polled) : Type 0 where
   pub sent : List Message
   pub Data : List ℕ
-  pub decision : READ (family p) closed ≡ repaired sent (stampNumber (s .stamp)) Data
+  pub decision : READ (family p) (w .rounds) ≡ repaired sent (stampNumber (s .stamp)) Data
   pub sends : sending p d ≡ sent
   pub holds : strung (fragmentIn p d) (p .m) ≡ Data
-  pub rounds : s .round .number ≡ length closed
+  pub rounds : s .round .number ≡ length (w .rounds)
   pub size : length (s .marks) ≡ 16
+  pub marked : Marked (λ (S : ℕ). S) (s .marks) (acknowledged (w .stored))
 
 abbrev pub KeepsAt : Stage → Plan → Session → List ℕ → Polled → Type 0
 KeepsAt Asking p s d w = Asks p s d w
-KeepsAt Storing p s d w = Stores p s d (w .rounds)
+KeepsAt Storing p s d w = Stores p s d w
 KeepsAt Ended p s d w = Unit {0}
 
 abbrev pub Keeps : Plan → Session → List ℕ → Polled → Type 0
@@ -105,7 +109,7 @@ Keeps p s d w = KeepsAt (s .round .stage) p s d w
 -- what a call leaves, and what it says
 pub record Leaves (p : Plan) (o : Outcome) (w : Polled) : Type 0 where
   pub keeps : Keeps p (o .session) (o .desk) w
-  pub tells : Tells p (o .session) (o .said) (o .item) w
+  pub tells : Tells p (o .said) (o .item) w
   pub full : AllFull p (w .rounds)
 
 -- ---- a read round after a mark, w with the message that was heard
@@ -116,7 +120,7 @@ module _ (p : Plan) (s : Session) (d i : List ℕ) (w : Polled) (st : s .round .
   set-now = responses p (s .marks) d (p .n)
 
   abbrev rolled-over : Polled
-  rolled-over = record { rounds = w .now ∷ w .rounds; now = [] }
+  rolled-over = record { rounds = w .now ∷ w .rounds; now = []; stored = w .stored }
 
   set-is : ResponseSet (family p) (w .rounds) (w .now) ≡ set-now
   set-is = ap (λ (x : Decision). gathered (family p) x (w .now)) (k .decision) ∙ k .set
@@ -134,6 +138,9 @@ module _ (p : Plan) (s : Session) (d i : List ℕ) (w : Polled) (st : s .round .
 
   none-yet : heardCount unheards < replies p
   none-yet = ltb-true (heardCount unheards) (replies p) (few-unheards p ok)
+
+  none-stored : Marked (λ (S : ℕ). S) unheards (acknowledged (w .stored))
+  none-stored = subst (λ (l : List ℕ). Marked (λ (S : ℕ). S) unheards (acknowledged l)) (sym (k .unstored)) (marked-none (λ (S : ℕ). S))
 
   module _ (enough : replies p ≤ heardCount (s .marks)) (apart : AllApart p (w .now ∷ w .rounds)) where
     full-round : Full p s d i
@@ -173,8 +180,8 @@ module _ (p : Plan) (s : Session) (d i : List ℕ) (w : Polled) (st : s .round .
         let is : READ (family p) (w .now ∷ w .rounds) ≡ repaired sent (stampNumber (c .stamp)) Data = e ∙ ap (λ (x : ℕ). repaired sent x Data) (sym (c .number)) in
         subst (λ (y : Outcome). Leaves p y rolled-over) (sym (c .is))
         (record {
-          keeps = record { sent = sent; Data = Data; decision = is; sends = c .sends; holds = c .holds; rounds = counted; size = refl };
-          tells = inr (record { sent = sent; Data = Data; is = is; few = none-yet });
+          keeps = record { sent = sent; Data = Data; decision = is; sends = c .sends; holds = c .holds; rounds = counted; size = refl; marked = none-stored };
+          tells = inr (record { sent = sent; ts = stampNumber (c .stamp); Data = Data; is = is; few = omega (arith, none-stored .count, none-yet) });
           full = full-now;
         })
     by-decision o ABORT e c = subst (λ (y : Outcome). Leaves p y rolled-over) (sym c) (record { keeps = tt; tells = (e, counted); full = full-now })
@@ -200,6 +207,7 @@ module _ (p : Plan) (s : Session) (d i : List ℕ) (w : Polled) (st : s .round .
                     octets = k .octets;
                     size = refl;
                     passed = λ j h m. absurd (no-mark 16 j m);
+                    unstored = k .unstored;
                   };
               tells = inl (record { command = READ-PREVIOUS (stampNumber (c .stamp)); is = is; few = waits (stampNumber (c .stamp)) });
               full = full-now;
@@ -249,43 +257,71 @@ module _ (p : Plan) (d i : List ℕ) (ok : planOk p ≡ true) (ld : length d ≡
       own : (k : ℕ) → k < p .m → regenerated d head (recordLength p) (p .f) (from 0 (p .m)) k ≡ fragmentIn p d k
       own k h = sym (itself d head (recordLength p) (p .f) (from 0 (p .m)) k (sym (among-from k (p .m) ∙ lt-ltb k (p .m) h))) ∙ sym (fragment-place p d k)
 
-  stores : (s : Session) (f : List ℕ) (w : Polled) → s .round .stage ≡ Storing → Stores p s d (w .rounds) → AllFull p (w .rounds)
-      → heardCount (markedOf s (frameNode f) Record .marks) ≤ replies p → Leaves p (stored p s f d i) w
-  unfolding stored
-  stores s f w st k sz most = go (ltb (heardCount (markedOf s (frameNode f) Record .marks)) (replies p)) refl
-    where
-      go : (t : Bool) → ltb (heardCount (markedOf s (frameNode f) Record .marks)) (replies p) ≡ t
-          → Leaves p (cond t (outcome stillOpen (markedOf s (frameNode f) Record) d i)
-          (outcome (done (stampNumber (s .stamp)) (s .round .number)) (endedOf (markedOf s (frameNode f) Record)) d (collected p d i))) w
-      go true e =
-          record {
-            keeps = subst (λ (x : Stage). KeepsAt x p (markedOf s (frameNode f) Record) d w) (sym st)
-                (record {
-                  sent = k .sent;
-                  Data = k .Data;
-                  decision = k .decision;
-                  sends = k .sends;
-                  holds = k .holds;
-                  rounds = k .rounds;
-                  size = length-set (s .marks) (frameNode f) (record { is = Record }) ∙ k .size;
-                });
-            tells = inr (record { sent = k .sent; Data = k .Data; is = k .decision; few = ltb-true (heardCount (markedOf s (frameNode f) Record .marks)) (replies p) e });
-            full = sz;
-          }
-      go false e =
-          let l = ltb-false (heardCount (markedOf s (frameNode f) Record .marks)) (replies p) e in
-          record {
-            keeps = tt;
-            tells = (
-              inr (record {
+  -- a response of a node that was not heard
+  module _ (s : Session) (f : List ℕ) (w : Polled) (st : s .round .stage ≡ Storing) (k : Stores p s d w) (sz : AllFull p (w .rounds))
+      (u : isHeard s (frameNode f) ≡ false) (low : frameNode f < 16) (few : heardCount (s .marks) < replies p) where
+    abbrev with-response : Polled
+    with-response = record { rounds = w .rounds; now = w .now; stored = frameNode f ∷ w .stored }
+
+    marked-now : Marked (λ (S : ℕ). S) (set (s .marks) (frameNode f) (record { is = Record })) (acknowledged (frameNode f ∷ w .stored))
+    unfolding isHeard
+    marked-now =
+        subst (Marked (λ (S : ℕ). S) (set (s .marks) (frameNode f) (record { is = Record })))
+        (sym (put-in (λ (S : ℕ). S) (frameNode f) (w .stored) (k .marked .names (frameNode f) ∙ u)))
+        (marked-more (λ (S : ℕ). S) (s .marks) (acknowledged (w .stored)) (frameNode f) (frameNode f) refl (omega (arith, low, k .size))
+        (not-heard (markOf (s .marks) (frameNode f)) u) (k .marked))
+
+    stores : Leaves p (stored p s f d i) with-response
+    unfolding stored isHeard
+    stores = go (ltb (heardCount (markedOf s (frameNode f) Record .marks)) (replies p)) refl
+      where
+        most : heardCount (markedOf s (frameNode f) Record .marks) ≤ replies p
+        most =
+            omega (
+              arith,
+              few,
+              count-set (s .marks) (frameNode f) (record { is = Record }) (omega (arith, low, k .size)) (not-heard (markOf (s .marks) (frameNode f)) u) refl,
+            )
+
+        go : (t : Bool) → ltb (heardCount (markedOf s (frameNode f) Record .marks)) (replies p) ≡ t
+            → Leaves p (cond t (outcome stillOpen (markedOf s (frameNode f) Record) d i)
+            (outcome (done (stampNumber (s .stamp)) (s .round .number)) (endedOf (markedOf s (frameNode f) Record)) d (collected p d i))) with-response
+        go true e =
+            record {
+              keeps = subst (λ (x : Stage). KeepsAt x p (markedOf s (frameNode f) Record) d with-response) (sym st)
+                  (record {
+                    sent = k .sent;
+                    Data = k .Data;
+                    decision = k .decision;
+                    sends = k .sends;
+                    holds = k .holds;
+                    rounds = k .rounds;
+                    size = length-set (s .marks) (frameNode f) (record { is = Record }) ∙ k .size;
+                    marked = marked-now;
+                  });
+              tells = inr (record {
                 sent = k .sent;
-                is = k .decision ∙ ap (repaired (k .sent) (stampNumber (s .stamp))) (sym (k .holds) ∙ sym collected-is);
-                acknowledged = omega (arith, most, l);
-              }),
-              k .rounds,
-            );
-            full = sz;
-          }
+                ts = stampNumber (s .stamp);
+                Data = k .Data;
+                is = k .decision;
+                few = omega (arith, marked-now .count, ltb-true (heardCount (markedOf s (frameNode f) Record .marks)) (replies p) e);
+              });
+              full = sz;
+            }
+        go false e =
+            let l = ltb-false (heardCount (markedOf s (frameNode f) Record .marks)) (replies p) e in
+            record {
+              keeps = tt;
+              tells = (
+                inr (record {
+                  sent = k .sent;
+                  is = k .decision ∙ ap (repaired (k .sent) (stampNumber (s .stamp))) (sym (k .holds) ∙ sym collected-is);
+                  enough-stored = omega (arith, marked-now .count, most, l);
+                }),
+                k .rounds,
+              );
+              full = sz;
+            }
 
 -- ---- a frame
 module _ (p : Plan) (s : Session) (f d i : List ℕ) (w : Polled) where
@@ -299,63 +335,32 @@ module _ (p : Plan) (s : Session) (f d i : List ℕ) (w : Polled) where
   node = frameNode f
 
   abbrev with-message : Polled
-  with-message = record { rounds = w .rounds; now = messageOf p f ∷ w .now }
+  with-message = record { rounds = w .rounds; now = messageOf p f ∷ w .now; stored = w .stored }
 
   down-to : (k : ℕ) → None (upto k ladder) → Down {S = Unit {0}} (λ (u : Unit {0}). ladder) k
   down-to k n = record { start = tt; none = n }
 
-  -- what its being a message says: it came in a read round, and seven of the refusals do not apply
+  -- a message came in a read round, and seven of the refusals do not apply
   record IsMessage : Type 0 where
     asks : isAsking (s .round .stage) ≡ true
-    r1 : rung 1 ladder ≡ false
-    r2 : rung 2 ladder ≡ false
-    r9 : rung 9 ladder ≡ false
-    r14 : rung 14 ladder ≡ false
-    r4 : rung 4 ladder ≡ false
-    r10 : rung 10 ladder ≡ false
-    r5 : rung 5 ladder ≡ false
-
-  is-message : isMessage p s f d (length i) ≡ true → IsMessage
-  unfolding all each
-  is-message e =
-      let m = both (isAsking (s .round .stage)) _ e in
-      let e1 = both (not (rung 1 ladder)) _ (m .1) in
-      let e2 = both (not (rung 2 ladder)) _ (e1 .1) in
-      let e9 = both (not (rung 9 ladder)) _ (e2 .1) in
-      let e14 = both (not (rung 14 ladder)) _ (e9 .1) in
-      let e4 = both (not (rung 4 ladder)) _ (e14 .1) in
-      let e10 = both (not (rung 10 ladder)) _ (e4 .1) in
-      let e5 = both (not (rung 5 ladder)) _ (e10 .1) in
-      record {
-        asks = m .0;
-        r1 = not-true (rung 1 ladder) (e1 .0);
-        r2 = not-true (rung 2 ladder) (e2 .0);
-        r9 = not-true (rung 9 ladder) (e9 .0);
-        r14 = not-true (rung 14 ladder) (e14 .0);
-        r4 = not-true (rung 4 ladder) (e4 .0);
-        r10 = not-true (rung 10 ladder) (e10 .0);
-        r5 = not-true (rung 5 ladder) (e5 .0);
-      }
-
-  -- where no refusal applies in a read round, it is one
-  message-is : None ladder → isAsking (s .round .stage) ≡ true → isMessage p s f d (length i) ≡ true
-  unfolding all each
-  message-is n a =
-      rw (a, clear ladder n 1, clear ladder n 2, clear ladder n 9, clear ladder n 14, clear ladder n 4, clear ladder n 10, clear ladder n 5)
+    clears : noneOf (1 ∷ 2 ∷ 9 ∷ 14 ∷ 4 ∷ 10 ∷ 5 ∷ []) ladder ≡ true
 
   module _ (m : IsMessage) (keep : Keeps p s d w) (sz : AllFull p (w .rounds)) where
+    r : (k : ℕ) → listed k (1 ∷ 2 ∷ 9 ∷ 14 ∷ 4 ∷ 10 ∷ 5 ∷ []) ≡ true → rung k ladder ≡ false
+    r = off (1 ∷ 2 ∷ 9 ∷ 14 ∷ 4 ∷ 10 ∷ 5 ∷ []) ladder (m .clears)
+
     plan-ok : planOk p ≡ true
-    plan-ok = not-false (planOk p) (m .r1)
+    plan-ok = not-false (planOk p) (r 1 refl)
 
     lengths : Lengths p (length d) (length i)
-    lengths = lengths-are p (length d) (length i) (not-false (lengthsOk p (length d) (length i)) (m .r2))
+    lengths = lengths-are p (length d) (length i) (not-false (lengthsOk p (length d) (length i)) (r 2 refl))
 
     ranges : StandingIs p s × OpenIs p s d
     ranges =
-        in-range-facts p s d (both (isRead (s .operation)) (inRange p s d) (not-false (isRead (s .operation) and inRange p s d) (m .r9)) .1) (m .r14)
+        in-range-facts p s d (both (isRead (s .operation)) (inRange p s d) (not-false (isRead (s .operation) and inRange p s d) (r 9 refl)) .1) (r 14 refl)
 
     node-low : node < p .n
-    node-low = reply-is p f (not-false (goodReply p f) (m .r4)) .node-low
+    node-low = reply-is p f (not-false (goodReply p f) (r 4 refl)) .node-low
 
     at-asking : (x : Stage) → isAsking x ≡ true → x ≡ Asking
     at-asking Asking e = refl
@@ -398,6 +403,7 @@ module _ (p : Plan) (s : Session) (f d i : List ℕ) (w : Polled) where
               octets = k .octets;
               size = k .size;
               passed = k .passed;
+              unstored = k .unstored;
             }
 
         waits : rolled p with-message ≡ with-message
@@ -410,7 +416,7 @@ module _ (p : Plan) (s : Session) (f d i : List ℕ) (w : Polled) where
     unfolding isHeard readReply
     heard-again h =
         subst (λ (o : Outcome). Leaves p o (rolled p with-message))
-        (stop refuse (accepted p s f d i) (down-to 11 (m .r1, (m .r2, (m .r9, (m .r14, (m .r4, (m .r10, tt))))))) h refl)
+        (stop refuse (accepted p s f d i) (down-to 11 (r 1 refl, (r 2 refl, (r 9 refl, (r 14 refl, (r 4 refl, (r 10 refl, tt))))))) h refl)
         (left-out 11 (heard-hears p (commandOf (s .round .bound)) before (messageOf p f) (heard-has p (s .marks) d node (p .n) node-low h)))
 
     module _ (h : isHeard s node ≡ false) where
@@ -437,6 +443,7 @@ module _ (p : Plan) (s : Session) (f d i : List ℕ) (w : Polled) where
               octets = bytes;
               size = length-set (s .marks) node mark ∙ k .size;
               passed = passed;
+              unstored = k .unstored;
             }
 
         settled-so : AllApart p (rolled p with-message .rounds) → Leaves p (settled p (markedOf s node (mark .is)) e i) (rolled p with-message)
@@ -456,7 +463,7 @@ module _ (p : Plan) (s : Session) (f d i : List ℕ) (w : Polled) where
       unfolding heard
       first-right b a =
           accepts
-          (m .r1, (m .r2, (m .r9, (m .r14, (m .r4, (m .r10, (h, (m .r5, (rw b, (rw b, tt))))))))))
+          (r 1 refl, (r 2 refl, (r 9 refl, (r 14 refl, (r 4 refl, (r 10 refl, (h, (r 5 refl, (rw b, (rw b, tt))))))))))
           (subst (λ (x : Bool). Leaves p (cond x (settled p (markedOf s node Record) (put d (node * recordLength p) (bodyOf f)) i) (settled p (markedOf s node First) d i)) (rolled p with-message))
           (sym b)
           (settled-so (record { is = First }) refl d
@@ -482,7 +489,7 @@ module _ (p : Plan) (s : Session) (f d i : List ℕ) (w : Polled) where
 
         timed : 1 ≤ time (bodyOf f)
         unfolding timeZero
-        timed = positive (time (bodyOf f)) (rw b at (m .r5))
+        timed = positive (time (bodyOf f)) (rw b at (r 5 refl))
 
         valid-is : VALIDATE (family p) (messageOf p f) ≡ hashesOk p node (bodyOf f)
         valid-is =
@@ -496,7 +503,7 @@ module _ (p : Plan) (s : Session) (f d i : List ℕ) (w : Polled) where
         unfolding readReply
         bad-hash e =
             subst (λ (o : Outcome). Leaves p o (rolled p with-message))
-            (stop refuse (accepted p s f d i) (down-to 6 (m .r1, (m .r2, (m .r9, (m .r14, (m .r4, (m .r10, (h, (m .r5, tt))))))))) (rw (b, e)) refl)
+            (stop refuse (accepted p s f d i) (down-to 6 (r 1 refl, (r 2 refl, (r 9 refl, (r 14 refl, (r 4 refl, (r 10 refl, (h, (r 5 refl, tt))))))))) (rw (b, e)) refl)
             (left-out 6 (hash-hears p (commandOf (s .round .bound)) before (messageOf p f) (valid-is ∙ e)))
 
         module _ (v : hashesOk p node (bodyOf f) ≡ true) where
@@ -504,7 +511,7 @@ module _ (p : Plan) (s : Session) (f d i : List ℕ) (w : Polled) where
           unfolding readReply
           too-late e =
               subst (λ (o : Outcome). Leaves p o (rolled p with-message))
-              (stop refuse (accepted p s f d i) (down-to 12 (m .r1, (m .r2, (m .r9, (m .r14, (m .r4, (m .r10, (h, (m .r5, (rw (b, v), tt)))))))))) (rw (b, e)) refl)
+              (stop refuse (accepted p s f d i) (down-to 12 (r 1 refl, (r 2 refl, (r 9 refl, (r 14 refl, (r 4 refl, (r 10 refl, (h, (r 5 refl, (rw (b, v), tt)))))))))) (rw (b, e)) refl)
               (left-out 12 (late-hears p (commandOf (s .round .bound)) before (messageOf p f) (timely-is ∙ e)))
 
           abbrev desk-after : List ℕ
@@ -515,7 +522,7 @@ module _ (p : Plan) (s : Session) (f d i : List ℕ) (w : Polled) where
           unfolding heard
           record-right u a =
               accepts
-              (m .r1, (m .r2, (m .r9, (m .r14, (m .r4, (m .r10, (h, (m .r5, (rw (b, v), (rw (b, u), tt))))))))))
+              (r 1 refl, (r 2 refl, (r 9 refl, (r 14 refl, (r 4 refl, (r 10 refl, (h, (r 5 refl, (rw (b, v), (rw (b, u), tt))))))))))
               (subst (λ (x : Bool). Leaves p (cond x (settled p (markedOf s node Record) desk-after i) (settled p (markedOf s node First) d i)) (rolled p with-message)) (sym b)
               (settled-so (record { is = Record }) refl desk-after
               (record-after p (s .marks) d node node-low inside unmarked (bodyOf f) (k .desk) (long-body p f b) ∙ ap (λ (x : Message). with-it x before) (sym says-record))
@@ -553,64 +560,112 @@ module _ (p : Plan) (s : Session) (f d i : List ℕ) (w : Polled) where
         by-heard true e = heard-again e
         by-heard false e = by-body e (bears p f) refl
 
-  -- any other frame: refused, or a reply of a repair round
+  -- a frame that is no message: a response of a repair round
   module _ (keep : Keeps p s d w) (sz : AllFull p (w .rounds)) where
-    in-repair : None ladder → isAsking (s .round .stage) ≡ false → Leaves p (accepted p s f d i) w
-    unfolding accepted isHeard
-    in-repair n a = go (s .round .stage) refl
+    abbrev with-ack : Polled
+    with-ack = record { rounds = w .rounds; now = w .now; stored = node ∷ w .stored }
+
+    -- a write reply bears no record
+    no-record : isStoring (s .round .stage) ≡ true → awaited s f ≡ true → bears p f ≡ false
+    unfolding awaited kindAwaited bears
+    no-record t a =
+        let k : eqb (kindOf f) 4 ≡ true = rw t at (both (eqb (askOf f) (askNow s)) _ (both (answersTo f (askNow s) (kindAwaited s)) _ a .0) .1) in
+        let e : kindOf f ≡ 4 = eqb-true (kindOf f) 4 k in
+        rw (ne-eqb (kindOf f) 7 (λ z. omega (arith, e, z)))
+
+    at-storing : (x : Stage) → isStoring x ≡ true → x ≡ Storing
+    at-storing Asking e = absurd (clash (sym e))
+    at-storing Storing e = refl
+    at-storing Ended e = absurd (clash (sym e))
+
+    stored-right : isStoring (s .round .stage) ≡ true → isResponse ladder ≡ true → Leaves p (readReply p s f d i) with-ack
+    unfolding readReply accepted isHeard
+    stored-right t g = by-heard (isHeard s node) refl
       where
+        c : (k : ℕ) → listed k (1 ∷ 2 ∷ 9 ∷ 14 ∷ 4 ∷ 10 ∷ []) ≡ true → rung k ladder ≡ false
+        c = off (1 ∷ 2 ∷ 9 ∷ 14 ∷ 4 ∷ 10 ∷ []) ladder g
+
+        k : Stores p s d w
+        k = subst (λ (x : Stage). KeepsAt x p s d w) (at-storing (s .round .stage) t) keep
+
         plan-so : planOk p ≡ true
-        plan-so = not-false (planOk p) (clear ladder n 1)
+        plan-so = not-false (planOk p) (c 1 refl)
 
         fits : Lengths p (length d) (length i)
-        fits = lengths-are p (length d) (length i) (not-false (lengthsOk p (length d) (length i)) (clear ladder n 2))
+        fits = lengths-are p (length d) (length i) (not-false (lengthsOk p (length d) (length i)) (c 2 refl))
 
-        opens : StandingIs p s × OpenIs p s d
-        opens =
-            in-range-facts p s d (both (isRead (s .operation)) (inRange p s d) (not-false (isRead (s .operation) and inRange p s d) (clear ladder n 9)) .1) (clear ladder n 14)
+        few : heardCount (s .marks) < replies p
+        few =
+            ltb-true (heardCount (s .marks)) (replies p)
+            (in-range-facts p s d (both (isRead (s .operation)) (inRange p s d) (not-false (isRead (s .operation) and inRange p s d) (c 9 refl)) .1) (c 14 refl) .1 .few)
 
-        most : length (s .marks) ≡ 16 → heardCount (set (s .marks) node (record { is = Record })) ≤ replies p
-        most l =
-            let n16 = plan-is p plan-so .n-high in
-            let low = reply-is p f (not-false (goodReply p f) (clear ladder n 4)) .node-low in
-            let c = count-set (s .marks) node (record { is = Record }) (omega (arith, low, l)) (not-heard (markOf (s .marks) node) (clear ladder n 11)) refl in
-            omega (arith, c, ltb-true (heardCount (s .marks)) (replies p) (opens .1 .few))
+        low : node < 16
+        low = let n16 = plan-is p plan-so .n-high in omega (arith, reply-is p f (not-false (goodReply p f) (c 4 refl)) .node-low)
 
-        go : (x : Stage) → s .round .stage ≡ x → Leaves p (cond (isStoring x) (stored p s f d i) (heard p s f d i)) w
-        go Asking e = absurd (clash (sym (ap isAsking e) ∙ a))
-        go Storing e =
-            let q : Stores p s d (w .rounds) = subst (λ (x : Stage). KeepsAt x p s d w) e keep in
-            stores p d i plan-so (fits .desk-is) (fits .item-is) s f w e q sz (most (q .size))
-        go Ended e = absurd (clash (sym (ap isEnded e) ∙ clear ladder n 14))
+        b : bears p f ≡ false
+        b = no-record t (not-false (awaited s f) (c 10 refl))
 
-    other-right : isMessage p s f d (length i) ≡ false → Leaves p (readReply p s f d i) w
-    other-right e =
+        by-heard : (x : Bool) → isHeard s node ≡ x → Leaves p (readReply p s f d i) with-ack
+        by-heard true h =
+            subst (λ (o : Outcome). Leaves p o with-ack)
+            (stop refuse (accepted p s f d i) (down-to 11 (c 1 refl, (c 2 refl, (c 9 refl, (c 14 refl, (c 4 refl, (c 10 refl, tt))))))) h refl)
+            (record {
+              keeps = subst (λ (x : Stage). KeepsAt x p s d with-ack) (sym (at-storing (s .round .stage) t))
+                  (record {
+                    sent = k .sent;
+                    Data = k .Data;
+                    decision = k .decision;
+                    sends = k .sends;
+                    holds = k .holds;
+                    rounds = k .rounds;
+                    size = k .size;
+                    marked = subst (Marked (λ (S : ℕ). S) (s .marks)) (sym (kept-out (λ (S : ℕ). S) node (w .stored) (k .marked .names node ∙ h))) (k .marked);
+                  });
+              tells = tt;
+              full = sz;
+            })
+        by-heard false h =
+            subst (λ (o : Outcome). Leaves p o with-ack)
+            (sym (one-ladder p s f d i
+            ∙ is-passed ladder refuse (accepted p s f d i)
+            (c 1 refl, (c 2 refl, (c 9 refl, (c 14 refl, (c 4 refl, (c 10 refl, (h, (rw b, (rw b, (rw b, tt)))))))))) ∙ rw t))
+            (stores p d i plan-so (fits .desk-is) (fits .item-is) s f w (at-storing (s .round .stage) t) k sz h low few)
+
+    -- any other is refused
+    other-right : isMessage p s f d (length i) ≡ false → (isStoring (s .round .stage) and isResponse ladder) ≡ false → Leaves p (readReply p s f d i) w
+    other-right e g =
         subst (λ (o : Outcome). Leaves p o w) (sym (one-ladder p s f d i))
-        (by-ladder (λ (o : Outcome). Leaves p o w) ladder refuse (accepted p s f d i) (λ j g. record { keeps = keep; tells = tt; full = sz })
-        (λ n. in-repair n (go n (isAsking (s .round .stage)) refl)))
+        (by-ladder (λ (o : Outcome). Leaves p o w) ladder refuse (accepted p s f d i) (λ j h. record { keeps = keep; tells = tt; full = sz })
+        (λ n. absurd (go n (s .round .stage) refl)))
       where
-        go : None ladder → (t : Bool) → isAsking (s .round .stage) ≡ t → t ≡ false
-        go n true a = sym (message-is n a) ∙ e
-        go n false a = refl
+        go : None ladder → (x : Stage) → s .round .stage ≡ x → ⊥
+        go n Asking a = clash (sym (rw (ap isAsking a) (all-off (1 ∷ 2 ∷ 9 ∷ 14 ∷ 4 ∷ 10 ∷ 5 ∷ []) ladder n)) ∙ e)
+        go n Storing a = clash (sym (rw (ap isStoring a) (all-off (1 ∷ 2 ∷ 9 ∷ 14 ∷ 4 ∷ 10 ∷ []) ladder n)) ∙ g)
+        go n Ended a = clash (sym (ap isEnded a) ∙ clear ladder n 14)
 
     call-leaves : Octets f → AllApart p (polls p s f d (length i) w .rounds) → Leaves p (readReply p s f d i) (polls p s f d (length i) w)
     unfolding polls
-    call-leaves of = go (isMessage p s f d (length i)) refl
+    call-leaves of = go (isMessage p s f d (length i)) (isStoring (s .round .stage) and isResponse ladder) refl refl
       where
-        go : (t : Bool) → isMessage p s f d (length i) ≡ t → AllApart p (cond t (rolled p with-message) w .rounds)
-            → Leaves p (readReply p s f d i) (cond t (rolled p with-message) w)
-        go true e a = message-right (is-message e) keep sz of a
-        go false e a = other-right e
+        go : (t v : Bool) → isMessage p s f d (length i) ≡ t → (isStoring (s .round .stage) and isResponse ladder) ≡ v
+            → AllApart p (cond t (rolled p with-message) (cond v (record { rounds = w .rounds; now = w .now; stored = node ∷ w .stored }) w) .rounds)
+            → Leaves p (readReply p s f d i) (cond t (rolled p with-message) (cond v (record { rounds = w .rounds; now = w .now; stored = node ∷ w .stored }) w))
+        go true v e g a = message-right (let q = both (isAsking (s .round .stage)) _ e in record { asks = q .0; clears = q .1 }) keep sz of a
+        go false true e g a = let q = both (isStoring (s .round .stage)) (isResponse ladder) g in stored-right (q .0) (q .1)
+        go false false e g a = other-right e g
 
   -- the closed rounds are added to
   fewer : AllApart p (polls p s f d (length i) w .rounds) → AllApart p (w .rounds)
   unfolding polls
-  fewer = go (isMessage p s f d (length i)) (ltb (length (ResponseSet (family p) (w .rounds) (messageOf p f ∷ w .now))) (enough (family p)))
+  fewer = go (isMessage p s f d (length i)) (isStoring (s .round .stage) and isResponse ladder) (ltb (length (ResponseSet (family p) (w .rounds) (messageOf p f ∷ w .now))) (enough (family p)))
     where
-      go : (t v : Bool) → AllApart p (cond t (cond v with-message (record { rounds = (messageOf p f ∷ w .now) ∷ w .rounds; now = [] })) w .rounds) → AllApart p (w .rounds)
-      go true true a = a
-      go true false a = a .1
-      go false v a = a
+      go : (t u v : Bool)
+          → AllApart p (cond t (cond v with-message (record { rounds = (messageOf p f ∷ w .now) ∷ w .rounds; now = []; stored = w .stored })) (cond u (record { rounds = w .rounds; now = w .now; stored = node ∷ w .stored }) w) .rounds)
+          → AllApart p (w .rounds)
+      go true u true a = a
+      go true u false a = a .1
+      go false true v a = a
+      go false false v a = a
 
 -- ---- the run
 runs-fewer : (p : Plan) (s : Session) (d : List ℕ) (w : Polled) (cs : List turns.Turn) → AllApart p (polledOver p s d w cs .rounds) → AllApart p (w .rounds)
@@ -620,7 +675,7 @@ runs-fewer p s d w (c ∷ cs) a =
 
 repairing : (p : Plan) (s : Session) (d : List ℕ) (w : Polled) → s .round .stage ≡ Storing → Keeps p s d w → Repairing p s d (w .rounds)
 repairing p s d w e k =
-    let q : Stores p s d (w .rounds) = subst (λ (x : Stage). KeepsAt x p s d w) e k in
+    let q : Stores p s d w = subst (λ (x : Stage). KeepsAt x p s d w) e k in
     record { Data = q .Data; is = q .decision ∙ ap (λ (l : List Message). repaired l (stampNumber (s .stamp)) (q .Data)) (sym (q .sends)) }
 
 -- EACH CALL OF A READ TELLS WHAT FIGURE 3'S READ DECIDES OF WHAT WAS RECEIVED SO FAR, cut at W; and what is known after them
@@ -660,6 +715,7 @@ opened-run p a r d cs call e ld od h apart = read-run p (r .session) d unpolled 
           octets = od;
           size = refl;
           passed = λ j l m. absurd (no-mark 16 j m);
+          unstored = refl;
         }
 
     start : Keeps p (r .session) d unpolled

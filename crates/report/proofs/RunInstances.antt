@@ -5,7 +5,7 @@
 -- Assumes nothing.
 use Prim.{tt}
 use mathlib.Core.Path.{_≡_, refl, sym, ap, _∙_, subst}
-use mathlib.Core.Bool.{true, false, cond}
+use mathlib.Core.Bool.{true, false, cond, Bool}
 use mathlib.Core.List.{List, [], _∷_}
 use mathlib.Core.Logic.{inl, inr}
 use borrow.Author.Tests.{eqb-false}
@@ -21,7 +21,7 @@ use Rattle.record.specs.Record.{timeZero}
 use Rattle.rounds.specs.Rounds.{heardCount, every, slotStamp, slotsFit, slotFits, underOf}
 use Rattle.session.specs.Session.{askNow, kindAwaited}
 use Rattle.session.specs.Ranges.{standingRules, openRules, inRange}
-use Rattle.session.specs.Reply.{lengthsOk, awaited, bears}
+use Rattle.session.specs.Reply.{lengthsOk, awaited, bears, readLadder}
 use Rattle.client.specs.Turns.{Turn}
 use Rattle.terms.proofs.Small.{small, small-octets}
 use Rattle.client.proofs.Instances.Read as reads
@@ -30,7 +30,7 @@ use Rattle.client.proofs.Instances.Write as writes
 use Rattle.report.specs.Triple.{Message, each}
 use Rattle.report.specs.Ours.{family, verifierIn}
 use Rattle.report.specs.Run.{Polled, unpolled, messageOf, polls, polledOver, EachTells, AllFull, Apart, AllApart}
-use Rattle.report.specs.WriteRun.{untimed, EachWrites}
+use Rattle.report.specs.WriteRun.{noneOf, isResponse, untimed, EachWrites}
 use Rattle.report.proofs.Run.{Keeps, opened-run, opened-read}
 use Rattle.report.proofs.Write.{opened-write}
 use Rattle.report.specs.Figure1 as figure1
@@ -70,16 +70,19 @@ module _ where
   set-2 = refl
 
 -- what was received after each call: N-t is 2
+abbrev at-rounds : List (List Message) → List Message → Polled
+at-rounds rounds now = record { rounds = rounds; now = now; stored = [] }
+
 abbrev then-closed : List (List Message) → List Message → List Message → Polled
-then-closed before now set = cond (ltb (length set) 2) (record { rounds = before; now = now }) (record { rounds = now ∷ before; now = [] })
+then-closed before now set = cond (ltb (length set) 2) (at-rounds before now) (at-rounds (now ∷ before) [])
 
 module _ where
-  polls-1 : polls plan reads.start reads.reply-1 desk 1 unpolled ≡ record { rounds = []; now = m1 ∷ [] }
-  unfolding polls reads.reply-1 plan desk poor hash planOk countsOk limitsOk columnOf all each recordLength lengthsOk inRange standingRules openRules every heardCount slotsFit slotFits slotStamp goodReply goodFrame shaped forParty oneOf bodyFits awaited askNow kindAwaited bears underOf timeZero num numFrom part be beOnto
+  polls-1 : polls plan reads.start reads.reply-1 desk 1 unpolled ≡ at-rounds [] (m1 ∷ [])
+  unfolding polls noneOf reads.reply-1 plan desk poor hash planOk countsOk limitsOk columnOf all recordLength lengthsOk inRange standingRules openRules every heardCount slotsFit slotFits slotStamp goodReply goodFrame shaped forParty oneOf bodyFits awaited askNow kindAwaited bears underOf timeZero num numFrom part be beOnto
   polls-1 = ap (then-closed [] (m1 ∷ [])) set-1
 
-  polls-2 : polls plan reads.first-heard reads.reply-2 desk-poor 1 (record { rounds = []; now = m1 ∷ [] }) ≡ record { rounds = first-round; now = [] }
-  unfolding polls reads.reply-2 plan desk-poor poor hash planOk countsOk limitsOk columnOf all each recordLength lengthsOk inRange standingRules openRules every heardCount slotsFit slotFits slotStamp goodReply goodFrame shaped forParty oneOf bodyFits awaited askNow kindAwaited bears underOf timeZero num numFrom part be beOnto
+  polls-2 : polls plan reads.first-heard reads.reply-2 desk-poor 1 (at-rounds [] (m1 ∷ [])) ≡ at-rounds first-round []
+  unfolding polls noneOf reads.reply-2 plan desk-poor poor hash planOk countsOk limitsOk columnOf all recordLength lengthsOk inRange standingRules openRules every heardCount slotsFit slotFits slotStamp goodReply goodFrame shaped forParty oneOf bodyFits awaited askNow kindAwaited bears underOf timeZero num numFrom part be beOnto
   polls-2 = ap (then-closed [] (m2 ∷ m1 ∷ [])) set-2
 
 -- two timestamps, so that no two cross checksums stand under one
@@ -115,10 +118,10 @@ asks-previous : READ (family plan) first-round ≡ reading (READ-PREVIOUS (m1 .R
 unfolding reads.reply-1 plan bears recordLength poor hash desk-poor num numFrom part be beOnto stampAt stampNumber then
 asks-previous = kept-two .decision
   where
-    two-polled : polledOver plan reads.start desk unpolled (reads.call-1 ∷ reads.call-2 ∷ []) ≡ record { rounds = first-round; now = [] }
+    two-polled : polledOver plan reads.start desk unpolled (reads.call-1 ∷ reads.call-2 ∷ []) ≡ at-rounds first-round []
     two-polled = ap (polls plan reads.first-heard reads.reply-2 desk-poor 1) polls-1 ∙ polls-2
 
-    kept-two : Keeps plan reads.second-round desk-poor (record { rounds = first-round; now = [] })
+    kept-two : Keeps plan reads.second-round desk-poor (at-rounds first-round [])
     kept-two =
         subst (Keeps plan reads.second-round desk-poor) two-polled
         (opened-run plan ask reads.opened desk (reads.call-1 ∷ reads.call-2 ∷ []) reads.opened-so refl desk-long (small-octets desk desk-small)
@@ -133,29 +136,33 @@ module _ where
   unfolding receives VALIDATE figure1.VALIDATE in-time has with-it verifierIn alike DO-READ bears recordLength plan num numFrom part be beOnto reads.reply-1 reads.reply-3 reads.reply-4 poor good stamp-bytes hash sha256 after compressOf addedOf roundsOf roundOf T1 T2 scheduleOf words padding bigEndian K
   set-4 = ap (λ (x : Decision). gathered (family plan) x (m4 ∷ m3 ∷ [])) asks-previous
 
-  polls-3 : polls plan reads.second-round reads.reply-3 desk-poor 1 (record { rounds = first-round; now = [] }) ≡ record { rounds = first-round; now = m3 ∷ [] }
-  unfolding polls reads.reply-3 plan desk-poor poor good stamp-bytes hash stampAt stampNumber then planOk countsOk limitsOk columnOf all each recordLength lengthsOk inRange standingRules openRules every heardCount slotsFit slotFits slotStamp goodReply goodFrame shaped forParty oneOf bodyFits awaited askNow kindAwaited bears underOf timeZero num numFrom part be beOnto
+  polls-3 : polls plan reads.second-round reads.reply-3 desk-poor 1 (at-rounds first-round []) ≡ at-rounds first-round (m3 ∷ [])
+  unfolding polls noneOf reads.reply-3 plan desk-poor poor good stamp-bytes hash stampAt stampNumber then planOk countsOk limitsOk columnOf all recordLength lengthsOk inRange standingRules openRules every heardCount slotsFit slotFits slotStamp goodReply goodFrame shaped forParty oneOf bodyFits awaited askNow kindAwaited bears underOf timeZero num numFrom part be beOnto
   polls-3 = ap (then-closed first-round (m3 ∷ [])) set-3
 
-  polls-4 : polls plan reads.second-heard reads.reply-4 desk-good 1 (record { rounds = first-round; now = m3 ∷ [] }) ≡ record { rounds = both-rounds; now = [] }
-  unfolding polls reads.reply-4 plan desk-poor desk-good poor good stamp-bytes hash stampAt stampNumber then planOk countsOk limitsOk columnOf all each recordLength lengthsOk inRange standingRules openRules every heardCount slotsFit slotFits slotStamp goodReply goodFrame shaped forParty oneOf bodyFits awaited askNow kindAwaited bears underOf timeZero num numFrom part be beOnto
+  polls-4 : polls plan reads.second-heard reads.reply-4 desk-good 1 (at-rounds first-round (m3 ∷ [])) ≡ at-rounds both-rounds []
+  unfolding polls noneOf reads.reply-4 plan desk-poor desk-good poor good stamp-bytes hash stampAt stampNumber then planOk countsOk limitsOk columnOf all recordLength lengthsOk inRange standingRules openRules every heardCount slotsFit slotFits slotStamp goodReply goodFrame shaped forParty oneOf bodyFits awaited askNow kindAwaited bears underOf timeZero num numFrom part be beOnto
   polls-4 = ap (then-closed first-round (m4 ∷ m3 ∷ [])) set-4
 
-  -- in a repair round nothing more
-  polls-5 : (w : Polled) → polls plan reads.repair-round reads.reply-5 desk-full 1 w ≡ w
-  unfolding polls
-  polls-5 w = refl
+  -- a repair round closes no more
+  stays : (t : Bool) (w v : Polled) → v .rounds ≡ w .rounds → cond t v w .rounds ≡ w .rounds
+  stays true w v e = e
+  stays false w v e = refl
 
-  polls-6 : (w : Polled) → polls plan reads.once-stored reads.reply-6 desk-full 1 w ≡ w
+  polls-5 : (w : Polled) → polls plan reads.repair-round reads.reply-5 desk-full 1 w .rounds ≡ w .rounds
   unfolding polls
-  polls-6 w = refl
+  polls-5 w = stays (isResponse (readLadder plan reads.repair-round reads.reply-5 desk-full 1)) w _ refl
 
-polled-so : polledOver plan reads.start desk unpolled read-calls ≡ record { rounds = both-rounds; now = [] }
+  polls-6 : (w : Polled) → polls plan reads.once-stored reads.reply-6 desk-full 1 w .rounds ≡ w .rounds
+  unfolding polls
+  polls-6 w = stays (isResponse (readLadder plan reads.once-stored reads.reply-6 desk-full 1)) w _ refl
+
+polled-so : polledOver plan reads.start desk unpolled read-calls .rounds ≡ both-rounds
 polled-so =
     polls-6 _ ∙ polls-5 _
-    ∙ ap (λ (w : Polled). polls plan reads.second-heard reads.reply-4 desk-good 1 (polls plan reads.second-round reads.reply-3 desk-poor 1 (polls plan reads.first-heard reads.reply-2 desk-poor 1 w))) polls-1
-    ∙ ap (λ (w : Polled). polls plan reads.second-heard reads.reply-4 desk-good 1 (polls plan reads.second-round reads.reply-3 desk-poor 1 w)) polls-2
-    ∙ ap (polls plan reads.second-heard reads.reply-4 desk-good 1) polls-3 ∙ polls-4
+    ∙ ap (λ (w : Polled). polls plan reads.second-heard reads.reply-4 desk-good 1 (polls plan reads.second-round reads.reply-3 desk-poor 1 (polls plan reads.first-heard reads.reply-2 desk-poor 1 w)) .rounds) polls-1
+    ∙ ap (λ (w : Polled). polls plan reads.second-heard reads.reply-4 desk-good 1 (polls plan reads.second-round reads.reply-3 desk-poor 1 w) .rounds) polls-2
+    ∙ ap (λ (w : Polled). polls plan reads.second-heard reads.reply-4 desk-good 1 w .rounds) polls-3 ∙ ap (λ (w : Polled). w .rounds) polls-4
 
 apart-so : AllApart plan both-rounds
 apart-so = (subst Apart (sym set-4) (pair-apart m3 m4 (eqb-false (m3 .Response .ts) (m4 .Response .ts) good-later)), (apart-first, tt))
@@ -163,7 +170,7 @@ apart-so = (subst Apart (sym set-4) (pair-apart m3 m4 (eqb-false (m3 .Response .
 -- the theorem at this run
 pub read-repairs-so : EachTells plan reads.start desk unpolled read-calls × AllFull plan (polledOver plan reads.start desk unpolled read-calls .rounds)
 read-repairs-so =
-    opened-read plan ask reads.opened desk read-calls reads.opened-so refl desk-long (small-octets desk desk-small) reads.calls (subst (λ (w : Polled). AllApart plan (w .rounds)) (sym polled-so) apart-so)
+    opened-read plan ask reads.opened desk read-calls reads.opened-so refl desk-long (small-octets desk desk-small) reads.calls (subst (AllApart plan) (sym polled-so) apart-so)
 
 -- ---- the write
 abbrev pub write-calls : List Turn

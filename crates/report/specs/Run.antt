@@ -11,31 +11,31 @@ use Prim.{Unit}
 use Prim.Native.Nat.{ℕ, _<_}
 use mathlib.Core.Path.{_≡_}
 use mathlib.Core.Logic.{_⊎_}
-use mathlib.Core.Bool.{Bool, true, false, cond, not}
+use mathlib.Core.Bool.{Bool, true, false, cond}
 use mathlib.Core.List.{List, [], _∷_}
 use lib.ListN.{length}
 use lib.Dec.{ltb}
 use Rattle.octets.specs.Bytes.{Octets}
 use Rattle.sha256.specs.Sha256.{sha256}
-use Rattle.terms.specs.Ladder.{all, rung, _and_}
+use Rattle.terms.specs.Ladder.{_and_}
 use Rattle.terms.specs.Stamp.{stampNumber}
 use Rattle.terms.specs.declared.Plan.{Plan}
 use Rattle.frame.specs.Frame.{frameNode, bodyOf}
-use Rattle.rounds.specs.Rounds.{heardCount}
 use Rattle.session.specs.declared.Session.{Session}
 use Rattle.session.specs.declared.Stage.the-variants.{Storing}
-use Rattle.session.specs.Session.{isAsking, Said, refused, stillOpen, done, neverWritten, aborted, roundsSpent, clockSpent, saidOf}
+use Rattle.session.specs.Session.{isAsking, isStoring, Said, refused, stillOpen, done, neverWritten, aborted, roundsSpent, clockSpent, saidOf}
 use Rattle.session.specs.Reply.{bears, readLadder}
 use Rattle.node.specs.declared.Answer.{Answer}
 use Rattle.node.specs.declared.Answer.the-variants.{Refused, Replied}
 use Rattle.node.specs.Node.{writes}
 use Rattle.store.specs.History.{Call}
 use Rattle.client.specs.Turns.{Turn}
-use Rattle.report.specs.Triple.{Triple, Message, null, each, In}
+use Rattle.report.specs.Triple.{Triple, Message, null, In}
 use Rattle.report.specs.Figure1.{initial, RECEIVE-WRITE-REQUEST}
-use Rattle.report.specs.Figure2.{enough}
+use Rattle.report.specs.Figure2.{enough, acknowledged}
 use Rattle.report.specs.Figure3.{Command, READ-PREVIOUS, DO-READ, returned, repaired, ABORT, reading, READ, ResponseSet}
 use Rattle.report.specs.Ours.{family, tripleOf, sending}
+use Rattle.report.specs.WriteRun.{noneOf, isResponse}
 
 -- ---- a node
 abbrev pub OfPlan : Plan → List Call → Type 0
@@ -55,13 +55,14 @@ received p S History (c ∷ cs) =
     cs
 
 -- ---- reading
--- what POLL_FOR_RESPONSE gave: in the rounds closed so far, the last one first, and in the open one; in each the last message first
+-- what POLL_FOR_RESPONSE gave: in the rounds closed so far, the last one first, in the open one, and to DO_WRITE; in each the last message first
 pub record Polled : Type 0 where
   pub rounds : List (List Message)
   pub now : List Message
+  pub stored : List ℕ
 
 abbrev pub unpolled : Polled
-unpolled = record { rounds = []; now = [] }
+unpolled = record { rounds = []; now = []; stored = [] }
 
 -- a read reply as a message: its node, and its record or the first triple
 abbrev pub messageOf : Plan → List ℕ → Message
@@ -70,26 +71,28 @@ messageOf p f = record { S = frameNode f; Response = cond (bears p f) (tripleOf 
 -- (01) the frames that are messages of the round: those of a call, a session and a round that are in order (1, 2, 9, 14), of the right form (4), with
 -- the ask number and the kind of this round (10), and with a time that a record may have (5). 6, 11 and 12 are DO_READ's own tests
 abbrev pub isMessage : Plan → Session → List ℕ → List ℕ → ℕ → Bool
-isMessage p s f d item = isAsking (s .round .stage) and all (each (λ (k : ℕ). not (rung k (readLadder p s f d item))) (1 ∷ 2 ∷ 9 ∷ 14 ∷ 4 ∷ 10 ∷ 5 ∷ []))
+isMessage p s f d item = isAsking (s .round .stage) and noneOf (1 ∷ 2 ∷ 9 ∷ 14 ∷ 4 ∷ 10 ∷ 5 ∷ []) (readLadder p s f d item)
 
 -- line 16: a round that has N - t responses is closed
 abbrev pub rolled : Plan → Polled → Polled
-rolled p w = cond (ltb (length (ResponseSet (family p) (w .rounds) (w .now))) (enough (family p))) w (record { rounds = w .now ∷ w .rounds; now = [] })
+rolled p w = cond (ltb (length (ResponseSet (family p) (w .rounds) (w .now))) (enough (family p))) w (record { rounds = w .now ∷ w .rounds; now = []; stored = w .stored })
 
 -- after a frame
 unfoldable pub polls : Plan → Session → List ℕ → List ℕ → ℕ → Polled → Polled
-polls p s f d item w = cond (isMessage p s f d item) (rolled p (record { rounds = w .rounds; now = messageOf p f ∷ w .now })) w
+polls p s f d item w =
+    cond (isMessage p s f d item) (rolled p (record { rounds = w .rounds; now = messageOf p f ∷ w .now; stored = w .stored }))
+    (cond (isStoring (s .round .stage) and isResponse (readLadder p s f d item)) (record { rounds = w .rounds; now = w .now; stored = frameNode f ∷ w .stored }) w)
 
 -- after the frames of some calls
 abbrev pub polledOver : Plan → Session → List ℕ → Polled → List Turn → Polled
 polledOver p s d w [] = w
 polledOver p s d w (c ∷ cs) = polledOver p (c .took .session) (c .deskLeft) (polls p s (c .reply) d (length (c .item)) w) cs
 
--- done by repair, once DO_WRITE has its N-t responses; the session handed back has their marks
-pub record RepairedTo (p : Plan) (s : Session) (closed : List (List Message)) (ts : ℕ) (item : List ℕ) : Type 0 where
+-- done by repair, once DO_WRITE has its N-t responses
+pub record RepairedTo (p : Plan) (w : Polled) (ts : ℕ) (item : List ℕ) : Type 0 where
   pub sent : List Message
-  pub is : READ (family p) closed ≡ repaired sent ts item
-  pub acknowledged : heardCount (s .marks) ≡ enough (family p)
+  pub is : READ (family p) (w .rounds) ≡ repaired sent ts item
+  pub enough-stored : length (acknowledged (w .stored)) ≡ enough (family p)
 
 -- (01) cut: line 24 of round W sends nothing more
 pub record Spent (p : Plan) (closed : List (List Message)) (rounds : ℕ) : Type 0 where
@@ -103,21 +106,22 @@ pub record Waits (p : Plan) (w : Polled) : Type 0 where
   pub is : READ (family p) (w .rounds) ≡ reading command
   pub few : length (DO-READ (family p) command (w .now)) < enough (family p)
 
-pub record StillStores (p : Plan) (s : Session) (closed : List (List Message)) : Type 0 where
+pub record StillStores (p : Plan) (w : Polled) : Type 0 where
   pub sent : List Message
+  pub ts : ℕ
   pub Data : List ℕ
-  pub is : READ (family p) closed ≡ repaired sent (stampNumber (s .stamp)) Data
-  pub few : heardCount (s .marks) < enough (family p)
+  pub is : READ (family p) (w .rounds) ≡ repaired sent ts Data
+  pub few : length (acknowledged (w .stored)) < enough (family p)
 
--- an answer, with the session and the item handed back, and what was polled so far; the rounds reported are those that were closed
-abbrev pub Tells : Plan → Session → Said → List ℕ → Polled → Type 0
-Tells p s (refused k) item w = Unit {0}
-Tells p s stillOpen item w = Waits p w ⊎ StillStores p s (w .rounds)
-Tells p s (done ts rounds) item w = ((READ (family p) (w .rounds) ≡ returned ts item) ⊎ RepairedTo p s (w .rounds) ts item) × (rounds ≡ length (w .rounds))
-Tells p s (neverWritten rounds) item w = (READ (family p) (w .rounds) ≡ returned 0 null) × (rounds ≡ length (w .rounds))
-Tells p s (aborted rounds) item w = (READ (family p) (w .rounds) ≡ ABORT) × (rounds ≡ length (w .rounds))
-Tells p s (roundsSpent rounds) item w = Spent p (w .rounds) rounds × (rounds ≡ length (w .rounds))
-Tells p s clockSpent item w = ⊥
+-- an answer, with the item handed back, and what was received so far; the rounds reported are those that were closed
+abbrev pub Tells : Plan → Said → List ℕ → Polled → Type 0
+Tells p (refused k) item w = Unit {0}
+Tells p stillOpen item w = Waits p w ⊎ StillStores p w
+Tells p (done ts rounds) item w = ((READ (family p) (w .rounds) ≡ returned ts item) ⊎ RepairedTo p w ts item) × (rounds ≡ length (w .rounds))
+Tells p (neverWritten rounds) item w = (READ (family p) (w .rounds) ≡ returned 0 null) × (rounds ≡ length (w .rounds))
+Tells p (aborted rounds) item w = (READ (family p) (w .rounds) ≡ ABORT) × (rounds ≡ length (w .rounds))
+Tells p (roundsSpent rounds) item w = Spent p (w .rounds) rounds × (rounds ≡ length (w .rounds))
+Tells p clockSpent item w = ⊥
 
 -- in a repair round: READ is at line 15, and the desk holds what DO_WRITE sends
 pub record Repairing (p : Plan) (s : Session) (d : List ℕ) (closed : List (List Message)) : Type 0 where
@@ -127,7 +131,7 @@ pub record Repairing (p : Plan) (s : Session) (d : List ℕ) (closed : List (Lis
 abbrev pub EachTells : Plan → Session → List ℕ → Polled → List Turn → Type 0
 EachTells p s d before [] = Unit {0}
 EachTells p s d before (c ∷ cs) =
-    Tells p (c .took .session) (saidOf (c .took .answer)) (c .itemLeft) (polls p s (c .reply) d (length (c .item)) before)
+    Tells p (saidOf (c .took .answer)) (c .itemLeft) (polls p s (c .reply) d (length (c .item)) before)
     × (c .took .session .round .stage ≡ Storing → Repairing p (c .took .session) (c .deskLeft) (polls p s (c .reply) d (length (c .item)) before .rounds))
     × EachTells p (c .took .session) (c .deskLeft) (polls p s (c .reply) d (length (c .item)) before) cs
 

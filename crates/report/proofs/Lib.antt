@@ -11,6 +11,7 @@ pub mod Gathers
 pub mod Hears
 pub mod Run
 pub mod Write
+pub mod Sent
 pub mod Instances
 pub mod RunInstances
 pub mod Examples

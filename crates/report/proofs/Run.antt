@@ -86,6 +86,7 @@ pub record Asks (p : Plan) (s : Session) (d : List ℕ) (w : Polled) : Type 0 wh
   pub size : length (s .marks) ≡ 16
   pub passed : (k : ℕ) → k < p .n → markOf (s .marks) k ≡ Record → Passed p k (slotOf p d k)
   pub unstored : w .stored ≡ []
+  pub reads : isRead (s .operation) ≡ true
 
 -- in a repair round: READ has repaired, and the desk holds what DO_WRITE sends
 pub record Stores (p : Plan) (s : Session) (d : List ℕ) (w : Polled) : Type 0 where
@@ -97,6 +98,7 @@ pub record Stores (p : Plan) (s : Session) (d : List ℕ) (w : Polled) : Type 0 
   pub rounds : s .round .number ≡ length (w .rounds)
   pub size : length (s .marks) ≡ 16
   pub marked : Marked (λ (S : ℕ). S) (s .marks) (acknowledged (w .stored))
+  pub reads : isRead (s .operation) ≡ true
 
 abbrev pub KeepsAt : Stage → Plan → Session → List ℕ → Polled → Type 0
 KeepsAt Asking p s d w = Asks p s d w
@@ -180,7 +182,7 @@ module _ (p : Plan) (s : Session) (d i : List ℕ) (w : Polled) (st : s .round .
         let is : READ (family p) (w .now ∷ w .rounds) ≡ repaired sent (stampNumber (c .stamp)) Data = e ∙ ap (λ (x : ℕ). repaired sent x Data) (sym (c .number)) in
         subst (λ (y : Outcome). Leaves p y rolled-over) (sym (c .is))
         (record {
-          keeps = record { sent = sent; Data = Data; decision = is; sends = c .sends; holds = c .holds; rounds = counted; size = refl; marked = none-stored };
+          keeps = record { sent = sent; Data = Data; decision = is; sends = c .sends; holds = c .holds; rounds = counted; size = refl; marked = none-stored; reads = k .reads };
           tells = inr (record { sent = sent; ts = stampNumber (c .stamp); Data = Data; is = is; few = omega (arith, none-stored .count, none-yet) });
           full = full-now;
         })
@@ -208,6 +210,7 @@ module _ (p : Plan) (s : Session) (d i : List ℕ) (w : Polled) (st : s .round .
                     size = refl;
                     passed = λ j h m. absurd (no-mark 16 j m);
                     unstored = k .unstored;
+                    reads = k .reads;
                   };
               tells = inl (record { command = READ-PREVIOUS (stampNumber (c .stamp)); is = is; few = waits (stampNumber (c .stamp)) });
               full = full-now;
@@ -298,6 +301,7 @@ module _ (p : Plan) (d i : List ℕ) (ok : planOk p ≡ true) (ld : length d ≡
                     rounds = k .rounds;
                     size = length-set (s .marks) (frameNode f) (record { is = Record }) ∙ k .size;
                     marked = marked-now;
+                    reads = k .reads;
                   });
               tells = inr (record {
                 sent = k .sent;
@@ -404,6 +408,7 @@ module _ (p : Plan) (s : Session) (f d i : List ℕ) (w : Polled) where
               size = k .size;
               passed = k .passed;
               unstored = k .unstored;
+              reads = k .reads;
             }
 
         waits : rolled p with-message ≡ with-message
@@ -444,6 +449,7 @@ module _ (p : Plan) (s : Session) (f d i : List ℕ) (w : Polled) where
               size = length-set (s .marks) node mark ∙ k .size;
               passed = passed;
               unstored = k .unstored;
+              reads = k .reads;
             }
 
         settled-so : AllApart p (rolled p with-message .rounds) → Leaves p (settled p (markedOf s node (mark .is)) e i) (rolled p with-message)
@@ -620,6 +626,7 @@ module _ (p : Plan) (s : Session) (f d i : List ℕ) (w : Polled) where
                     rounds = k .rounds;
                     size = k .size;
                     marked = subst (Marked (λ (S : ℕ). S) (s .marks)) (sym (kept-out (λ (S : ℕ). S) node (w .stored) (k .marked .names node ∙ h))) (k .marked);
+                    reads = k .reads;
                   });
               tells = tt;
               full = sz;
@@ -716,6 +723,7 @@ opened-run p a r d cs call e ld od h apart = read-run p (r .session) d unpolled 
           size = refl;
           passed = λ j l m. absurd (no-mark 16 j m);
           unstored = refl;
+          reads = refl;
         }
 
     start : Keeps p (r .session) d unpolled

@@ -129,12 +129,14 @@ pub record Asks (p : Plan) (s : Session) (w : Responses) : Type 0 where
   pub marked : Marked (λ (x : Clock). x .S) (s .marks) (clocks (w .times))
   pub size : length (s .marks) ≡ 16
   pub unstored : w .stored ≡ []
+  pub writes : isRead (s .operation) ≡ false
 
 -- in the write round: the desk holds what DO_WRITE sends, and the marks are those of its response set
 pub record Stores (p : Plan) (s : Session) (d : List ℕ) (w : Responses) : Type 0 where
   pub sends : Sending p s d w
   pub marked : Marked (λ (S : ℕ). S) (s .marks) (acknowledged (w .stored))
   pub size : length (s .marks) ≡ 16
+  pub writes : isRead (s .operation) ≡ false
 
 abbrev pub KeepsAt : Stage → Plan → Session → List ℕ → Responses → Type 0
 KeepsAt Asking p s d w = Asks p s w
@@ -180,7 +182,7 @@ module _ (p : Plan) (s : Session) (d i : List ℕ) (ts : List Clock) (sd : List 
         go true e = record { keeps = tt; wrote = (sym (k .greatest) ∙ eqb-true (s .greatest .0) top e, sending-so l .times) }
         go false e =
             record {
-              keeps = record { sends = sending-so l; marked = none-stored; size = refl };
+              keeps = record { sends = sending-so l; marked = none-stored; size = refl; writes = k .writes };
               wrote = inr (sending-so l .times, omega (arith, none-stored .count, ltb-true (heardCount unheards) (replies p) (few-unheards p ok)));
             }
 
@@ -283,6 +285,7 @@ module _ (p : Plan) (s : Session) (f d i : List ℕ) (w : Responses) where
                   marked = subst (Marked (λ (x : Clock). x .S) (s .marks)) (sym e) (k .marked);
                   size = k .size;
                   unstored = k .unstored;
+                  writes = k .writes;
                 });
             wrote = tt;
           }
@@ -301,6 +304,7 @@ module _ (p : Plan) (s : Session) (f d i : List ℕ) (w : Responses) where
                 (marked-more (λ (x : Clock). x .S) (s .marks) (clocks (w .times)) (clockOf f) node refl (omega (arith, low, k .size)) (unmarked h (k .size)) (k .marked));
             size = length-set (s .marks) node (record { is = Record }) ∙ k .size;
             unstored = k .unstored;
+            writes = k .writes;
           }))
 
     -- in the write round
@@ -317,6 +321,7 @@ module _ (p : Plan) (s : Session) (f d i : List ℕ) (w : Responses) where
                   sends = record { times = k .sends .times; stamp = k .sends .stamp; sends = k .sends .sends };
                   marked = subst (Marked (λ (S : ℕ). S) (s .marks)) (sym (kept-out (λ (S : ℕ). S) node (w .stored) (k .marked .names node ∙ h))) (k .marked);
                   size = k .size;
+                  writes = k .writes;
                 });
             wrote = tt;
           }
@@ -331,6 +336,7 @@ module _ (p : Plan) (s : Session) (f d i : List ℕ) (w : Responses) where
                 (sym (put-in (λ (S : ℕ). S) node (w .stored) (k .marked .names node ∙ h)))
                 (marked-more (λ (S : ℕ). S) (s .marks) (acknowledged (w .stored)) node node refl (omega (arith, low, k .size)) (unmarked h (k .size)) (k .marked));
             size = length-set (s .marks) node (record { is = Record }) ∙ k .size;
+            writes = k .writes;
           })
           (most h (k .size))
 
@@ -403,7 +409,7 @@ pub opened-write-run : (p : Plan) (a : Ask) (r : Opened) (d : List ℕ) (cs : Li
 opened-write-run p a r d cs call e h = write-run p (r .session) d untimed cs start h
   where
     fresh : Keeps p (freshOf Write 1 Free a) d untimed
-    fresh = record { greatest = unfold MAX Times each GATHERED in refl; marked = marked-none (λ (x : Clock). x .S); size = refl; unstored = refl }
+    fresh = record { greatest = unfold MAX Times each GATHERED in refl; marked = marked-none (λ (x : Clock). x .S); size = refl; unstored = refl; writes = refl }
 
     start : Keeps p (r .session) d untimed
     start = subst (λ (x : Session). Keeps p x d untimed) (sym (accepted-session Write p a r call e)) fresh

@@ -22,7 +22,6 @@ use Rattle.frame.proofs.Frames.{body-part}
 use Rattle.record.proofs.Desks.{time-made}
 use Rattle.rounds.specs.declared.Heard.{Heard}
 use Rattle.rounds.specs.declared.Heard.the-variants.{Record}
-use Rattle.rounds.specs.Rounds.{heardCount}
 use Rattle.session.specs.declared.Session.{Session}
 use Rattle.session.specs.declared.Took.{Took}
 use Rattle.session.specs.declared.Operation.{Operation}
@@ -30,7 +29,7 @@ use Rattle.session.specs.declared.opening.Opened.{Opened}
 use Rattle.session.specs.declared.opening.Opening.the-variants.{Accepted}
 use Rattle.session.specs.Opening.{OpenCall}
 use Rattle.session.specs.declared.Operation.the-variants.{Write}
-use Rattle.session.specs.Session.{isStoring, readRound, replies, withGreatest, withMarks, markedOf, endedOf, storingOf, refused, stillOpen, done, clockSpent}
+use Rattle.session.specs.Session.{isStoring, readRound, withGreatest, withMarks, markedOf, endedOf, storingOf, refused, stillOpen, done, clockSpent, roundOpen}
 use Rattle.session.specs.Ranges.{inRange}
 use Rattle.session.specs.Reply.{replyLadder}
 use Rattle.session.specs.Writer.{laterOf, timedOf, newTime, crossFor, stampFor, recordsFor, leaves, Leaves, timeEnd, timeTurn, writeTurn, acceptedWrite, writeReply, WriteReplyCall}
@@ -87,7 +86,7 @@ heard-stands p s n m g h q =
 
 -- a time, write or repair round that stays open
 pub heard-open : (p : Plan) (s : Session) (n : ℕ) (g : Time) (d : List ℕ) → readRound s ≡ false → OpenIs p s d
-    → ltb (heardCount (heardOf s n Record g .marks)) (replies p) ≡ true → OpenIs p (heardOf s n Record g) d
+    → roundOpen p (heardOf s n Record g) ≡ true → OpenIs p (heardOf s n Record g) d
 heard-open p s n g d w o e =
     record {
       stamped = o .stamped;
@@ -119,7 +118,7 @@ module _ (p : Plan) (s : Session) (f d i : List ℕ) (o : Octets f) (k : Kept p 
       stands : StandingIs p u
       stands = heard-stands p s (frameNode f) Record g (q .reply .node-low) (held .0)
 
-      still : ltb (heardCount (u .marks)) (replies p) ≡ true → Kept p u d
+      still : roundOpen p u ≡ true → Kept p u d
       still c =
           record {
             range = open-in-range p u d stands (heard-open p s (frameNode f) g d no-read (held .1) c);
@@ -132,17 +131,17 @@ module _ (p : Plan) (s : Session) (f d i : List ℕ) (o : Octets f) (k : Kept p 
 
       in-write : Good (writeTurn p u d)
       unfolding writeTurn
-      in-write = go (ltb (heardCount (u .marks)) (replies p)) refl
+      in-write = go (roundOpen p u) refl
         where
-          go : (c : Bool) → ltb (heardCount (u .marks)) (replies p) ≡ c → Good (cond c (leaves stillOpen u d) (leaves (done (stampNumber (u .stamp)) 0) (endedOf u) d))
+          go : (c : Bool) → roundOpen p u ≡ c → Good (cond c (leaves stillOpen u d) (leaves (done (stampNumber (u .stamp)) 0) (endedOf u) d))
           go true c = still c
           go false c = ends
 
       in-time : Good (timeTurn p u d i)
       unfolding timeTurn timeEnd
-      in-time = go (ltb (heardCount (u .marks)) (replies p)) (eqb (g .0) top) refl refl
+      in-time = go (roundOpen p u) (eqb (g .0) top) refl refl
         where
-          go : (c m : Bool) → ltb (heardCount (u .marks)) (replies p) ≡ c → eqb (g .0) top ≡ m
+          go : (c m : Bool) → roundOpen p u ≡ c → eqb (g .0) top ≡ m
               → Good (cond c (leaves stillOpen u d)
               (cond m (leaves clockSpent (endedOf u) d) (leaves stillOpen (storingOf u (stampFor p (newTime (g .0)) i)) (recordsFor p (newTime (g .0)) i))))
           go true m c v = still c

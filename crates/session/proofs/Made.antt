@@ -21,7 +21,7 @@ use Rattle.rounds.specs.declared.Heard.the-variants.{Record}
 use Rattle.rounds.specs.declared.Mark.{Mark}
 use Rattle.rounds.specs.Rounds.{heardCount, unheard, unheards, every, isUnheard, isNotFirst, restUnheard, noneFirst, slotFits, slotsFit}
 use Rattle.session.specs.declared.Session.{Session}
-use Rattle.session.specs.Session.{isRead, isStoring, isEnded, readRound, replies, endedOf, storingOf}
+use Rattle.session.specs.Session.{isRead, isStoring, isEnded, readRound, replies, endedOf, storingOf, roundOpen}
 use Rattle.session.specs.Ranges.{standingRules, openRules, inRange}
 use Rattle.session.proofs.Rules.{holds, last, StandingIs, standing-facts}
 
@@ -29,7 +29,7 @@ use Rattle.session.proofs.Rules.{holds, last, StandingIs, standing-fact
 pub record OpenIs (p : Plan) (s : Session) (d : List ℕ) : Type 0 where
   pub stamped : (not (isStoring (s .round .stage)) or leb 1 (s .stamp .time .0)) ≡ true
   pub firsts : (readRound s or noneFirst (s .marks)) ≡ true
-  pub few : ltb (heardCount (s .marks)) (replies p) ≡ true
+  pub few : roundOpen p s ≡ true
   pub slots : (not (readRound s) or slotsFit (s .marks) d (recordLength p) (s .round .bound) (p .n)) ≡ true
 
 pub open-facts : (p : Plan) (s : Session) (d : List ℕ) → openRules p s d ≡ true → OpenIs p s d
@@ -37,7 +37,7 @@ unfolding openRules all
 open-facts p s d e =
     let e1 = both (not (isStoring (s .round .stage)) or leb 1 (s .stamp .time .0)) _ e in
     let e2 = both (readRound s or noneFirst (s .marks)) _ (e1 .1) in
-    let e3 = both (ltb (heardCount (s .marks)) (replies p)) _ (e2 .1) in
+    let e3 = both (roundOpen p s) _ (e2 .1) in
     let e4 = both (not (readRound s) or slotsFit (s .marks) d (recordLength p) (s .round .bound) (p .n)) _ (e3 .1) in
     record { stamped = e1 .0; firsts = e2 .0; few = e3 .0; slots = e4 .0 }
 

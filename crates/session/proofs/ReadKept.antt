@@ -20,14 +20,14 @@ use Rattle.record.specs.Record.{timeZero}
 use Rattle.rounds.specs.declared.Heard.{Heard}
 use Rattle.rounds.specs.declared.Heard.the-variants.{First, Record}
 use Rattle.rounds.specs.declared.Lead.the-variants.{Node}
-use Rattle.rounds.specs.Rounds.{heardCount, underOf, slotsFit}
+use Rattle.rounds.specs.Rounds.{underOf, slotsFit}
 use Rattle.rounds.proofs.Closes.{candidate}
 use Rattle.session.specs.declared.Session.{Session}
 use Rattle.session.specs.declared.Took.{Took}
 use Rattle.session.specs.declared.Stage.{Stage}
 use Rattle.session.specs.declared.Stage.the-variants.{Asking, Storing, Ended}
 use Rattle.session.specs.declared.Operation.the-variants.{Read}
-use Rattle.session.specs.Session.{isRead, isAsking, isStoring, isEnded, replies, markedOf, endedOf, nextOf, refused, stillOpen, done}
+use Rattle.session.specs.Session.{isRead, isAsking, isStoring, isEnded, markedOf, endedOf, nextOf, refused, stillOpen, done, roundOpen}
 use Rattle.session.specs.Ranges.{inRange}
 use Rattle.session.specs.Reply.{bears, lengthsOk, replyLadder, recordLadder}
 use Rattle.session.specs.Reader.{Outcome, outcome, collected, acted, closed, settled, heard, stored, accepted, readReply, ReadReplyCall}
@@ -102,7 +102,7 @@ module _ (p : Plan) (s : Session) (f d i : List ℕ) (k : Kept p s d) where
         ended = record { range = ended-in-range p (endedOf u) e (end-stands p u stood) refl; desk-is = long; clock = k .clock }
 
         module _ (ask : isAsking (s .round .stage) ≡ true) (fits : slotsFit (u .marks) e (recordLength p) (s .round .bound) (p .n) ≡ true) where
-          still : ltb (heardCount (u .marks)) (replies p) ≡ true → Kept p u e
+          still : roundOpen p u ≡ true → Kept p u e
           still c =
               record {
                 range = open-in-range p u e stood (record { stamped = q .opens .stamped; firsts = rw (q .reads, ask); few = c; slots = rw (q .reads, ask) fits });
@@ -141,9 +141,9 @@ module _ (p : Plan) (s : Session) (f d i : List ℕ) (k : Kept p s d) where
 
           settles : Good (settled p u e i)
           unfolding settled
-          settles = go (ltb (heardCount (u .marks)) (replies p)) refl
+          settles = go (roundOpen p u) refl
             where
-              go : (c : Bool) → ltb (heardCount (u .marks)) (replies p) ≡ c → Good (cond c (outcome stillOpen u e i) (acted p u (closed p u e) e i))
+              go : (c : Bool) → roundOpen p u ≡ c → Good (cond c (outcome stillOpen u e i) (acted p u (closed p u e) e i))
               go true c = still c
               go false c =
                   goes Good p u (closed p u e) e i
@@ -162,16 +162,16 @@ module _ (p : Plan) (s : Session) (f d i : List ℕ) (k : Kept p s d) where
                         };
                   })
 
-    in-repair : isStoring (s .round .stage) ≡ true → Good (stored p s f d i)
+    in-repair : isStoring (s .round .stage) ≡ true → Good (stored p (markedOf s (frameNode f) Record) d i)
     unfolding stored
-    in-repair t = go (ltb (heardCount (u Record .marks)) (replies p)) refl
+    in-repair t = go (roundOpen p (u Record)) refl
       where
         no-read : (x : Stage) → isStoring x ≡ true → (isRead (s .operation) and isAsking x) ≡ false
         no-read Storing e = rw (q .reads)
         no-read Asking e = rw (q .reads) (sym e)
         no-read Ended e = rw (q .reads)
 
-        go : (c : Bool) → ltb (heardCount (u Record .marks)) (replies p) ≡ c
+        go : (c : Bool) → roundOpen p (u Record) ≡ c
             → Good (cond c (outcome stillOpen (u Record) d i) (outcome (done (stampNumber (s .stamp)) (s .round .number)) (endedOf (u Record)) d (collected p d i)))
         go true c =
             record {
@@ -202,7 +202,7 @@ module _ (p : Plan) (s : Session) (f d i : List ℕ) (k : Kept p s d) where
   unfolding accepted
   accepts e g = go (isStoring (s .round .stage)) refl
     where
-      go : (c : Bool) → isStoring (s .round .stage) ≡ c → Good (cond c (stored p s f d i) (heard p s f d i))
+      go : (c : Bool) → isStoring (s .round .stage) ≡ c → Good (cond c (stored p (markedOf s (frameNode f) Record) d i) (heard p s f d i))
       go true c = in-repair (hearing p s f d (length i) e) c
       go false c = in-read (hearing p s f d (length i) e) c (fresh p s f g)
 

@@ -31,11 +31,11 @@ use Rattle.rounds.specs.declared.Heard.the-variants.{First, Record}
 use Rattle.rounds.specs.declared.Lead.the-variants.{Nobody, Node}
 use Rattle.rounds.specs.declared.Close.{Close}
 use Rattle.record.specs.Record.{hashesOk, timeZero}
-use Rattle.rounds.specs.Rounds.{underOf, heardCount, listed, told, Closed, closeOf}
+use Rattle.rounds.specs.Rounds.{underOf, listed, told, Closed, closeOf}
 use Rattle.rounds.proofs.Laws.{size-is}
 use Rattle.recover.specs.Recover.{validates, refilled}
 use Rattle.session.specs.declared.Session.{Session}
-use Rattle.session.specs.Session.{isStoring, replies, markedOf, endedOf, nextOf, storingOf, stillOpen, done, neverWritten, aborted, roundsSpent, refused}
+use Rattle.session.specs.Session.{isStoring, markedOf, endedOf, nextOf, storingOf, stillOpen, done, neverWritten, aborted, roundsSpent, refused, roundOpen}
 use Rattle.session.specs.declared.Check.{Check}
 use Rattle.session.specs.declared.Check.the-variants.{Passed, Failed}
 use Rattle.session.specs.declared.Operation.{Operation}
@@ -187,14 +187,23 @@ module _ (p : Plan) (s : Session) (d : List ℕ) (c : Close) (ok : planOk p ≡ 
       }
 
 -- ---- after a mark
-module _ (p : Plan) (s : Session) (d i : List ℕ) (n : ℕ) (e : n ≡ heardCount (s .marks)) where
-  pub settled-open : n < p .n - p .t → outcome stillOpen s d i ≡ settled p s d i
+module _ (p : Plan) (s : Session) (d i : List ℕ) (x : Bool) (e : x ≡ roundOpen p s) where
+  pub settled-open : x ≡ true → outcome stillOpen s d i ≡ settled p s d i
   unfolding settled
-  settled-open h = rw (lt-ltb (heardCount (s .marks)) (replies p) (omega arith))
+  settled-open h = rw (← e, h)
 
-  pub settled-acts : (o : Outcome) (c : Closed) → p .n - p .t ≤ n → c ≡ closed p s d → o ≡ acted p s c d i → o ≡ settled p s d i
+  pub settled-acts : (o : Outcome) (c : Closed) → x ≡ false → c ≡ closed p s d → o ≡ acted p s c d i → o ≡ settled p s d i
   unfolding settled
-  settled-acts o c h k q = q ∙ rw (k, le-ltb (heardCount (s .marks)) (replies p) (omega arith))
+  settled-acts o c h k q = q ∙ rw (k, ← e, h)
+
+  pub stored-open : x ≡ true → outcome stillOpen s d i ≡ stored p s d i
+  unfolding stored
+  stored-open h = rw (← e, h)
+
+  pub stored-done : (o : Session) (y : List ℕ) → x ≡ false → o ≡ endedOf s → y ≡ collected p d i
+      → outcome (done (stampNumber (s .stamp)) (s .round .number)) o d y ≡ stored p s d i
+  unfolding stored
+  stored-done o y h q r = rw (← e, h, q, r)
 
 -- ---- an accepted reply
 module _ (p : Plan) (s : Session) (f d i : List ℕ) (x : Bool) (b : x ≡ bears p f) where
@@ -217,23 +226,10 @@ bears-is p f x e t =
 pub body-at : (p : Plan) (f : List ℕ) (r : ℕ) → r ≡ recordLength p → length f ≡ 15 + recordLength p → part f 15 r ≡ bodyOf f
 body-at p f r e l = rw e (sym (body-is 15 f (recordLength p) l))
 
--- an accepted reply of a repair round
-module _ (p : Plan) (s m : Session) (f d i : List ℕ) (k n : ℕ) (e : k ≡ frameNode f) (g : m ≡ markedOf s k Record) (c : n ≡ heardCount (m .marks)) where
-  marks-are : n ≡ heardCount (markedOf s (frameNode f) Record .marks)
-  marks-are = c ∙ rw (g, e)
-
-  pub stored-open : n < p .n - p .t → outcome stillOpen m d i ≡ stored p s f d i
-  unfolding stored
-  stored-open h = rw (lt-ltb (heardCount (markedOf s (frameNode f) Record .marks)) (replies p) (omega (arith, marks-are)), g, e)
-
-  pub stored-done : (o : Session) (y : List ℕ) → p .n - p .t ≤ n → o ≡ endedOf m → y ≡ collected p d i
-      → outcome (done (stampNumber (s .stamp)) (s .round .number)) o d y ≡ stored p s f d i
-  unfolding stored
-  stored-done o y h q r = rw (le-ltb (heardCount (markedOf s (frameNode f) Record .marks)) (replies p) (omega (arith, marks-are)), q, g, e, r)
-
-pub accept-stored : (p : Plan) (s : Session) (f d i : List ℕ) (x : Bool) (o : Outcome) → x ≡ isStoring (s .round .stage) → x ≡ true → o ≡ stored p s f d i → o ≡ accepted p s f d i
+pub accept-stored : (p : Plan) (s : Session) (f d i : List ℕ) (x : Bool) (k : ℕ) (m : Session) (o : Outcome) → x ≡ isStoring (s .round .stage) → x ≡ true
+    → k ≡ frameNode f → m ≡ markedOf s k Record → o ≡ stored p m d i → o ≡ accepted p s f d i
 unfolding accepted
-accept-stored p s f d i x o e t q = q ∙ rw (← e, t)
+accept-stored p s f d i x k m o e t n g q = q ∙ rw (← e, t, g, n)
 
 pub accept-heard : (p : Plan) (s : Session) (f d i : List ℕ) (x : Bool) (o : Outcome) → x ≡ isStoring (s .round .stage) → x ≡ false → o ≡ heard p s f d i → o ≡ accepted p s f d i
 unfolding accepted

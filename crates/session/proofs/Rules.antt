@@ -1,11 +1,11 @@
 -- How code goes down a list of rules, and what is known when all hold. Assumes nothing.
-use mathlib.Core.Path.{_≡_, refl, sym, ap, ap₂, _∙_}
+use mathlib.Core.Path.{_≡_, refl, sym, ap, _∙_}
 use mathlib.Core.Bool.{Bool, true, false, not}
 use mathlib.Core.List.{List, [], _∷_}
-use Prim.Native.Nat.{ℕ, _+_, _*_, _≤_}
+use Prim.Native.Nat.{ℕ, _+_, _*_, _≤_, _<_}
 use native.Mathlib.Nat.{le-trans, mul-le-mul-right, mul-le-mul-left}
 use native.Mathlib.Omega.{arith}
-use borrow.Author.Tests.{leb-true, eqb-true, not-false}
+use borrow.Author.Tests.{leb-true, eqb-true, ltb-true, ltb-false, lt-ltb, le-ltb, eq-eqb, ne-eqb, not-false}
 use lib.ListN.{length}
 use lib.Dec.{leb, eqb}
 use Rattle.terms.specs.Ladder.{all, _and_, _or_}
@@ -16,12 +16,12 @@ use Rattle.terms.proofs.Stamps.{stamp-at-number}
 use Rattle.terms.proofs.Rungs.{both}
 use Rattle.terms.proofs.Picks.{itself}
 use Rattle.octets.specs.Bytes.{part, num}
-use Rattle.frame.specs.Frame.{kindOf, askOf, bodyOf, answersTo}
+use Rattle.frame.specs.Frame.{kindOf, askOf, bodyOf}
 use Rattle.frame.proofs.Frames.{ReplyIs, length-4}
-use Rattle.rounds.specs.Rounds.{restUnheard}
+use Rattle.rounds.specs.Rounds.{restUnheard, heardCount}
 use Rattle.session.specs.declared.Session.{Session}
 use Rattle.session.specs.declared.Operation.{Operation}
-use Rattle.session.specs.Session.{isRead, isStoring, askNow, kindAwaited}
+use Rattle.session.specs.Session.{isRead, isStoring, replies, askNow, awaitsKind, roundOpen}
 use Rattle.session.specs.Reply.{awaited, lengthsOk, sameOperation}
 use Rattle.terms.specs.Terms.{recordLength, openingOk}
 use Rattle.session.specs.Ranges.{boundOk, standingRules, inRange}
@@ -101,30 +101,61 @@ pub body-stamp : (f : List ℕ) → num (part f 15 40) ≡ stamp (bodyOf f)
 unfolding part
 body-stamp f = refl
 
+-- ---- the round is open, or over
+module _ (p : Plan) (s : Session) where
+  pub few-open : heardCount (s .marks) < replies p → roundOpen p s ≡ true
+  few-open h = lt-ltb (heardCount (s .marks)) (replies p) h
+
+  pub many-over : replies p ≤ heardCount (s .marks) → roundOpen p s ≡ false
+  many-over h = le-ltb (heardCount (s .marks)) (replies p) h
+
+  pub open-few : roundOpen p s ≡ true → heardCount (s .marks) < replies p
+  open-few e = ltb-true (heardCount (s .marks)) (replies p) e
+
+  pub over-many : roundOpen p s ≡ false → replies p ≤ heardCount (s .marks)
+  over-many e = ltb-false (heardCount (s .marks)) (replies p) e
+
+-- ---- the kinds that a round awaits
+module _ (s : Session) (k : ℕ) (e : awaitsKind s k ≡ true) where
+  pub kind-stored : isStoring (s .round .stage) ≡ true → k ≡ 4
+  unfolding awaitsKind
+  kind-stored g = eqb-true k 4 (rw g at e)
+
+  pub kind-timed : isStoring (s .round .stage) ≡ false → isRead (s .operation) ≡ false → k ≡ 2
+  unfolding awaitsKind
+  kind-timed g h = eqb-true k 2 (rw (g, h) at e)
+
 -- ---- what a round awaits, tested one after the other
-module _ (s : Session) (f : List ℕ) (ask kind : ℕ) (a : ask ≡ askNow s) (k : kind ≡ kindAwaited s) (z : Bool) (w : z ≡ answersTo f ask kind) where
-  answered : z ≡ answersTo f (askNow s) (kindAwaited s)
-  answered = w ∙ ap₂ (answersTo f) a k
+module _ (s : Session) (f : List ℕ) (ask here : ℕ) (a : ask ≡ askNow s) (h : here ≡ askOf f) where
+  pub other-ask : (here ≡ ask → ⊥) → false ≡ awaited s f
+  unfolding awaited
+  other-ask n = and-fails _ (ne-eqb (askOf f) (askNow s) (λ e. n (h ∙ e ∙ sym a)))
 
-  pub not-answered : z ≡ false → false ≡ awaited s f
-  not-answered n = unfold awaited in rw (← answered, n)
+  module _ (same : here ≡ ask) (kind : ℕ) (w : kind ≡ kindOf f) (x : Bool) (k : x ≡ awaitsKind s kind) where
+    asked : eqb (askOf f) (askNow s) ≡ true
+    asked = eq-eqb (askOf f) (askNow s) (sym h ∙ same ∙ a)
 
-  module _ (y : z ≡ true) (x : Bool) (g : x ≡ isStoring (s .round .stage)) where
-    pub no-stamp : x ≡ false → true ≡ awaited s f
-    no-stamp e = unfold awaited in rw (← answered, y, ← g, e)
+    fits : x ≡ awaitsKind s (kindOf f)
+    fits = k ∙ ap (awaitsKind s) w
 
-    -- a write reply bears a timestamp, which is compared
-    pub stamp-there : x ≡ true → (kindOf f ≡ 4 → 55 ≤ length f) → 55 ≤ length f
-    stamp-there e h =
-        let q : kindAwaited s ≡ 4 = unfold kindAwaited in rw (← g, e) in
-        let b = both (eqb (askOf f) (askNow s)) (eqb (kindOf f) (kindAwaited s)) (sym answered ∙ y) in
-        h (eqb-true (kindOf f) (kindAwaited s) (b .1) ∙ q)
-
-    pub stamp-told : x ≡ true → (t : Timestamp) (o : Bool) → t ≡ stampAt f 15 → 55 ≤ length f → o ≡ eqb (stampNumber t) (stampNumber (s .stamp)) → o ≡ awaited s f
+    pub other-kind : x ≡ false → false ≡ awaited s f
     unfolding awaited
-    stamp-told e t o p l q =
-        let n : stampNumber t ≡ stamp (bodyOf f) = ap stampNumber p ∙ stamp-at-number f 15 l ∙ body-stamp f in
-        q ∙ rw (← answered, y, ← g, e, n)
+    other-kind e = and-last asked (and-fails _ (sym fits ∙ e))
+
+    module _ (t : x ≡ true) (y : Bool) (g : y ≡ isStoring (s .round .stage)) where
+      pub no-stamp : y ≡ false → true ≡ awaited s f
+      unfolding awaited
+      no-stamp e = and-last asked (and-last (sym fits ∙ t) (or-holds _ (ap not (sym g ∙ e))))
+
+      -- a write reply bears a timestamp, which is compared
+      pub stamp-there : y ≡ true → (kindOf f ≡ 4 → 55 ≤ length f) → 55 ≤ length f
+      stamp-there e l = l (kind-stored s (kindOf f) (sym fits ∙ t) (sym g ∙ e))
+
+      pub stamp-told : y ≡ true → (u : Timestamp) (o : Bool) → u ≡ stampAt f 15 → 55 ≤ length f → o ≡ eqb (stampNumber u) (stampNumber (s .stamp)) → o ≡ awaited s f
+      unfolding awaited
+      stamp-told e u o p l q =
+          let n : stampNumber u ≡ stamp (bodyOf f) = ap stampNumber p ∙ stamp-at-number f 15 l ∙ body-stamp f in
+          and-last asked (and-last (sym fits ∙ t) (or-last (ap not (sym g ∙ e)) (q ∙ ap (λ (m : ℕ). eqb m (stampNumber (s .stamp))) n)))
 
 -- ---- lengths
 pub record Lengths (p : Plan) (desk item : ℕ) : Type 0 where

@@ -73,8 +73,7 @@ impl Session {
         requires { ⌜ (planOk p ≡ true) × (length (now item) ≡ p .m * p .f) × (length (now desk) ≡ p .n * recordLength p) × (512 ≤ length (now cross)) ⌝ }
         ensures { λ r. ⌜ leaves (saidOf (r .answer)) (r .session) (now (desk .exit)) ≡ timeTurn p self (now (desk .entry)) (now (item .entry)) ⌝ }
     {
-        let marks = self.marks;
-        if rounds::count(marks) < p.n - p.t {
+        if self.round_open(p) {
             return Took {
                 session: self,
                 answer: Answer::Open,
@@ -101,8 +100,7 @@ impl Session {
         requires { ⌜ planOk p ≡ true ⌝ }
         ensures { λ r. ⌜ ((d : List ℕ) → leaves (saidOf (r .answer)) (r .session) d ≡ writeTurn p self d) ⌝ }
     {
-        let marks = self.marks;
-        if rounds::count(marks) < p.n - p.t {
+        if self.round_open(p) {
             return Took {
                 session: self,
                 answer: Answer::Open,

@@ -23,7 +23,7 @@ use Rattle.rounds.specs.Rounds.{heardCount, unheard, unheards, every, isUnheard
 use Rattle.session.specs.declared.Session.{Session}
 use Rattle.session.specs.Session.{isRead, isStoring, isEnded, readRound, replies, endedOf, storingOf, roundOpen}
 use Rattle.session.specs.Ranges.{standingRules, openRules, inRange}
-use Rattle.session.proofs.Rules.{holds, last, StandingIs, standing-facts}
+use Rattle.session.proofs.Rules.{holds, last, StandingIs, standing-facts, standing-back}
 
 -- ---- the rules of refusal 9 that an open session meets, as plain facts
 pub record OpenIs (p : Plan) (s : Session) (d : List ℕ) : Type 0 where
@@ -42,22 +42,17 @@ open-facts p s d e =
     record { stamped = e1 .0; firsts = e2 .0; few = e3 .0; slots = e4 .0 }
 
 module _ (p : Plan) (s : Session) where
-  standing-back : StandingIs p s → standingRules p s ≡ true
-  unfolding standingRules
-  standing-back q =
-      sym (holds _ (q .low) (holds _ (q .high) (holds _ (q .counted) (holds _ (q .bounded) (holds _ (q .rest) (last (sym (q .opening))))))))
-
   open-back : (d : List ℕ) → OpenIs p s d → openRules p s d ≡ true
   unfolding openRules
   open-back d q = sym (holds _ (q .stamped) (holds _ (q .firsts) (holds _ (q .few) (last (sym (q .slots))))))
 
   pub ended-in-range : (d : List ℕ) → StandingIs p s → isEnded (s .round .stage) ≡ true → inRange p s d ≡ true
   unfolding inRange
-  ended-in-range d q e = rw (standing-back q, e)
+  ended-in-range d q e = rw (standing-back p s q, e)
 
   pub open-in-range : (d : List ℕ) → StandingIs p s → OpenIs p s d → inRange p s d ≡ true
   unfolding inRange
-  open-in-range d q o = rw (standing-back q, open-back d o) (go (isEnded (s .round .stage)))
+  open-in-range d q o = rw (standing-back p s q, open-back d o) (go (isEnded (s .round .stage)))
     where
       go : (t : Bool) → (t or true) ≡ true
       go true = refl

@@ -15,7 +15,7 @@ use mathlib.Core.Path.{_≡_}
 use mathlib.Core.Bool.{Bool, true, cond}
 use mathlib.Core.List.{List}
 use lib.ListN.{length, getD, take}
-use lib.Dec.{ltb, leb}
+use lib.Dec.{leb}
 use Rattle.octets.specs.Bytes.{put}
 use Rattle.terms.specs.Ladder.{first}
 use Rattle.terms.specs.Terms.{planOk, recordLength, COMPLETE, INCOMPLETE}

@@ -24,7 +24,6 @@ use Rattle.terms.specs.declared.Time.{Time}
 use Rattle.terms.specs.declared.Timestamp.{Timestamp}
 use Rattle.rounds.specs.declared.Heard.{Heard}
 use Rattle.rounds.specs.declared.Mark.{Mark}
-use Rattle.rounds.specs.declared.Bound.{Bound}
 use Rattle.rounds.specs.declared.Bound.the-variants.{Under}
 use Rattle.rounds.specs.Rounds.{unheards, heardCount}
 use Rattle.session.specs.declared.Session.{Session}

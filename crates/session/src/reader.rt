@@ -15,14 +15,14 @@ use terms::Timestamp;
 use terms::Verdict;
 ghost use mathlib.Core.Path.{_≡_};
 ghost use mathlib.Core.Bool.{true, false};
-ghost use Prim.Native.Nat.{ℕ, _+_, _*_, _≤_, _<_};
+ghost use Prim.Native.Nat.{_+_, _*_, _≤_};
 ghost use lib.ListN.{length};
 ghost use Rattle.terms.specs.Ladder.{first};
 ghost use Rattle.terms.specs.Terms.{planOk, recordLength};
-ghost use Rattle.frame.specs.Frame.{goodReply, kindOf, frameNode};
+ghost use Rattle.frame.specs.Frame.{goodReply};
 ghost use Rattle.rounds.specs.declared.Lead.the-variants.{Node};
 ghost use Rattle.rounds.specs.Rounds.{told};
-ghost use Rattle.session.specs.Session.{saidOf, isStoring};
+ghost use Rattle.session.specs.Session.{saidOf};
 ghost use Rattle.session.specs.Reply.{bears, recordLadder, checkNumber};
 ghost use Rattle.session.specs.Reader.{outcome, sound, decoded, collected, repaired, failing, actOn, acted, settled, heard, stored, accepted, ReadReplyCall, Usable, Acting};
 

@@ -22,7 +22,7 @@ ghost use Rattle.frame.specs.Frame.{bodyOf};
 ghost use Rattle.session.specs.declared.Operation.the-variants.{Write};
 ghost use Rattle.session.specs.Session.{saidOf};
 ghost use Rattle.session.specs.Reply.{replyLadder};
-ghost use Rattle.session.specs.Writer.{laterOf, timedOf, stampFor, recordsFor, leaves, timeTurn, writeTurn, acceptedWrite, writeReply, WriteReplyCall};
+ghost use Rattle.session.specs.Writer.{laterOf, timedOf, stampFor, recordsFor, leaves, timeTurn, writeTurn, acceptedWrite, WriteReplyCall};
 
 // The time that a time reply bears.
 fn time_in(reply: &[u8]) -> Time

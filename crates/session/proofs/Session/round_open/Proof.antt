@@ -1,9 +1,5 @@
-use Prim.Native.Nat.{ℕ}
-use mathlib.Core.Path.{ap}
 use native.Mathlib.Omega.{arith}
-use lib.Dec.{ltb}
 use Rattle.terms.proofs.Facts.{facts}
-use Rattle.session.specs.Session.{replies}
 use borrow.Author.Needs.{needs}
 use Rattle.session.proofs.Session.round_open.Statement.{statement}
 use Rattle.session.proofs.Session.round_open.Tie as tie

@@ -8,25 +8,24 @@ use mathlib.Core.List.{List, [], _∷_}
 use mathlib.Core.Logic.{inl, inr}
 use native.Mathlib.Decide.{ℕ-discrete}
 use native.Mathlib.Omega.{arith}
-use borrow.Author.Tests.{ltb-true, ltb-false, leb-true, leb-false, eqb-true, eqb-false, lt-ltb, not-false}
-use lib.Dec.{ltb, leb, eqb}
+use borrow.Author.Tests.{leb-true, leb-false, eqb-true, eqb-false, lt-ltb, not-false}
+use lib.Dec.{leb, eqb}
 use lib.ListN.{length, set, length-set}
 use Rattle.octets.specs.Bytes.{part, put, Octets}
 use Rattle.octets.proofs.Laws.{length-put, slot-fits}
 use Rattle.octets.proofs.Meaning.{octets-drop, octets-put}
-use Rattle.terms.specs.Ladder.{first, _and_, None}
+use Rattle.terms.specs.Ladder.{first, None}
 use Rattle.terms.specs.Stamp.{stamp, time, stampNumber}
 use Rattle.terms.specs.Terms.{planOk, recordLength}
 use Rattle.terms.specs.declared.Plan.{Plan}
 use Rattle.terms.specs.declared.Ask.{Ask}
 use Rattle.terms.proofs.Down.{clear}
-use Rattle.terms.proofs.Rungs.{both, clash}
+use Rattle.terms.proofs.Rungs.{clash}
 use Rattle.terms.proofs.Plans.{plan-is}
 use Rattle.terms.proofs.Facts.{facts}
 use Rattle.fragments.specs.Fragments.{from, regenerated, Sources}
 use Rattle.fragments.proofs.Laws.{among-from, length-from, getD-from, itself, length-regenerated}
-use Rattle.frame.specs.Frame.{frameNode, bodyOf, goodReply}
-use Rattle.frame.proofs.Frames.{reply-is}
+use Rattle.frame.specs.Frame.{frameNode, bodyOf}
 use Rattle.record.specs.Record.{hashesOk, timeZero}
 use Rattle.record.specs.Desk.{slotOf, fragmentIn}
 use Rattle.record.proofs.Records.{record-length}
@@ -39,18 +38,18 @@ use Rattle.session.specs.declared.Session.{Session}
 use Rattle.session.specs.declared.Stage.{Stage}
 use Rattle.session.specs.declared.Stage.the-variants.{Asking, Storing, Ended}
 use Rattle.session.specs.declared.Operation.the-variants.{Read}
-use Rattle.session.specs.Session.{isRead, isStoring, isEnded, replies, markedOf, endedOf, refused, stillOpen, done, saidOf}
-use Rattle.session.specs.Ranges.{inRange}
-use Rattle.session.specs.Reply.{bears, lengthsOk, isHeard, replyLadder, recordLadder}
+use Rattle.session.specs.Session.{isStoring, isEnded, replies, markedOf, endedOf, refused, stillOpen, done, saidOf, roundOpen}
+use Rattle.session.specs.Reply.{bears, isHeard, replyLadder, recordLadder}
 use Rattle.session.specs.Reader.{Outcome, outcome, collected, acted, closed, settled, heard, stored, accepted, readReply}
 use Rattle.session.proofs.Checks.{none-applies, outcome-all, first-map}
-use Rattle.session.proofs.Made.{OpenIs, in-range-facts, rest-set}
-use Rattle.session.proofs.Rules.{Lengths, lengths-are, StandingIs}
+use Rattle.session.proofs.Made.{rest-set}
+use Rattle.session.proofs.Rules.{open-few, over-many}
 use Rattle.session.proofs.Openings.{accepted-session}
 use Rattle.session.specs.declared.opening.Opened.{Opened}
 use Rattle.session.specs.declared.opening.Opening.the-variants.{Accepted}
 use Rattle.session.specs.Opening.{OpenCall, freshOf}
 use Rattle.session.proofs.Slots.{long-body}
+use Rattle.session.proofs.Known.{Known, known-reply, item-is, reply}
 use Rattle.report.specs.Triple.{Message, Same, strung}
 use Rattle.report.specs.Figure3.{READ-LATEST, READ-PREVIOUS, Decision, returned, repaired, ABORT, reading, receives, LOOP, READ, goes-on}
 use Rattle.report.specs.Ours.{family, responses, sending, commandOf}
@@ -202,12 +201,12 @@ module _ (p : Plan) (s : Session) (d i : List ℕ) (sets : List (List Message)) 
 
   settles : AllApart (closedBy p s d sets) → Leaves p (settled p s d i) (closedBy p s d sets)
   unfolding settled
-  settles apart = go (ltb (heardCount (s .marks)) (replies p)) refl apart
+  settles apart = go (roundOpen p s) refl apart
     where
-      go : (t : Bool) → ltb (heardCount (s .marks)) (replies p) ≡ t → AllApart (cond t sets (set-now ∷ sets))
+      go : (t : Bool) → roundOpen p s ≡ t → AllApart (cond t sets (set-now ∷ sets))
           → Leaves p (cond t (outcome stillOpen s d i) (acted p s (closed p s d) d i)) (cond t sets (set-now ∷ sets))
       go true e a = still
-      go false e a = closes (ltb-false (heardCount (s .marks)) (replies p) e) a
+      go false e a = closes (over-many p s e) a
 
 -- ---- a repair round
 positive : (x : ℕ) → eqb x 0 ≡ false → 1 ≤ x
@@ -235,11 +234,11 @@ module _ (p : Plan) (d i : List ℕ) (ok : planOk p ≡ true) (ld : length d ≡
       own k h = sym (itself d head (recordLength p) (p .f) (from 0 (p .m)) k (sym (among-from k (p .m) ∙ lt-ltb k (p .m) h))) ∙ sym (fragment-place p d k)
 
   stores : (s : Session) (f : List ℕ) (sets : List (List Message)) → s .round .stage ≡ Storing → Stores p s d sets → AllClose p sets
-      → heardCount (markedOf s (frameNode f) Record .marks) ≤ replies p → Leaves p (stored p s f d i) sets
+      → heardCount (markedOf s (frameNode f) Record .marks) ≤ replies p → Leaves p (stored p (markedOf s (frameNode f) Record) d i) sets
   unfolding stored
-  stores s f sets st k sz most = go (ltb (heardCount (markedOf s (frameNode f) Record .marks)) (replies p)) refl
+  stores s f sets st k sz most = go (roundOpen p (markedOf s (frameNode f) Record)) refl
     where
-      go : (t : Bool) → ltb (heardCount (markedOf s (frameNode f) Record .marks)) (replies p) ≡ t
+      go : (t : Bool) → roundOpen p (markedOf s (frameNode f) Record) ≡ t
           → Leaves p (cond t (outcome stillOpen (markedOf s (frameNode f) Record) d i)
           (outcome (done (stampNumber (s .stamp)) (s .round .number)) (endedOf (markedOf s (frameNode f) Record)) d (collected p d i))) sets
       go true e =
@@ -258,7 +257,7 @@ module _ (p : Plan) (d i : List ℕ) (ok : planOk p ≡ true) (ld : length d ≡
             sized = sz;
           }
       go false e =
-          let l = ltb-false (heardCount (markedOf s (frameNode f) Record .marks)) (replies p) e in
+          let l = over-many p (markedOf s (frameNode f) Record) e in
           record {
             keeps = tt;
             tells = (
@@ -278,38 +277,28 @@ module _ (p : Plan) (s : Session) (f d i : List ℕ) (sets : List (List Message)
   abbrev node : ℕ
   node = frameNode f
 
-  n₁ : None (replyLadder Read p s f d (length i))
-  n₁ = none-applies (replyLadder Read p s f d (length i)) refl e₁
+  q₁ : Known (replyLadder Read p s f d (length i)) p s d
+  q₁ = known-reply Read p s f d (length i) e₁
 
   n₂ : None (recordLadder p s f)
   n₂ = none-applies (recordLadder p s f) refl e₂
 
-  plan-ok : planOk p ≡ true
-  plan-ok = not-false (planOk p) (clear (replyLadder Read p s f d (length i)) n₁ 1)
-
-  lengths : Lengths p (length d) (length i)
-  lengths = lengths-are p (length d) (length i) (not-false (lengthsOk p (length d) (length i)) (clear (replyLadder Read p s f d (length i)) n₁ 2))
-
-  ranges : StandingIs p s × OpenIs p s d
-  ranges =
-      in-range-facts p s d (both (isRead (s .operation)) (inRange p s d) (not-false (isRead (s .operation) and inRange p s d) (clear (replyLadder Read p s f d (length i)) n₁ 9)) .1) (clear (replyLadder Read p s f d (length i)) n₁ 14)
-
   unmarked : markOf (s .marks) node ≡ Unheard
   unfolding isHeard
-  unmarked = not-heard (markOf (s .marks) node) (clear (replyLadder Read p s f d (length i)) n₁ 11)
+  unmarked = not-heard (markOf (s .marks) node) (q₁ .past 11)
 
   node-low : node < p .n
-  node-low = reply-is p f (not-false (goodReply p f) (clear (replyLadder Read p s f d (length i)) n₁ 4)) .node-low
+  node-low = reply Read p s f d (length i) q₁ .node-low
 
   rest-after : (m : Mark) → restUnheard (set (s .marks) node m) (p .n) ≡ true
-  rest-after m = rest-set (s .marks) (p .n) node m node-low ∙ ranges .0 .rest
+  rest-after m = rest-set (s .marks) (p .n) node m node-low ∙ q₁ .stands .rest
 
   -- no more than N-t are heard
   most-after : (m : Mark) → bitOf (m .is) ≡ 1 → length (s .marks) ≡ 16 → heardCount (set (s .marks) node m) ≤ replies p
   most-after m b l =
-      let n16 = plan-is p plan-ok .n-high in
+      let n16 = plan-is p (q₁ .plan-ok) .n-high in
       let c = count-set (s .marks) node m (omega (arith, node-low, l)) unmarked b in
-      let w = ltb-true (heardCount (s .marks)) (replies p) (ranges .1 .few) in
+      let w = open-few p s (q₁ .opens .few) in
       omega (arith, c, w)
 
   body-passed : bears p f ≡ true → Passed p node (bodyOf f)
@@ -326,7 +315,7 @@ module _ (p : Plan) (s : Session) (f d i : List ℕ) (sets : List (List Message)
     before = responses p (s .marks) d (p .n)
 
     inside : node < length (s .marks)
-    inside = let n16 = plan-is p plan-ok .n-high in omega (arith, node-low, k .size)
+    inside = let n16 = plan-is p (q₁ .plan-ok) .n-high in omega (arith, node-low, k .size)
 
     pub record-hears : bears p f ≡ true
         → Same (responses p (set (s .marks) node (record { is = Record })) (put d (node * recordLength p) (bodyOf f)) (p .n))
@@ -343,7 +332,7 @@ module _ (p : Plan) (s : Session) (f d i : List ℕ) (sets : List (List Message)
         (receives (family p) (commandOf (s .round .bound)) before (said-first node))
     first-hears =
         subst (Same (responses p (set (s .marks) node (record { is = First })) d (p .n)))
-        (sym (puts p (commandOf (s .round .bound)) before (said-first node) (valid-first p node) (first-in-time (s .round .bound) (s .round .number) (ranges .0 .bounded))
+        (sym (puts p (commandOf (s .round .bound)) before (said-first node) (valid-first p node) (first-in-time (s .round .bound) (s .round .number) (q₁ .stands .bounded))
         (unheard-has p (s .marks) d node (p .n) unmarked)))
         (first-after p (s .marks) d node node-low inside unmarked)
 
@@ -393,7 +382,7 @@ module _ (p : Plan) (s : Session) (f d i : List ℕ) (sets : List (List Message)
             (k .passed j h (sym (mark-other (s .marks) node j (record { is = Record }) q) ∙ m))
 
   round-high : s .round .number ≤ p .w
-  round-high = leb-true (s .round .number) (p .w) (ranges .0 .high)
+  round-high = q₁ .stands .high
 
   asks-leaves : s .round .stage ≡ Asking → (t : Bool) → bears p f ≡ t
       → AllApart (cond t (closedBy p (markedOf s node Record) (put d (node * recordLength p) (bodyOf f)) sets) (closedBy p (markedOf s node First) d sets))
@@ -402,11 +391,11 @@ module _ (p : Plan) (s : Session) (f d i : List ℕ) (sets : List (List Message)
   asks-leaves st true b a =
       let k : Asks p s d sets = subst (λ (x : Stage). KeepsAt x p s d sets) st keep in
       settles p (markedOf s node Record) (put d (node * recordLength p) (bodyOf f)) i sets st (record-asks b k)
-      plan-ok (lengths .item-is) (rest-after (record { is = Record })) round-high (most-after (record { is = Record }) refl (k .size)) sz a
+      (q₁ .plan-ok) (item-is Read p s f d (length i) q₁) (rest-after (record { is = Record })) round-high (most-after (record { is = Record }) refl (k .size)) sz a
   asks-leaves st false b a =
       let k : Asks p s d sets = subst (λ (x : Stage). KeepsAt x p s d sets) st keep in
       settles p (markedOf s node First) d i sets st (first-asks k)
-      plan-ok (lengths .item-is) (rest-after (record { is = First })) round-high (most-after (record { is = First }) refl (k .size)) sz a
+      (q₁ .plan-ok) (item-is Read p s f d (length i) q₁) (rest-after (record { is = First })) round-high (most-after (record { is = First }) refl (k .size)) sz a
 
 -- the outcome of a call, and the rounds closed after it
 pub record Turn : Type 0 where
@@ -429,7 +418,7 @@ module _ (p : Plan) (s : Session) (f d i : List ℕ) (sets : List (List Message)
   heardFirst = turn (settled p (markedOf s (frameNode f) First) d i) (closedBy p (markedOf s (frameNode f) First) d sets)
 
   abbrev taken : Turn
-  taken = cond (isStoring (s .round .stage)) (turn (stored p s f d i) sets) (cond (bears p f) heardRecord heardFirst)
+  taken = cond (isStoring (s .round .stage)) (turn (stored p (markedOf s (frameNode f) Record) d i) sets) (cond (bears p f) heardRecord heardFirst)
 
   abbrev turned : Turn
   turned = first (replyLadder Read p s f d (length i)) refuse (first (recordLadder p s f) refuse taken)
@@ -438,8 +427,8 @@ module _ (p : Plan) (s : Session) (f d i : List ℕ) (sets : List (List Message)
   unfolding accepted heard
   taken-now = go (isStoring (s .round .stage)) (bears p f)
     where
-      go : (t v : Bool) → cond t (turn (stored p s f d i) sets) (cond v heardRecord heardFirst) .now
-          ≡ cond t (stored p s f d i) (cond v (heardRecord .now) (heardFirst .now))
+      go : (t v : Bool) → cond t (turn (stored p (markedOf s (frameNode f) Record) d i) sets) (cond v heardRecord heardFirst) .now
+          ≡ cond t (stored p (markedOf s (frameNode f) Record) d i) (cond v (heardRecord .now) (heardFirst .now))
       go true v = refl
       go false true = refl
       go false false = refl
@@ -447,7 +436,7 @@ module _ (p : Plan) (s : Session) (f d i : List ℕ) (sets : List (List Message)
   taken-sets : taken .sets ≡ cond (isStoring (s .round .stage)) sets (cond (bears p f) (heardRecord .sets) (heardFirst .sets))
   taken-sets = go (isStoring (s .round .stage)) (bears p f)
     where
-      go : (t v : Bool) → cond t (turn (stored p s f d i) sets) (cond v heardRecord heardFirst) .sets ≡ cond t sets (cond v (heardRecord .sets) (heardFirst .sets))
+      go : (t v : Bool) → cond t (turn (stored p (markedOf s (frameNode f) Record) d i) sets) (cond v heardRecord heardFirst) .sets ≡ cond t sets (cond v (heardRecord .sets) (heardFirst .sets))
       go true v = refl
       go false true = refl
       go false false = refl
@@ -476,17 +465,20 @@ module _ (p : Plan) (s : Session) (f d i : List ℕ) (sets : List (List Message)
     taken-right : first (replyLadder Read p s f d (length i)) (λ (j : ℕ). j) 0 ≡ 0 → first (recordLadder p s f) (λ (j : ℕ). j) 0 ≡ 0 → Right taken
     taken-right e₁ e₂ = go (s .round .stage) refl
       where
-        go : (x : Stage) → s .round .stage ≡ x → Right (cond (isStoring x) (turn (stored p s f d i) sets) (cond (bears p f) heardRecord heardFirst))
+        q : Known (replyLadder Read p s f d (length i)) p s d
+        q = known-reply Read p s f d (length i) e₁
+
+        go : (x : Stage) → s .round .stage ≡ x → Right (cond (isStoring x) (turn (stored p (markedOf s (frameNode f) Record) d i) sets) (cond (bears p f) heardRecord heardFirst))
         go Asking st = part (bears p f) refl
           where
             part : (t : Bool) → bears p f ≡ t → Right (cond t heardRecord heardFirst)
             part true b a = asks-leaves p s f d i sets of keep sz e₁ e₂ st true b a
             part false b a = asks-leaves p s f d i sets of keep sz e₁ e₂ st false b a
         go Storing st = λ a.
-            stores p d i (plan-ok p s f d i sets of keep sz e₁ e₂) (lengths p s f d i sets of keep sz e₁ e₂ .desk-is) (lengths p s f d i sets of keep sz e₁ e₂ .item-is)
+            stores p d i (q .plan-ok) (q .desk-is) (item-is Read p s f d (length i) q)
             s f sets st (subst (λ (x : Stage). KeepsAt x p s d sets) st keep) sz
             (most-after p s f d i sets of keep sz e₁ e₂ (record { is = Record }) refl (storing-size st keep))
-        go Ended st = λ a. absurd (clash (sym (ap isEnded st) ∙ clear (replyLadder Read p s f d (length i)) (n₁ p s f d i sets of keep sz e₁ e₂) 14))
+        go Ended st = λ a. absurd (clash (sym (ap isEnded st) ∙ q .going))
 
     call-leaves : AllApart (closing p s f d (length i) sets) → Leaves p (readReply p s f d i) (closing p s f d (length i) sets)
     call-leaves a =
@@ -504,13 +496,13 @@ module _ (p : Plan) (s : Session) (f d i : List ℕ) (sets : List (List Message)
       (subst AllApart (sym turned-sets) a)
     where
       one : (x : Session) (y : List ℕ) → AllApart (closedBy p x y sets) → AllApart sets
-      one x y b = pick (ltb (heardCount (x .marks)) (replies p)) b
+      one x y b = pick (roundOpen p x) b
         where
           pick : (t : Bool) → AllApart (cond t sets (responses p (x .marks) y (p .n) ∷ sets)) → AllApart sets
           pick true c = c
           pick false c = c .1
 
-      go : (t v : Bool) → AllApart (cond t (turn (stored p s f d i) sets) (cond v heardRecord heardFirst) .sets) → AllApart sets
+      go : (t v : Bool) → AllApart (cond t (turn (stored p (markedOf s (frameNode f) Record) d i) sets) (cond v heardRecord heardFirst) .sets) → AllApart sets
       go true v b = b
       go false true b = one (markedOf s (frameNode f) Record) (put d (frameNode f * recordLength p) (bodyOf f)) b
       go false false b = one (markedOf s (frameNode f) First) d b

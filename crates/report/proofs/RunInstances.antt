@@ -22,7 +22,7 @@ use Rattle.record.specs.Desk.{slotOf}
 use Rattle.rounds.specs.Rounds.{heardCount, every, slotStamp, slotsFit, slotFits, underOf}
 use Rattle.session.specs.declared.Session.{Session}
 use Rattle.session.specs.declared.Operation.the-variants.{Read}
-use Rattle.session.specs.Session.{askNow, kindAwaited}
+use Rattle.session.specs.Session.{askNow, awaitsKind}
 use Rattle.session.specs.Ranges.{standingRules, openRules, inRange}
 use Rattle.session.specs.Reply.{lengthsOk, awaited, isHeard, bears, replyLadder, recordLadder}
 use Rattle.client.specs.Turns.{Turn}
@@ -66,7 +66,7 @@ module _ (before : List (List Message)) where
 
   closing-2 : closing plan reads.first-heard reads.reply-2 desk-poor 1 before ≡ heard-in desk-poor ∷ before
   unfolding closing responses responseOf reads.reply-2 plan desk-poor poor hash first planOk countsOk limitsOk columnOf all recordLength lengthsOk inRange standingRules openRules every
-      heardCount slotsFit slotFits slotStamp goodReply goodFrame shaped forParty oneOf bodyFits awaited askNow kindAwaited isHeard bears underOf num numFrom part be beOnto
+      heardCount slotsFit slotFits slotStamp goodReply goodFrame shaped forParty oneOf bodyFits awaited askNow awaitsKind isHeard bears underOf num numFrom part be beOnto
   closing-2 = refl
 
   closing-3 : Stays reads.second-round reads.reply-3 desk-poor
@@ -75,7 +75,7 @@ module _ (before : List (List Message)) where
 
   closing-4 : closing plan reads.second-heard reads.reply-4 desk-good 1 before ≡ heard-in desk-good ∷ before
   unfolding closing responses responseOf reads.reply-4 plan desk-poor poor desk-good good stamp-bytes hash first planOk countsOk limitsOk columnOf all recordLength lengthsOk inRange
-      standingRules openRules every heardCount slotsFit slotFits slotStamp goodReply goodFrame shaped forParty oneOf bodyFits awaited askNow kindAwaited isHeard bears underOf
+      standingRules openRules every heardCount slotsFit slotFits slotStamp goodReply goodFrame shaped forParty oneOf bodyFits awaited askNow awaitsKind isHeard bears underOf
       num numFrom part be beOnto stampAt stampNumber then
   closing-4 = refl
 

@@ -3,22 +3,21 @@
 use Prim.{Unit, tt}
 use Prim.Native.Nat.{ℕ, suc, _+_, _*_, _≤_, _<_}
 use mathlib.Core.Path.{_≡_, refl, sym, ap, _∙_, subst}
-use mathlib.Core.Bool.{Bool, true, false, cond, not}
+use mathlib.Core.Bool.{Bool, true, false, cond}
 use mathlib.Core.List.{List, [], _∷_, _++_, append-nil, append-assoc}
 use native.Mathlib.Omega.{arith}
-use borrow.Author.Tests.{ltb-true, ltb-false, eqb-true, not-false}
-use lib.Dec.{ltb, eqb}
+use borrow.Author.Tests.{eqb-true}
+use lib.Dec.{eqb}
 use lib.ListN.{length, set, length-append, length-set}
 use Rattle.octets.specs.Bytes.{part, num, be}
 use Rattle.octets.proofs.Laws.{length-be, part-all, part-middle}
 use Rattle.sha256.specs.Sha256.{sha256}
 use Rattle.sha256.proofs.Laws.{sha256-length}
-use Rattle.terms.specs.Ladder.{first, _and_, None}
+use Rattle.terms.specs.Ladder.{first}
 use Rattle.terms.specs.Stamp.{stamp, time, stampNumber, top}
 use Rattle.terms.specs.declared.Plan.{Plan}
 use Rattle.terms.specs.declared.Ask.{Ask}
-use Rattle.terms.proofs.Down.{clear}
-use Rattle.terms.proofs.Rungs.{both, clash}
+use Rattle.terms.proofs.Rungs.{clash}
 use Rattle.terms.proofs.Plans.{plan-is}
 use Rattle.terms.proofs.Stamps.{stamp-at-number}
 use Rattle.fragments.specs.Fragments.{fragment}
@@ -38,14 +37,14 @@ use Rattle.session.specs.declared.Operation.the-variants.{Write}
 use Rattle.session.specs.declared.opening.Opened.{Opened}
 use Rattle.session.specs.declared.opening.Opening.the-variants.{Accepted}
 use Rattle.session.specs.Opening.{OpenCall, freshOf}
-use Rattle.session.specs.Session.{isRead, isStoring, isEnded, replies, markedOf, endedOf, storingOf, refused, stillOpen, done, clockSpent, saidOf}
-use Rattle.session.specs.Ranges.{inRange}
+use Rattle.session.specs.Session.{isStoring, isEnded, replies, markedOf, endedOf, storingOf, refused, stillOpen, done, clockSpent, saidOf, roundOpen}
 use Rattle.session.specs.Reply.{isHeard, replyLadder}
 use Rattle.session.specs.Writer.{timedOf, newTime, crossFor, stampFor, recordsFor, Leaves, leaves, timeEnd, timeTurn, writeTurn, acceptedWrite, writeReply}
-use Rattle.session.proofs.Checks.{none-applies, outcome-all, first-map}
-use Rattle.session.proofs.Made.{in-range-facts}
+use Rattle.session.proofs.Checks.{outcome-all, first-map}
 use Rattle.session.proofs.Openings.{accepted-session}
-use Rattle.session.proofs.Writers.{record-is, Taking, taking}
+use Rattle.session.proofs.Writers.{record-is}
+use Rattle.session.proofs.Known.{Known, known-reply, item-is, reply}
+use Rattle.session.proofs.Rules.{open-few, over-many}
 use Rattle.report.specs.Triple.{Triple, Message, larger, MAX}
 use Rattle.report.specs.Figure2.{READ-TIMESTAMP, MAKE-CROSS-CHECKSUM, MAKE-TIMESTAMP, DO-WRITE, ts-written, WRITE}
 use Rattle.report.specs.Ours.{family, stampedAs, bearing, sending}
@@ -164,23 +163,23 @@ module _ (p : Plan) (s : Session) (d i : List ℕ) (ts : List ℕ) (st : s .roun
 
     times-on : Right p (timeTurn p s d i) with-item
     unfolding timeTurn
-    times-on = go (ltb (heardCount (s .marks)) (replies p)) refl
+    times-on = go (roundOpen p s) refl
       where
-        go : (t : Bool) → ltb (heardCount (s .marks)) (replies p) ≡ t → Right p (cond t (leaves stillOpen s d) (timeEnd p s d i)) with-item
+        go : (t : Bool) → roundOpen p s ≡ t → Right p (cond t (leaves stillOpen s d) (timeEnd p s d i)) with-item
         go true e = record { keeps = subst (λ (x : Stage). KeepsAt x p s d with-item) (sym st) k; wrote = tt }
-        go false e = time-ends (ltb-false (heardCount (s .marks)) (replies p) e)
+        go false e = time-ends (over-many p s e)
 
 -- ---- a write round after a reply
 writes-on : (p : Plan) (s : Session) (d : List ℕ) (w : Timed) → s .round .stage ≡ Storing → Sending p s d w × (length (s .marks) ≡ 16)
     → heardCount (s .marks) ≤ replies p → Right p (writeTurn p s d) w
 unfolding writeTurn
-writes-on p s d w st k most = go (ltb (heardCount (s .marks)) (replies p)) refl
+writes-on p s d w st k most = go (roundOpen p s) refl
   where
-    go : (t : Bool) → ltb (heardCount (s .marks)) (replies p) ≡ t
+    go : (t : Bool) → roundOpen p s ≡ t
         → Right p (cond t (leaves stillOpen s d) (leaves (done (stampNumber (s .stamp)) 0) (endedOf s) d)) w
     go true e = record { keeps = subst (λ (x : Stage). KeepsAt x p s d w) (sym st) k; wrote = tt }
     go false e =
-        let l = ltb-false (heardCount (s .marks)) (replies p) e in
+        let l = over-many p s e in
         record { keeps = tt; wrote = (k .0 .stamp, omega (arith, most, l)) }
 
 -- ---- a call
@@ -229,25 +228,20 @@ module _ (p : Plan) (s : Session) (f d i : List ℕ) (w : Timed) where
       go false = refl
 
   module _ (keep : Keeps p s d w) (e : first (replyLadder Write p s f d (length i)) (λ (j : ℕ). j) 0 ≡ 0) where
-    q : Taking p s f d (length i)
-    q = taking p s f d (length i) e
-
-    n : None (replyLadder Write p s f d (length i))
-    n = none-applies (replyLadder Write p s f d (length i)) refl e
+    q : Known (replyLadder Write p s f d (length i)) p s d
+    q = known-reply Write p s f d (length i) e
 
     few : heardCount (s .marks) < replies p
-    few =
-        let r = both (not (isRead (s .operation))) (inRange p s d) (not-false (not (isRead (s .operation)) and inRange p s d) (clear (replyLadder Write p s f d (length i)) n 9)) in
-        ltb-true (heardCount (s .marks)) (replies p) (in-range-facts p s d (r .1) (clear (replyLadder Write p s f d (length i)) n 14) .1 .few)
+    few = open-few p s (q .opens .few)
 
     no-mark : markOf (s .marks) (frameNode f) ≡ Unheard
     unfolding isHeard
-    no-mark = not-heard (markOf (s .marks) (frameNode f)) (clear (replyLadder Write p s f d (length i)) n 11)
+    no-mark = not-heard (markOf (s .marks) (frameNode f)) (q .past 11)
 
     counted : length (s .marks) ≡ 16 → heardCount (set (s .marks) (frameNode f) (record { is = Record })) ≡ suc (heardCount (s .marks))
     counted l =
         let n16 = plan-is p (q .plan-ok) .n-high in
-        count-set (s .marks) (frameNode f) (record { is = Record }) (omega (arith, q .reply .node-low, l)) no-mark refl
+        count-set (s .marks) (frameNode f) (record { is = Record }) (omega (arith, reply Write p s f d (length i) q .node-low, l)) no-mark refl
 
     module _ (k : Times p s w) where
       times-after : Times p (timedOf s (frameNode f) (time (bodyOf f))) heardTime
@@ -267,14 +261,14 @@ module _ (p : Plan) (s : Session) (f d i : List ℕ) (w : Timed) where
             (cond (isStoring x) (turn (writeTurn p (markedOf s (frameNode f) Record) d) w) (turn (timeTurn p (timedOf s (frameNode f) (time (bodyOf f))) d i) heardTime) .timed)
         go Asking st =
             let k : Times p s w = subst (λ (x : Stage). KeepsAt x p s d w) st keep in
-            times-on p (timedOf s (frameNode f) (time (bodyOf f))) d i (time (bodyOf f) ∷ w .Times) st (q .lengths .item-is)
+            times-on p (timedOf s (frameNode f) (time (bodyOf f))) d i (time (bodyOf f) ∷ w .Times) st (item-is Write p s f d (length i) q)
             (omega (arith, counted (k .size), few)) (times-after k)
         go Storing st =
             let k : Sending p s d w × (length (s .marks) ≡ 16) = subst (λ (x : Stage). KeepsAt x p s d w) st keep in
             writes-on p (markedOf s (frameNode f) Record) d w st
             (record { times = k .0 .times; stamp = k .0 .stamp; sends = k .0 .sends }, length-set (s .marks) (frameNode f) (record { is = Record }) ∙ k .1)
             (omega (arith, counted (k .1), few))
-        go Ended st = absurd (clash (sym (ap isEnded st) ∙ (clear (replyLadder Write p s f d (length i)) n 14)))
+        go Ended st = absurd (clash (sym (ap isEnded st) ∙ q .going))
 
   call-right : Keeps p s d w → Right p (writeReply p s f d i) (timing p s f d i w)
   call-right keep =

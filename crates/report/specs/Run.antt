@@ -13,7 +13,6 @@ use mathlib.Core.Logic.{_⊎_}
 use mathlib.Core.Bool.{Bool, true, false, cond}
 use mathlib.Core.List.{List, [], _∷_}
 use lib.ListN.{length}
-use lib.Dec.{ltb}
 use Rattle.octets.specs.Bytes.{put, Octets}
 use Rattle.sha256.specs.Sha256.{sha256}
 use Rattle.terms.specs.Ladder.{first, _and_}
@@ -26,7 +25,7 @@ use Rattle.rounds.specs.Rounds.{heardCount}
 use Rattle.session.specs.declared.Session.{Session}
 use Rattle.session.specs.declared.Stage.the-variants.{Storing}
 use Rattle.session.specs.declared.Operation.the-variants.{Read}
-use Rattle.session.specs.Session.{isStoring, replies, markedOf, Said, refused, stillOpen, done, neverWritten, aborted, roundsSpent, clockSpent, saidOf}
+use Rattle.session.specs.Session.{isStoring, markedOf, Said, refused, stillOpen, done, neverWritten, aborted, roundsSpent, clockSpent, saidOf, roundOpen}
 use Rattle.session.specs.Reply.{bears, replyLadder, recordLadder}
 use Rattle.node.specs.declared.Answer.{Answer}
 use Rattle.node.specs.declared.Answer.the-variants.{Refused, Replied}
@@ -60,7 +59,7 @@ received p S History (c ∷ cs) =
 -- ---- reading
 -- a round that has N-t replies is closed
 abbrev pub closedBy : Plan → Session → List ℕ → List (List Message) → List (List Message)
-closedBy p s d before = cond (ltb (heardCount (s .marks)) (replies p)) before (responses p (s .marks) d (p .n) ∷ before)
+closedBy p s d before = cond (roundOpen p s) before (responses p (s .marks) d (p .n) ∷ before)
 
 -- the closed rounds after a reply: a refused one, and one of a repair round, closes none
 unfoldable pub closing : Plan → Session → List ℕ → List ℕ → ℕ → List (List Message) → List (List Message)

@@ -274,7 +274,7 @@ module _ (p : Plan) (d i : List ℕ) (ok : planOk p ≡ true) (ld : length d ≡
         (marked-more (λ (S : ℕ). S) (s .marks) (acknowledged (w .stored)) (frameNode f) (frameNode f) refl (omega (arith, low, k .size))
         (not-heard (markOf (s .marks) (frameNode f)) u) (k .marked))
 
-    stores : Leaves p (stored p s f d i) with-response
+    stores : Leaves p (stored p (markedOf s (frameNode f) Record) d i) with-response
     unfolding stored isHeard
     stores = go (ltb (heardCount (markedOf s (frameNode f) Record .marks)) (replies p)) refl
       where
@@ -413,7 +413,7 @@ module _ (p : Plan) (s : Session) (f d i : List ℕ) (w : Polled) where
 
         waits : rolled p with-message ≡ with-message
         waits =
-            rolled-is p s d i with-message st after plan-ok (lengths .item-is) (ranges .0 .rest) (ranges .0 .round-high) (omega (arith, few)) sz
+            rolled-is p s d i with-message st after plan-ok (lengths .item-is) (ranges .0 .rest) (ranges .0 .high) (omega (arith, few)) sz
             ∙ rw (lt-ltb (heardCount (s .marks)) (replies p) few)
 
     -- 11: heard already
@@ -455,14 +455,14 @@ module _ (p : Plan) (s : Session) (f d i : List ℕ) (w : Polled) where
         settled-so : AllApart p (rolled p with-message .rounds) → Leaves p (settled p (markedOf s node (mark .is)) e i) (rolled p with-message)
         settled-so =
             settles p (markedOf s node (mark .is)) e i with-message st marked plan-ok (lengths .item-is) (rest-set (s .marks) (p .n) node mark node-low ∙ ranges .0 .rest)
-            (ranges .0 .round-high)
+            (ranges .0 .high)
             (let n16 = plan-is p plan-ok .n-high in omega (arith, count-set (s .marks) node mark inside unmarked one, few)) sz
 
       accepts : None ladder → Leaves p (heard p s f d i) (rolled p with-message) → Leaves p (readReply p s f d i) (rolled p with-message)
       unfolding accepted
       accepts n q =
           subst (λ (o : Outcome). Leaves p o (rolled p with-message))
-          (sym (one-ladder p s f d i ∙ is-passed ladder refuse (accepted p s f d i) n ∙ ap (λ (x : Stage). cond (isStoring x) (stored p s f d i) (heard p s f d i)) st)) q
+          (sym (one-ladder p s f d i ∙ is-passed ladder refuse (accepted p s f d i) n ∙ ap (λ (x : Stage). cond (isStoring x) (stored p (markedOf s node Record) d i) (heard p s f d i)) st)) q
 
       -- a first triple
       first-right : bears p f ≡ false → AllApart p (rolled p with-message .rounds) → Leaves p (readReply p s f d i) (rolled p with-message)

@@ -4,12 +4,10 @@ use node::Made;
 use session::Answer;
 use session::owed::Owed;
 use terms::Plan;
-use terms::Refusal;
 use terms::Timestamp;
 ghost use mathlib.Core.Path.{_≡_};
 ghost use lib.ListN.{length};
 ghost use Rattle.terms.specs.Ladder.{first};
-ghost use Rattle.terms.specs.Terms.{refusalNumber};
 ghost use Rattle.terms.specs.Stamp.{stampNumber};
 ghost use Rattle.node.specs.Node.{saidServed};
 ghost use Rattle.node.specs.Fresh.{saidMade};
@@ -17,33 +15,11 @@ ghost use Rattle.session.specs.Session.{saidOf, isRefused};
 ghost use Rattle.session.specs.Owed.{dueOf};
 ghost use Rattle.answers.specs.Answers.{bothFit, lentLadder, madeNumber, servedNumber, dueNumber, answerNumber, endingBytes, endingAfter};
 
-// Document 01's number of a refusal.
-pub fn refusal_number(r: Refusal) -> u32
-    ensures { λ n. ⌜ n ≡ refusalNumber r ⌝ }
-{
-    match r {
-        Refusal::OutsidePlan => 1,
-        Refusal::WrongLength => 2,
-        Refusal::WrongBook => 3,
-        Refusal::WrongFrame => 4,
-        Refusal::TimeZero => 5,
-        Refusal::HashFails => 6,
-        Refusal::OtherBytes => 7,
-        Refusal::NoRoom => 8,
-        Refusal::OutOfRange => 9,
-        Refusal::NotAwaited => 10,
-        Refusal::AlreadyHeard => 11,
-        Refusal::NotBelow => 12,
-        Refusal::AskTooHigh => 13,
-        Refusal::HasEnded => 14,
-    }
-}
-
 pub fn made_number(m: Made) -> u32
     ensures { λ r. ⌜ r ≡ madeNumber (saidMade m) ⌝ }
 {
     match m {
-        Made::Refused(r) => refusal_number(r),
+        Made::Refused(r) => r.number(),
         Made::Fresh => 0,
     }
 }
@@ -52,7 +28,7 @@ pub fn served_number(a: node::Answer) -> u32
     ensures { λ r. ⌜ r ≡ servedNumber (saidServed a) ⌝ }
 {
     match a {
-        node::Answer::Refused(r) => refusal_number(r),
+        node::Answer::Refused(r) => r.number(),
         node::Answer::Replied(_) => 0,
     }
 }
@@ -61,7 +37,7 @@ pub fn due_number(o: Owed) -> u32
     ensures { λ r. ⌜ r ≡ dueNumber (dueOf o) ⌝ }
 {
     match o {
-        Owed::Refused(r) => refusal_number(r),
+        Owed::Refused(r) => r.number(),
         Owed::Request(_) => 0,
     }
 }
@@ -70,7 +46,7 @@ pub fn answer_number(a: Answer) -> u32
     ensures { λ r. ⌜ r ≡ answerNumber (saidOf a) ⌝ }
 {
     match a {
-        Answer::Refused(r) => refusal_number(r),
+        Answer::Refused(r) => r.number(),
         Answer::Open => 0,
         Answer::Done(_, _) => 101,
         Answer::NeverWritten(_) => 102,

@@ -9,7 +9,6 @@ use Prim.Native.Nat.{ℕ}
 use mathlib.Core.Path.{_≡_, refl, sym, ap, _∙_, subst}
 use mathlib.Core.Bool.{false}
 use mathlib.Core.List.{List, []}
-use lib.Dec.{ltb}
 use lib.ListN.{length}
 use Rattle.octets.specs.Bytes.{over}
 use Rattle.terms.specs.declared.Ask.{Ask}
@@ -18,7 +17,6 @@ use Rattle.book.specs.Book.{laidOut}
 use Rattle.frame.specs.Frame.{frameNode}
 use Rattle.rounds.specs.declared.Heard.the-variants.{Record}
 use Rattle.rounds.specs.declared.Bound.the-variants.{Free}
-use Rattle.rounds.specs.Rounds.{heardCount}
 use Rattle.node.specs.declared.Answer.{Answer}
 use Rattle.node.specs.declared.Made.{Made}
 use Rattle.node.specs.Node as node
@@ -122,7 +120,7 @@ write-ends p s f d i t d₂ c =
 pub accepted-taken : (p : Plan) (s : Session) (f d i : List ℕ) → isRefused (accepted p s f d i .said) ≡ false
 unfolding accepted stored
 accepted-taken p s f d i =
-    pick Taken (isStoring (s .round .stage)) (pick Taken (ltb (heardCount (markedOf s (frameNode f) Record .marks)) (session.replies p)) refl refl)
+    pick Taken (isStoring (s .round .stage)) (pick Taken (session.roundOpen p (markedOf s (frameNode f) Record)) refl refl)
     (subst Taken (sym (reading.heard-settles p s f d i)) (settled-taken p (afterReply p s f) (deskAfter p f d) i))
   where
     Taken : Outcome → Type 0

@@ -9,7 +9,7 @@ use mathlib.Core.Bool.{Bool, false, cond}
 use mathlib.Core.List.{List}
 use native.Mathlib.Omega.{arith}
 use borrow.Author.Tests.{ne-eqb}
-use lib.Dec.{ltb, eqb}
+use lib.Dec.{eqb}
 use lib.ListN.{length}
 use Rattle.terms.specs.Ladder.{first}
 use Rattle.terms.specs.declared.Plan.{Plan}
@@ -17,7 +17,6 @@ use Rattle.terms.proofs.Rungs.{clash}
 use Rattle.terms.proofs.Picks.{either}
 use Rattle.rounds.specs.declared.Bound.the-variants.{Free}
 use Rattle.rounds.specs.declared.Heard.the-variants.{Record}
-use Rattle.rounds.specs.Rounds.{heardCount}
 use Rattle.frame.specs.Frame.{frameNode, bodyOf}
 use Rattle.terms.specs.Stamp.{time, top}
 use Rattle.node.specs.Fresh.{FreshOutcome, freshLadder, freshened}
@@ -26,7 +25,7 @@ use Rattle.node.specs.Node.{nodeLadder, served, answered, sends}
 use Rattle.session.specs.declared.Operation.{Operation}
 use Rattle.session.specs.declared.Operation.the-variants.{Write}
 use Rattle.session.specs.declared.Session.{Session}
-use Rattle.session.specs.Session.{Said, refused, stillOpen, done, neverWritten, aborted, roundsSpent, clockSpent, isStoring, replies, markedOf, isRefused}
+use Rattle.session.specs.Session.{Said, refused, stillOpen, done, neverWritten, aborted, roundsSpent, clockSpent, isStoring, markedOf, isRefused, roundOpen}
 use Rattle.session.specs.Opening.{openWith}
 use Rattle.session.specs.Owed.{Dues, owedLadder, owedTo}
 use Rattle.session.specs.Reply.{replyLadder}
@@ -163,8 +162,8 @@ unfolding acceptedWrite writeTurn timeTurn timeEnd
 write-taken p s f d i =
     let timed = timedOf s (frameNode f) (time (bodyOf f)) in
     either Taken (isStoring (s .round .stage))
-    (either Taken (ltb (heardCount (markedOf s (frameNode f) Record .marks)) (replies p)) refl refl)
-    (either Taken (ltb (heardCount (timed .marks)) (replies p)) refl (either Taken (eqb (timed .greatest .0) top) refl refl))
+    (either Taken (roundOpen p (markedOf s (frameNode f) Record)) refl refl)
+    (either Taken (roundOpen p timed) refl (either Taken (eqb (timed .greatest .0) top) refl refl))
   where
     Taken : Leaves → Type 0
     Taken o = isRefused (o .said) ≡ false

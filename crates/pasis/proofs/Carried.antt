@@ -7,7 +7,7 @@ use mathlib.Core.List.{List}
 use native.Mathlib.Omega.{arith}
 use borrow.Author.Tests.{leb-false}
 use lib.ListN.{length}
-use lib.Dec.{ltb, leb, eqb}
+use lib.Dec.{leb, eqb}
 use Rattle.terms.specs.Ladder.{first}
 use Rattle.terms.specs.Terms.{planOk}
 use Rattle.terms.proofs.Picks.{either}
@@ -21,10 +21,10 @@ use Rattle.frame.specs.Frame.{frameNode, bodyOf}
 use Rattle.rounds.specs.declared.Heard.the-variants.{First, Record}
 use Rattle.rounds.specs.declared.Lead.{Lead}
 use Rattle.rounds.specs.declared.Lead.the-variants.{Nobody, Node}
-use Rattle.rounds.specs.Rounds.{heardCount, Closed}
+use Rattle.rounds.specs.Rounds.{Closed}
 use Rattle.session.specs.declared.Session.{Session}
 use Rattle.session.specs.declared.Operation.the-variants.{Write, Read}
-use Rattle.session.specs.Session.{isStoring, replies, markedOf, endedOf, nextOf, refused, stillOpen, roundsSpent}
+use Rattle.session.specs.Session.{isStoring, markedOf, endedOf, nextOf, refused, stillOpen, roundsSpent, roundOpen}
 use Rattle.session.specs.Reply.{bears, replyLadder, recordLadder}
 use Rattle.session.specs.Reader.{Outcome, outcome, sound, failing, actOn, actFor, closed, settled, heard, stored, accepted, readReply}
 use Rattle.session.specs.Writer.{Leaves, leaves, timedOf, timeEnd, timeTurn, writeTurn, acceptedWrite, writeReply}
@@ -37,7 +37,7 @@ record Same (n : ℕ) (o : Leaves) : Type 0 where
 module _ (p : Plan) where
   write-turn-same : (s : Session) (d : List ℕ) → Same (s .round .number) (writeTurn p s d)
   unfolding writeTurn
-  write-turn-same s d = either (Same (s .round .number)) (ltb (heardCount (s .marks)) (replies p)) (record { same = refl }) (record { same = refl })
+  write-turn-same s d = either (Same (s .round .number)) (roundOpen p s) (record { same = refl }) (record { same = refl })
 
   time-end-same : (s : Session) (d i : List ℕ) → Same (s .round .number) (timeEnd p s d i)
   unfolding timeEnd
@@ -45,7 +45,7 @@ module _ (p : Plan) where
 
   time-turn-same : (s : Session) (d i : List ℕ) → Same (s .round .number) (timeTurn p s d i)
   unfolding timeTurn
-  time-turn-same s d i = either (Same (s .round .number)) (ltb (heardCount (s .marks)) (replies p)) (record { same = refl }) (time-end-same s d i)
+  time-turn-same s d i = either (Same (s .round .number)) (roundOpen p s) (record { same = refl }) (time-end-same s d i)
 
   accepted-same : (s : Session) (f d i : List ℕ) → Same (s .round .number) (acceptedWrite p s f d i)
   unfolding acceptedWrite
@@ -89,13 +89,13 @@ module _ (p : Plan) (ok : planOk p ≡ true) where
 
   settled-low : (s : Session) (d i : List ℕ) → s .round .number < 65536 → Low (settled p s d i)
   unfolding settled
-  settled-low s d i h = either Low (ltb (heardCount (s .marks)) (replies p)) (record { low = h }) (act-for-low (closed p s d .lead) s (closed p s d) d i h)
+  settled-low s d i h = either Low (roundOpen p s) (record { low = h }) (act-for-low (closed p s d .lead) s (closed p s d) d i h)
 
   accepted-low : (s : Session) (f d i : List ℕ) → s .round .number < 65536 → Low (accepted p s f d i)
   unfolding accepted stored heard
   accepted-low s f d i h =
       either Low (isStoring (s .round .stage))
-      (either Low (ltb (heardCount (markedOf s (frameNode f) Record .marks)) (replies p)) (record { low = h }) (record { low = h }))
+      (either Low (roundOpen p (markedOf s (frameNode f) Record)) (record { low = h }) (record { low = h }))
       (either Low (bears p f) (settled-low (markedOf s (frameNode f) Record) _ i h) (settled-low (markedOf s (frameNode f) First) d i h))
 
   pub read-round : (s : Session) (f d i : List ℕ) → s .round .number < 65536 → readReply p s f d i .session .round .number < 65536

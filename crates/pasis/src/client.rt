@@ -25,7 +25,7 @@ fn keep_opened(o: Opened, session: &mut [u8]) -> u32
 {
     let a = o.answer;
     match a {
-        Opening::Refused(r) => answers::refusal_number(r),
+        Opening::Refused(r) => r.number(),
         Opening::Accepted => {
             let s = o.session;
             packing::write_session(s, session);

@@ -95,36 +95,6 @@ pub fn reads(o: Operation) -> bool
     }
 }
 
-pub fn asking(s: Stage) -> bool
-    ensures { λ r. ⌜ r ≡ isAsking s ⌝ }
-{
-    match s {
-        Stage::Asking => true,
-        Stage::Storing => false,
-        Stage::Ended => false,
-    }
-}
-
-pub fn storing(s: Stage) -> bool
-    ensures { λ r. ⌜ r ≡ isStoring s ⌝ }
-{
-    match s {
-        Stage::Asking => false,
-        Stage::Storing => true,
-        Stage::Ended => false,
-    }
-}
-
-pub fn ended(s: Stage) -> bool
-    ensures { λ r. ⌜ r ≡ isEnded s ⌝ }
-{
-    match s {
-        Stage::Asking => false,
-        Stage::Storing => false,
-        Stage::Ended => true,
-    }
-}
-
 // "round 1 to W, and 1 in a write"
 fn counts(o: Operation, round: u64) -> bool
     ensures { λ r. ⌜ r ≡ (isRead o or eqb round 1) ⌝ }
@@ -132,22 +102,6 @@ fn counts(o: Operation, round: u64) -> bool
     match o {
         Operation::Write => round == 1,
         Operation::Read => true,
-    }
-}
-
-// "A bound exactly when round is above 1, time 1 or more."
-fn bound_ok(b: Bound, round: u64) -> bool
-    ensures { λ r. ⌜ r ≡ boundOk b round ⌝ }
-{
-    match b {
-        Bound::Free => round <= 1,
-        Bound::Under(u) => {
-            if round <= 1 {
-                return false;
-            }
-            let t = u.time;
-            t.0 >= 1
-        }
     }
 }
 
@@ -180,7 +134,11 @@ impl Session {
     {
         let round = self.round;
         let stage = round.stage;
-        asking(stage)
+        match stage {
+            Stage::Asking => true,
+            Stage::Storing => false,
+            Stage::Ended => false,
+        }
     }
 
     fn storing(self) -> bool
@@ -188,7 +146,11 @@ impl Session {
     {
         let round = self.round;
         let stage = round.stage;
-        storing(stage)
+        match stage {
+            Stage::Asking => false,
+            Stage::Storing => true,
+            Stage::Ended => false,
+        }
     }
 
     fn ended(self) -> bool
@@ -196,7 +158,11 @@ impl Session {
     {
         let round = self.round;
         let stage = round.stage;
-        ended(stage)
+        match stage {
+            Stage::Asking => false,
+            Stage::Storing => false,
+            Stage::Ended => true,
+        }
     }
 
     // Node i heard, with h.
@@ -269,13 +235,23 @@ impl Session {
         self.asking()
     }
 
-    // Whether the bound of its round is there or not, as the number says.
+    // "A bound exactly when round is above 1, time 1 or more."
     fn bound_ok(self) -> bool
         ensures { λ r. ⌜ r ≡ boundOk (self .round .bound) (self .round .number) ⌝ }
     {
         let round = self.round;
+        let number = round.number;
         let bound = round.bound;
-        bound_ok(bound, round.number)
+        match bound {
+            Bound::Free => number <= 1,
+            Bound::Under(u) => {
+                if number <= 1 {
+                    return false;
+                }
+                let t = u.time;
+                t.0 >= 1
+            }
+        }
     }
 
     // The rules of refusal 9 that every session meets.

@@ -12,7 +12,7 @@ use lib.ListN.{length, replicate}
 use Rattle.octets.specs.Bytes.{part, put, num, numFrom, alike}
 use Rattle.terms.specs.Ladder.{first, all}
 use Rattle.terms.specs.Terms.{planOk, countsOk, limitsOk, columnOf, recordLength, classOf, decided}
-use Rattle.terms.specs.Stamp.{then, stampAt, stampNumber, zeroStamp}
+use Rattle.terms.specs.Stamp.{then, stampAt, stampNumber}
 use Rattle.terms.specs.declared.Plan.{Plan}
 use Rattle.terms.specs.declared.Member.the-variants.{Repairable}
 use Rattle.terms.specs.declared.Clients.the-variants.{Crash}
@@ -27,9 +27,8 @@ use Rattle.rounds.specs.Rounds.{heardCount, every, slotStamp, aheadOf, stepOf, 
 use Rattle.session.specs.declared.Session.{Session}
 use Rattle.session.specs.declared.Took.{Took}
 use Rattle.session.specs.declared.Operation.the-variants.{Read}
-use Rattle.session.specs.declared.Stage.the-variants.{Asking}
 use Rattle.session.specs.declared.Answer.the-variants.{Open, Done}
-use Rattle.session.specs.Session.{askNow, awaitsKind, storingOf, markedOf, endedOf}
+use Rattle.session.specs.Session.{askNow, awaitsKind, withMarks, storingOf, markedOf, endedOf}
 use Rattle.session.specs.Ranges.{standingRules, openRules, inRange}
 use Rattle.session.specs.Reply.{lengthsOk, awaited, isHeard, bears}
 use Rattle.session.specs.Reader.{sound, actOn, actFor, closed, settled, heard, stored, accepted, repaired, collected, readReply, ReadReplyCall}
@@ -55,15 +54,7 @@ pub desk : List ℕ
 desk = slot 0 ++ (slot 128 ++ replicate 338 0)
 
 pub session : Session
-session =
-    record {
-      operation = Read;
-      round = record { stage = Asking; number = 1; bound = Free };
-      opening = record { 0 = 5 };
-      greatest = record { 0 = 0 };
-      stamp = zeroStamp;
-      marks = record { is = Record } ∷ record { is = Record } ∷ replicate 14 unheard;
-    }
+session = withMarks (freshOf Read 1 Free (record { 0 = 5 })) (record { is = Record } ∷ record { is = Record } ∷ replicate 14 unheard)
 
 -- kind 7 of node 2, ask number 5, the first triple
 pub frame : List ℕ

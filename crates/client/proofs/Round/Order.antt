@@ -14,6 +14,7 @@ use Rattle.octets.proofs.Laws.{put-left, length-put, slot-room, slot-fits}
 use Rattle.terms.specs.Terms.{recordLength}
 use Rattle.terms.specs.declared.Plan.{Plan}
 use Rattle.frame.specs.Frame.{frameNode, bodyOf}
+use Rattle.session.specs.Session.{withMarks}
 use Rattle.session.specs.declared.Session.{Session}
 use Rattle.session.specs.Reply.{bears}
 use Rattle.session.proofs.Slots.{long-body, long-after}
@@ -58,14 +59,7 @@ slots-comm d x y a b n r ha hb ne l lx ly = go (ltb a b) refl
 
 -- ---- two replies
 marks-comm : (p : Plan) (s : Session) (f g : List ℕ) → (frameNode g ≡ frameNode f → ⊥) → afterReply p (afterReply p s f) g ≡ afterReply p (afterReply p s g) f
-marks-comm p s f g n = λ j. record {
-  operation = s .operation;
-  round = s .round;
-  opening = s .opening;
-  greatest = s .greatest;
-  stamp = s .stamp;
-  marks = set-comm (s .marks) (frameNode f) (frameNode g) (record { is = heardAs p f }) (record { is = heardAs p g }) (λ e. n (sym e)) j;
-}
+marks-comm p s f g n = ap (withMarks s) (set-comm (s .marks) (frameNode f) (frameNode g) (record { is = heardAs p f }) (record { is = heardAs p g }) (λ e. n (sym e)))
 
 module _ (p : Plan) where
   abbrev at : List ℕ → ℕ

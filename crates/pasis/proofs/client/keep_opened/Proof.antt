@@ -11,6 +11,6 @@ keep-opened-spec =
     (λ c κs. search needs)
     (λ c. search needs)
     (λ c κs. search needs)
-    (λ c. laws.kept-refused (c .before .before .before .before .before .args .o) _ _ _ (c .before .before .a .given .1) (c .refusal-number .ensures))
+    (λ c. laws.kept-refused (c .before .before .before .before .before .args .o) _ _ _ (c .before .before .a .given .1) (c .number .ensures))
     (λ c. search needs)
     (λ c. laws.kept-accepted (c .before .before .before .before .before .before .before .before .args .o) _ _ (c .before .before .before .before .before .enum-told .given .1) (c .before .before .write-session .ensures)))

@@ -177,7 +177,7 @@ unfolding opened-to-write
 write-so = opened-write plan ask opened-to-write desk (write-call ∷ []) opens-to-write refl write-calls
 
 -- and its write round is open
-storing-is : after-time .session .stage ≡ Storing
+storing-is : after-time .session .round .stage ≡ Storing
 unfolding after-time time-reply desk writeReply acceptedWrite timeTurn timeEnd first planOk countsOk limitsOk columnOf all recordLength lengthsOk inRange standingRules openRules every heardCount slotsFit slotFits goodReply goodFrame shaped forParty oneOf bodyFits awaited askNow kindAwaited isHeard num numFrom part be beOnto
 storing-is = refl
 

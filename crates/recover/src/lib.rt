@@ -1,17 +1,23 @@
-// Fragments of one set: validated, and written back into all slots of the desk. The sources lie in their slots and stay there, so that
-// every other fragment can be made from them in place, by way of one scratch fragment. Decoding is `fragments::decode`, and
-// after a repair round `fragments::collect`.
+// What a client does with an item and its records: the set of a close validated, decoded, and written back into all slots of the desk; the
+// item read from a desk so filled; and all N records of an item made. The sources lie in their slots and stay there, so that every other
+// fragment can be made from them in place, by way of one scratch fragment.
 ghost use mathlib.Core.Path.{_≡_};
 ghost use mathlib.Core.Bool.{true};
 ghost use mathlib.Core.List.{_++_};
-ghost use Prim.Native.Nat.{_+_, _*_, _≤_, _<_};
+ghost use Prim.Native.Nat.{ℕ, _+_, _*_, _≤_, _<_};
 ghost use lib.ListN.{length};
 ghost use Rattle.octets.specs.Bytes.{part, put};
-ghost use Rattle.terms.specs.Terms.{planOk, slotsOf, slotAt};
+ghost use Rattle.terms.specs.Terms.{planOk, recordLength, slotsOf, slotAt};
 ghost use Rattle.fragments.specs.Fragments.{Sources};
-ghost use Rattle.recover.specs.Recover.{validates, slotFilled, refilled};
+ghost use Rattle.rounds.specs.Rounds.{told};
+ghost use Rattle.recover.specs.Recover.{validates, slotFilled, refilled, sound, decoded, collected, repaired, Usable};
+ghost use Rattle.recover.specs.Records.{stampFor, recordsFor};
+use rounds::Close;
+use terms::Clients;
 use terms::Plan;
 use terms::Slots;
+use terms::Time;
+use terms::Timestamp;
 
 // Validation, each fragment computed into scratch and hashed once: its hash is its entry of the cross checksum in slot a.
 fn valid(p: Plan, desk: &[u8], qs: &[u8], a: usize, scratch: &mut [u8]) -> bool
@@ -94,4 +100,67 @@ fn mend(desk: &mut [u8], slots: Slots, qs: &[u8], a: usize)
     let f = slots.fragment;
     let mut scratch = [0u8; 1024];
     refill(desk, slots, qs, a, &mut scratch[..f]);
+}
+
+// Validation: the clients of the plan are trusted, or the cross checksum agrees.
+pub fn validate(p: Plan, c: Close, a: usize, desk: &[u8]) -> bool
+    requires { ⌜ Usable p c a (now desk) ⌝ }
+    ensures { λ r. ⌜ r ≡ sound p (told c) a (now (desk .entry)) ⌝ }
+{
+    let k = p.clients;
+    match k {
+        Clients::Crash => true,
+        Clients::Byzantine => {
+            let m = p.m as usize;
+            let set = c.set;
+            let nodes = set.nodes;
+            validated(p, desk, &nodes[..m], a)
+        }
+    }
+}
+
+// The item, from the m lowest-numbered of the set.
+pub fn decode(p: Plan, c: Close, a: usize, desk: &[u8], item: &mut [u8])
+    requires { ⌜ (Usable p c a (now desk)) × (length (now item) ≡ p .m * p .f) ⌝ }
+    ensures { λ _. ⌜ now (item .exit) ≡ decoded p (told c) (now (desk .entry)) (now (item .entry)) ⌝ }
+{
+    let slots = terms::slots_of(p);
+    let m = p.m as usize;
+    let set = c.set;
+    let nodes = set.nodes;
+    fragments::decode(desk, slots, &nodes[..m], m, item);
+}
+
+// All N records of the set, in place.
+pub fn repair(p: Plan, c: Close, a: usize, desk: &mut [u8])
+    requires { ⌜ Usable p c a (now desk) ⌝ }
+    ensures { λ _. ⌜ now (desk .exit) ≡ repaired p (told c) a (now (desk .entry)) ⌝ }
+{
+    let slots = terms::slots_of(p);
+    let m = p.m as usize;
+    let set = c.set;
+    let nodes = set.nodes;
+    mend(desk, slots, &nodes[..m], a);
+}
+
+// The item from the desk's first m slots, after a repair round.
+pub fn collect(p: Plan, desk: &[u8], item: &mut [u8])
+    requires { ⌜ (planOk p ≡ true) × (length (now desk) ≡ p .n * recordLength p) × (length (now item) ≡ p .m * p .f) ⌝ }
+    ensures { λ _. ⌜ now (item .exit) ≡ collected p (now (desk .entry)) (now (item .entry)) ⌝ }
+{
+    let slots = terms::slots_of(p);
+    fragments::collect(desk, slots, p.m as usize, item);
+}
+
+// All N records of an item at a time, into the desk, by way of a cross checksum; their timestamp.
+pub fn write_records(p: Plan, at: Time, item: &[u8], desk: &mut [u8], cross: &mut [u8]) -> Timestamp
+    requires { ⌜ (planOk p ≡ true) × (length (now item) ≡ p .m * p .f) × (length (now desk) ≡ p .n * recordLength p) × (512 ≤ length (now cross)) ⌝ }
+    ensures { λ r. ⌜ (r ≡ stampFor p (at .0) (now (item .entry))) × (now (desk .exit) ≡ recordsFor p (at .0) (now (item .entry))) ⌝ }
+{
+    let slots = terms::slots_of(p);
+    fragments::encode(item, p.m as usize, desk, slots);
+    record::cross(p, &desk[..], cross, 0);
+    let t = record::stamp_of(p, at, &cross[..], 0);
+    record::fill(p, t, &cross[..], 0, desk);
+    t
 }

@@ -33,16 +33,18 @@ use Rattle.fragments.proofs.Laws.{length-from}
 use Rattle.fragments.proofs.Theorems.{all-from, distinct-from, any-item}
 use Rattle.record.specs.Record.{fragmentOf}
 use Rattle.record.specs.Desk.{slotOf, fragmentIn, stampMade}
-use Rattle.record.proofs.Records.{record-length, fragment-at}
+use Rattle.terms.proofs.Places.{record-length}
+use Rattle.record.proofs.Records.{fragment-at}
 use Rattle.record.proofs.Desks.{length-cross}
 use Rattle.rounds.specs.declared.Lead.{Lead}
 use Rattle.rounds.specs.Rounds.{closeWith}
 use Rattle.session.specs.declared.Session.{Session}
 use Rattle.session.specs.declared.Took.{Took}
 use Rattle.session.specs.Session.{isStoring, done, saidOf}
-use Rattle.session.specs.Reader.{Outcome, headLength, lowest, decoded, collected, closed, ReadReplyCall}
-use Rattle.session.specs.Writer.{crossFor, recordsFor}
-use Rattle.session.proofs.Writers.{length-records, record-is}
+use Rattle.recover.specs.Recover.{lowest, decoded, collected}
+use Rattle.session.specs.Reader.{Outcome, headLength, closed, ReadReplyCall}
+use Rattle.recover.specs.Records.{crossFor, recordsFor}
+use Rattle.recover.proofs.Records.{length-records, record-is}
 use Rattle.session.proofs.Closings.{lowest-are, led, sized-whole}
 use Rattle.client.specs.Endings.{afterReply, deskAfter, size, WhenDone, DoneByRead, DoneByRepair}
 use Rattle.terms.proofs.Small.{small, small-octets}

@@ -36,7 +36,8 @@ use Rattle.session.specs.declared.Operation.the-variants.{Read}
 use Rattle.session.specs.Session.{isStoring, replies, markedOf, endedOf, nextOf, storingOf, Said, refused, stillOpen, done, neverWritten, aborted, roundsSpent, clockSpent}
 use Rattle.session.specs.Ranges.{inRange}
 use Rattle.session.specs.Reply.{bears, lengthsOk, sameOperation}
-use Rattle.session.specs.Reader.{Outcome, outcome, headLength, decoded, collected, repaired, failing, acted, closed, settled, heard, stored, accepted, readReply}
+use Rattle.recover.specs.Recover.{decoded, collected, repaired}
+use Rattle.session.specs.Reader.{Outcome, outcome, headLength, failing, acted, closed, settled, heard, stored, accepted, readReply}
 use Rattle.session.proofs.Rules.{lengths-are, in-range-is}
 use Rattle.session.proofs.Readers as readers
 use Rattle.client.specs.Endings.{readLadder, afterReply, deskAfter, Closes, Candidate, size, valid, Fails, ReadGives}

@@ -27,12 +27,13 @@ use Rattle.fragments.proofs.Interp.{all, all-map, Bytes, value-ext, only, newto
 use Rattle.fragments.proofs.Laws.{among-all, among-from, length-regenerated}
 use Rattle.fragments.proofs.Theorems.{coefficients, octets-bytes, all-bytes}
 use Rattle.record.specs.Desk.{slotOf, fragmentIn}
-use Rattle.record.proofs.Records.{record-length, start-of, stamp-at}
+use Rattle.terms.proofs.Places.{record-length}
+use Rattle.record.proofs.Records.{start-of, stamp-at}
 use Rattle.rounds.specs.declared.Lead.the-variants.{Node}
-use Rattle.recover.specs.Recover.{recordFrom}
+use Rattle.recover.specs.Recover.{recordFrom, lowest, decoded, collected, repaired}
 use Rattle.recover.proofs.Filled.{filled-record}
 use Rattle.session.specs.declared.Session.{Session}
-use Rattle.session.specs.Reader.{headLength, lowest, decoded, collected, repaired, closed}
+use Rattle.session.specs.Reader.{headLength, closed}
 use Rattle.session.proofs.Closings.{Led, led, lead-low, Lowest, lowest-are, heads-alike}
 use Rattle.client.specs.Repair.{Through, Holds}
 

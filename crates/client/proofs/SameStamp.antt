@@ -23,14 +23,15 @@ use Rattle.fragments.specs.Fragments.{All, fragment}
 use Rattle.fragments.proofs.Interp.{all-map}
 use Rattle.record.specs.Record.{stampOf, verifierOf, crossOf, fragmentOf, entryOf, fragmentHash, hashesOk}
 use Rattle.record.specs.Desk.{slotOf, stampMade}
-use Rattle.record.proofs.Records.{record-length}
+use Rattle.terms.proofs.Places.{record-length}
 use Rattle.record.proofs.Desks.{entry-of}
 use Rattle.session.specs.declared.Session.{Session}
 use Rattle.session.specs.declared.Took.{Took}
 use Rattle.session.specs.Session.{isStoring, done, saidOf}
-use Rattle.session.specs.Reader.{lowest, closed, ReadReplyCall}
-use Rattle.session.specs.Writer.{crossFor, recordsFor}
-use Rattle.session.proofs.Writers.{record-is}
+use Rattle.recover.specs.Recover.{lowest}
+use Rattle.session.specs.Reader.{closed, ReadReplyCall}
+use Rattle.recover.specs.Records.{crossFor, recordsFor}
+use Rattle.recover.proofs.Records.{record-is}
 use Rattle.client.specs.Endings.{afterReply, deskAfter}
 use Rattle.client.proofs.ComesBack.{read-comes-back}
 use Rattle.client.specs.SameStamp.{Unlike, Bears}

@@ -30,7 +30,8 @@ use Rattle.session.specs.declared.Operation.the-variants.{Write}
 use Rattle.session.specs.Session.{isStoring, replies, markedOf, Said, refused, stillOpen, done, neverWritten, aborted, roundsSpent, clockSpent}
 use Rattle.session.specs.Reply.{bears, replyLadder}
 pub use Rattle.session.specs.Reply.{readLadder}
-use Rattle.session.specs.Reader.{headLength, closed, sound}
+use Rattle.recover.specs.Recover.{sound}
+use Rattle.session.specs.Reader.{headLength, closed}
 use Rattle.session.specs.Writer.{timedOf}
 
 -- one thing exactly when another

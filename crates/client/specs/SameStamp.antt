@@ -12,7 +12,7 @@ use Rattle.terms.specs.declared.Plan.{Plan}
 use Rattle.fragments.specs.Fragments.{fragment}
 use Rattle.record.specs.Record.{stampOf, crossOf, fragmentOf, hashesOk}
 use Rattle.record.specs.Desk.{slotOf, stampMade}
-use Rattle.session.specs.Writer.{crossFor}
+use Rattle.recover.specs.Records.{crossFor}
 
 -- rec is a record that node z gave, i the item that was written
 pub record Unlike (p : Plan) (i : List ℕ) (z : ℕ) (rec : List ℕ) : Type 0 where

@@ -1,5 +1,5 @@
 -- The set of a close: what a function that is lent one knows, and what it gives. Assumes nothing.
-use mathlib.Core.Path.{_≡_, sym, ap, _∙_}
+use mathlib.Core.Path.{_≡_, sym, _∙_}
 use mathlib.Core.Bool.{Bool, true}
 use mathlib.Core.List.{List}
 use Prim.Native.Nat.{ℕ, _+_, _*_, _≤_, _<_}
@@ -7,7 +7,7 @@ use native.Mathlib.Omega.{arith}
 use lib.ListN.{length, getD, take}
 use lib.Seq.{length-take-le, take-take, getD-take}
 use Rattle.octets.proofs.Laws.{slot-room}
-use Rattle.terms.specs.Terms.{planOk, recordLength, slotsOf, runsOf, slotAt, fragmentAt}
+use Rattle.terms.specs.Terms.{planOk, recordLength, slotsOf, runsOf, slotAt}
 use Rattle.terms.specs.declared.Plan.{Plan}
 use Rattle.terms.specs.declared.Slots.{Slots}
 use Rattle.terms.specs.declared.Clients.the-variants.{Crash, Byzantine}

@@ -31,18 +31,19 @@ use Rattle.fragments.proofs.Lists.{all-take, all-at}
 use Rattle.fragments.proofs.Laws.{length-regenerated}
 use Rattle.record.specs.Record.{crossOf, fragmentOf, fragmentHash}
 use Rattle.record.specs.Desk.{slotOf, fragmentIn, crossMade, row}
-use Rattle.record.proofs.Records.{record-length, cross-at}
+use Rattle.terms.proofs.Places.{record-length}
+use Rattle.record.proofs.Records.{cross-at}
 use Rattle.rounds.specs.declared.Heard.the-variants.{Record}
 use Rattle.rounds.specs.declared.Lead.{Lead}
 use Rattle.rounds.specs.declared.Lead.the-variants.{Nobody, Node}
 use Rattle.rounds.specs.Rounds.{heardCount, markOf, restUnheard, slotStamp, leadOf, setOf, Closed, closeWith}
 use Rattle.rounds.proofs.Laws.{lead-room}
 use Rattle.rounds.proofs.Closes.{candidate, no-candidate, members-are}
-use Rattle.recover.specs.Recover.{validates, recordFrom, refilled}
+use Rattle.recover.specs.Recover.{validates, recordFrom, refilled, trusted, sound, decoded}
 use Rattle.recover.proofs.Filled.{length-filled, filled-record}
 use Rattle.session.specs.declared.Session.{Session}
 use Rattle.session.specs.Session.{replies, endedOf, storingOf, stillOpen, done, neverWritten}
-use Rattle.session.specs.Reader.{Outcome, outcome, headLength, trusted, sound, decoded, repaired as refill, failing, actOn, actFor, acted, closed}
+use Rattle.session.specs.Reader.{Outcome, outcome, headLength, repaired as refill, failing, actOn, actFor, acted, closed}
 use Rattle.session.proofs.Closings.{Led, led, Lowest, lowest-are, heads-alike}
 use Rattle.report.specs.Triple.{Triple, Message, null, each, strung}
 use Rattle.report.specs.Figure2.{MAKE-CROSS-CHECKSUM, DO-WRITE}

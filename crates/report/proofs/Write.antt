@@ -41,11 +41,13 @@ use Rattle.session.specs.Opening.{OpenCall, freshOf}
 use Rattle.session.specs.Session.{isRead, isStoring, isEnded, replies, markedOf, endedOf, storingOf, refused, stillOpen, done, clockSpent, saidOf}
 use Rattle.session.specs.Ranges.{inRange}
 use Rattle.session.specs.Reply.{isHeard, replyLadder}
-use Rattle.session.specs.Writer.{timedOf, newTime, crossFor, stampFor, recordsFor, Leaves, leaves, timeEnd, timeTurn, writeTurn, acceptedWrite, writeReply}
+use Rattle.recover.specs.Records.{crossFor, stampFor, recordsFor}
+use Rattle.session.specs.Writer.{timedOf, newTime, Leaves, leaves, timeEnd, timeTurn, writeTurn, acceptedWrite, writeReply}
 use Rattle.session.proofs.Checks.{none-applies, outcome-all, first-map}
 use Rattle.session.proofs.Made.{in-range-facts}
 use Rattle.session.proofs.Openings.{accepted-session}
-use Rattle.session.proofs.Writers.{record-is, Taking, taking}
+use Rattle.recover.proofs.Records.{record-is}
+use Rattle.session.proofs.Writers.{Taking, taking}
 use Rattle.report.specs.Triple.{Triple, Message, larger, MAX}
 use Rattle.report.specs.Figure2.{READ-TIMESTAMP, MAKE-CROSS-CHECKSUM, MAKE-TIMESTAMP, DO-WRITE, ts-written, WRITE}
 use Rattle.report.specs.Ours.{family, stampedAs, bearing, sending}

@@ -33,11 +33,13 @@ use Rattle.session.specs.declared.Operation.the-variants.{Write}
 use Rattle.session.specs.Session.{isStoring, readRound, replies, withGreatest, withMarks, markedOf, endedOf, storingOf, refused, stillOpen, done, clockSpent}
 use Rattle.session.specs.Ranges.{inRange}
 use Rattle.session.specs.Reply.{replyLadder}
-use Rattle.session.specs.Writer.{laterOf, timedOf, newTime, crossFor, stampFor, recordsFor, leaves, Leaves, timeEnd, timeTurn, writeTurn, acceptedWrite, writeReply, WriteReplyCall}
+use Rattle.recover.specs.Records.{crossFor, stampFor, recordsFor}
+use Rattle.session.specs.Writer.{laterOf, timedOf, newTime, leaves, Leaves, timeEnd, timeTurn, writeTurn, acceptedWrite, writeReply, WriteReplyCall}
 use Rattle.session.proofs.Checks.{none-applies, outcome-all}
 use Rattle.session.proofs.Made.{OpenIs, in-range-facts, ended-in-range, open-in-range, end-stands, storing-in-range, rest-set, none-set}
 use Rattle.session.proofs.Openings.{accepted-session, accepted-in-range}
-use Rattle.session.proofs.Writers.{Taking, taking, time-there, length-records}
+use Rattle.recover.proofs.Records.{length-records}
+use Rattle.session.proofs.Writers.{Taking, taking, time-there}
 use Rattle.session.proofs.Rules.{StandingIs}
 
 -- a session in its ranges with its desk, which is N·R bytes; its greatest time has 8 bytes

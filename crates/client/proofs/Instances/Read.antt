@@ -37,7 +37,7 @@ use Rattle.record.specs.Desk.{slotOf, row, crossMade, deskOf, stampMade}
 use Rattle.rounds.specs.declared.Bound.the-variants.{Free}
 use Rattle.rounds.specs.declared.Heard.the-variants.{First, Record}
 use Rattle.rounds.specs.Rounds.{heardCount, every, slotStamp, aheadOf, stepOf, leadOf, joinsOf, setOf, closeWith, underOf, slotFits, slotsFit}
-use Rattle.recover.specs.Recover.{validates, slotFilled, refilled}
+use Rattle.recover.specs.Recover.{validates, slotFilled, refilled, sound, repaired, collected}
 use Rattle.session.specs.declared.Session.{Session}
 use Rattle.session.specs.declared.Operation.the-variants.{Write, Read}
 use Rattle.session.specs.declared.Answer.{Answer}
@@ -48,8 +48,8 @@ use Rattle.session.specs.Session.{askNow, kindAwaited, markedOf, nextOf, storin
 use Rattle.session.specs.Opening.{freshOf, openWith, OpenCall}
 use Rattle.session.specs.Ranges.{standingRules, openRules, inRange}
 use Rattle.session.specs.Reply.{lengthsOk, sameOperation, awaited, isHeard, bears}
-use Rattle.session.specs.Reader.{sound, failing, actOn, actFor, closed, settled, heard, stored, accepted, repaired, collected, readReply, ReadReplyCall}
-use Rattle.session.specs.Writer.{crossFor, stampFor, recordsFor}
+use Rattle.session.specs.Reader.{failing, actOn, actFor, closed, settled, heard, stored, accepted, readReply, ReadReplyCall}
+use Rattle.recover.specs.Records.{crossFor, stampFor, recordsFor}
 use Rattle.session.proofs.Kept.{Kept}
 use Rattle.client.specs.Endings.{afterReply, deskAfter}
 use Rattle.client.specs.Turns.{Turn, ReadTurn, Calls, closedRounds, EitherTurn}

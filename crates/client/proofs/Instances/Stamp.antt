@@ -22,14 +22,14 @@ use Rattle.record.specs.Record.{stampOf, crossOf, fragmentOf, fragmentHash, has
 use Rattle.record.specs.Desk.{slotOf, row, crossMade, stampMade}
 use Rattle.rounds.specs.declared.Heard.the-variants.{Record}
 use Rattle.rounds.specs.Rounds.{heardCount, every, slotStamp, aheadOf, stepOf, leadOf, joinsOf, setOf, closeWith, underOf, slotFits, slotsFit}
-use Rattle.recover.specs.Recover.{validates}
+use Rattle.recover.specs.Recover.{validates, lowest, sound, decoded}
 use Rattle.session.specs.declared.Session.{Session}
 use Rattle.session.specs.declared.Answer.the-variants.{Done}
 use Rattle.session.specs.Session.{askNow, kindAwaited, markedOf, endedOf}
 use Rattle.session.specs.Ranges.{standingRules, openRules, inRange}
 use Rattle.session.specs.Reply.{lengthsOk, awaited, isHeard, bears}
-use Rattle.session.specs.Reader.{lowest, sound, decoded, actOn, actFor, closed, settled, heard, accepted, readReply, ReadReplyCall}
-use Rattle.session.proofs.Writers.{record-passes}
+use Rattle.session.specs.Reader.{actOn, actFor, closed, settled, heard, accepted, readReply, ReadReplyCall}
+use Rattle.recover.proofs.Records.{record-passes}
 use Rattle.client.specs.Endings.{afterReply, deskAfter}
 use Rattle.client.specs.Turns.{Turn}
 use Rattle.terms.proofs.Small.{small-octets}

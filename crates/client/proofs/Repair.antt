@@ -202,4 +202,4 @@ module _ (p : Plan) (s : Session) (d : List ℕ) (a : ℕ) (ok : planOk p ≡ tr
       (λ k h. own k h ∙ fragment-in p full k ∙ fragment-held k (omega (arith, facts p ok .needed-nodes)))
     where
       own : (k : ℕ) → k < p .m → regenerated full (slotsOf p) (from 0 (p .m)) k ≡ part full (fragmentAt (slotsOf p) k) (p .f)
-      own k h = unfold regenerated in rw (among-from k (p .m), lt-ltb k (p .m) h)
+      own k h = sym (itself full (slotsOf p) (from 0 (p .m)) k (sym (among-from k (p .m) ∙ lt-ltb k (p .m) h)))

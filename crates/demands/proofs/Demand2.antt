@@ -14,7 +14,7 @@ use mathlib.Core.Bool.{true}
 use mathlib.Core.List.{List, []}
 use lib.ListN.{length}
 use Rattle.octets.specs.Bytes.{Octets, over, be}
-use Rattle.fragments.specs.Fragments.{All, Distinct, laid, encoded}
+use Rattle.fragments.specs.Fragments.{All, Distinct, Room, laid, encoded}
 use Rattle.fragments.proofs.Theorems.{any-m-of-n}
 use Rattle.terms.specs.Stamp.{stamp}
 use Rattle.terms.specs.Terms.{planOk, recordLength, slotsOf, runsOf}

@@ -24,7 +24,7 @@ use Rattle.terms.proofs.Stamps.{stamp-at-number}
 use Rattle.fragments.specs.Fragments.{All, Distinct, among, from, tabulate, eval, value, regenerated, Sources, laid}
 use Rattle.fragments.proofs.Lists.{getD-tabulate, all-at}
 use Rattle.fragments.proofs.Interp.{all, all-map, Bytes, value-ext, only, newton, length-newton, bytes-newton, newton-at}
-use Rattle.fragments.proofs.Laws.{among-all, among-from, length-regenerated}
+use Rattle.fragments.proofs.Laws.{among-all, among-from, itself, length-regenerated}
 use Rattle.fragments.proofs.Theorems.{coefficients, octets-bytes, all-bytes}
 use Rattle.record.specs.Desk.{slotOf, fragmentIn}
 use Rattle.terms.proofs.Places.{record-length}

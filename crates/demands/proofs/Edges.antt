@@ -59,8 +59,7 @@ too-many true false rest = refl
 too-many true true rest = refl
 
 exclude-all : (k : Member) (n t b q m : ℕ) → leb b t ≡ false → Every (countsOf k n t b q m) RefusedOne
-unfolding planOk countsOk
-exclude-all k n t b q m e F W c f₁ f₂ w₁ w₂ = refused-one (planWith (countsOf k n t b q m) F W c) (rw e (too-many (leb 1 n) (leb n 16) _))
+exclude-all k n t b q m e = refuses (countsOf k n t b q m) (unfold countsOk in rw e (too-many (leb 1 n) (leb n 16) _))
 
 certain-all : (s : Counts) → rulesOk s ≡ true → s .t ≡ 0
     → Every s (λ (p : Plan). (size : ℕ) → classOf (COMPLETE p) (INCOMPLETE p) size ≡ Unclassifiable → ⊥)

@@ -4,6 +4,7 @@
 --   node-as-the-report node-over-time    the replies, and the set of versions after them, are Figure 1's
 --   write-as-the-report    a whole write, from its opening, is Figure 2's WRITE
 --   read-as-the-report     a whole read, from its opening, is Figure 3's READ, cut at W
+--   read-requests-as-the-report write-requests-as-the-report   what is sent to a node is what the figures send to it
 --   comes-back written-comes-back   an encoded block comes back from any m of its N fragments; so does what our writer writes
 -- The figures are in report/specs, with (01) beside what document 01 adds or closes. That the hash and the field are those of the papers is
 -- said by the contracts of `digest`, `product` and `quotient`, over sha256/specs and field/specs. Each refusal exactly: Demand1, with
@@ -36,15 +37,22 @@ use Rattle.client.specs.Turns.{Turn, ReadTurn, WriteTurn, Calls}
 use Rattle.report.specs.Triple.{Same}
 use Rattle.client.proofs.ComesBack.{block-comes-back}
 use Rattle.report.specs.Figure1.{INITIALIZE, RECEIVE-TIME-REQUEST, RECEIVE-READ-LATEST, RECEIVE-READ-PREVIOUS}
-use Rattle.report.specs.Ours.{history, timeIn}
-use Rattle.report.specs.Run.{OfPlan, received, AllApart, AllClose, closedOver, EachTells}
-use Rattle.report.specs.WriteRun.{untimed, EachWrites}
+use Rattle.report.specs.Ours.{history, timeIn, family}
+use Rattle.report.specs.Run.{OfPlan, received, unpolled, polledOver, AllApart, AllFull, EachTells}
+use Rattle.report.specs.WriteRun.{untimed, EachWrites, timedOver}
 use Rattle.report.proofs.Plans.{accepted-is, accepted-back}
 use Rattle.report.proofs.Node.{time-acts, latest-acts, previous-acts, write-acts, fresh-run}
 use Rattle.report.proofs.Run.{opened-read}
 use Rattle.report.proofs.Write.{opened-write}
 use Rattle.report.specs.Table2.{Ranges, Table2-of}
 use Rattle.report.specs.Acts.{AsFigure1}
+use Rattle.session.specs.declared.owed.Owed.{Owed}
+use Rattle.session.specs.Session.{askNow}
+use Rattle.session.specs.Owed.{owedLadder, dueOf, OwedCall}
+use Rattle.client.specs.Sessions.{lastSession, lastDesk}
+use Rattle.report.specs.Figure3.{READ}
+use Rattle.report.specs.Sent.{Commands, WriteCommands, inResponseSet, inWriteSet, Owes}
+use Rattle.report.proofs.Sent.{read-owes, write-owes}
 
 -- A plan is accepted exactly when it is within document 01's ranges and Table 2 holds of it.
 pub plan-as-the-report : (p : Plan) → planOk p ≡ true → Ranges p × Table2-of p
@@ -68,19 +76,39 @@ pub node-over-time : (p : Plan) (node : ℕ) (b b₂ : List ℕ) (cs : List Call
     → Same (history p (lastBook b₂ cs)) (received p node INITIALIZE cs)
 node-over-time = fresh-run
 
--- Over any replies from an accepted opening on: the write round sends what Figure 2's WRITE sends for the times heard and the item, and
--- "done" bears its timestamp.
+-- Over any replies from an accepted opening on: the write round sends what Figure 2's WRITE sends for the responses of READ_TIMESTAMP and the item,
+-- "done" bears its timestamp, with N-t responses to DO_WRITE, and "open" says that WRITE has not returned.
 pub write-as-the-report : (p : Plan) (a : Ask) (r : Opened) (d : List ℕ) (cs : List Turn) → OpenCall Write p a r → r .answer ≡ Accepted
     → Calls (WriteTurn p) (r .session) d cs → EachWrites p (r .session) d untimed cs
 write-as-the-report = opened-write
 
--- Over any replies from an accepted opening on: each answer is what Figure 3's READ says of the response sets of the rounds closed so far,
--- each of which is one that DO_READ gathered for the command that READ was to send, of N-t responses; where no two cross checksums of one
--- response set share a hash.
+-- Over any replies from an accepted opening on: each answer is what Figure 3's READ says of the messages received in the rounds closed so far,
+-- DO_READ gathering from them; "open" says that READ has not returned. Each closed round has its N-t responses, to the command that READ was to
+-- send. Received are the frames of the run in their order, refused ones among them, but for those that document 01 adds refusals for
+-- (isMessage). Where no two cross checksums of one response set share a hash under one timestamp.
 pub read-as-the-report : (p : Plan) (a : Ask) (r : Opened) (d : List ℕ) (cs : List Turn) → OpenCall Read p a r → r .answer ≡ Accepted
-    → length d ≡ p .n * recordLength p → Octets d → Calls (ReadTurn p) (r .session) d cs → AllApart (closedOver p (r .session) d [] cs)
-    → EachTells p (r .session) d [] cs × AllClose p (closedOver p (r .session) d [] cs)
+    → length d ≡ p .n * recordLength p → Octets d → Calls (ReadTurn p) (r .session) d cs → AllApart p (polledOver p (r .session) d unpolled cs .rounds)
+    → EachTells p (r .session) d unpolled cs × AllFull p (polledOver p (r .session) d unpolled cs .rounds)
 read-as-the-report = opened-read
+
+-- In every state that those replies lead to, a request owed to a node S is the frame of what READ has to send to S then, READ_LATEST, READ_PREVIOUS
+-- with the candidate's timestamp, or WRITE with S's own member of the set that is sent; and 11 is for a node that is in the response set.
+pub read-requests-as-the-report : (p : Plan) (a : Ask) (r : Opened) (d : List ℕ) (cs : List Turn) → OpenCall Read p a r → r .answer ≡ Accepted
+    → length d ≡ p .n * recordLength p → Octets d → Calls (ReadTurn p) (r .session) d cs → AllApart p (polledOver p (r .session) d unpolled cs .rounds)
+    → (S : ℕ) (q : List ℕ) (o : Owed) (q₂ : List ℕ) → OwedCall p (lastSession (r .session) cs) S (lastDesk d cs) q o q₂
+    → Owes (Commands p (READ (family p) (polledOver p (r .session) d unpolled cs .rounds)) S (askNow (lastSession (r .session) cs)))
+    (owedLadder p (lastSession (r .session) cs) S (lastDesk d cs) (length q))
+    (inResponseSet p (lastSession (r .session) cs .round .stage) (polledOver p (r .session) d unpolled cs) S) (dueOf o) q q₂
+read-requests-as-the-report = read-owes
+
+-- The same of a write: TIME, and then WRITE with S's own member of what DO_WRITE sends.
+pub write-requests-as-the-report : (p : Plan) (a : Ask) (r : Opened) (d : List ℕ) (cs : List Turn) → OpenCall Write p a r → r .answer ≡ Accepted
+    → Calls (WriteTurn p) (r .session) d cs → (S : ℕ) (q : List ℕ) (o : Owed) (q₂ : List ℕ)
+    → OwedCall p (lastSession (r .session) cs) S (lastDesk d cs) q o q₂
+    → Owes (WriteCommands p (lastSession (r .session) cs .round .stage) (timedOver p (r .session) d untimed cs) S (askNow (lastSession (r .session) cs)))
+    (owedLadder p (lastSession (r .session) cs) S (lastDesk d cs) (length q))
+    (inWriteSet (lastSession (r .session) cs .round .stage) (timedOver p (r .session) d untimed cs) S) (dueOf o) q q₂
+write-requests-as-the-report = write-owes
 
 -- An item of m·F bytes, encoded into n fragments of F bytes in whatever slots of a buffer, comes back from any m of them.
 pub comes-back : (m : ℕ) (s : Slots) (item : List ℕ) → m ≤ 256 → Octets item → length item ≡ m * s .fragment → (n : ℕ) (desk : List ℕ) → s .fragment ≤ s .size

@@ -7,9 +7,11 @@ pub mod Sets
 pub mod Erasure
 pub mod Round
 pub mod Marks
+pub mod Gathers
 pub mod Hears
 pub mod Run
 pub mod Write
+pub mod Sent
 pub mod Instances
 pub mod RunInstances
 pub mod Examples

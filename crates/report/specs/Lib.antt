@@ -8,3 +8,4 @@ pub mod Decides
 pub mod Run
 pub mod WriteRun
 pub mod Acts
+pub mod Sent

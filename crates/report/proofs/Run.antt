@@ -27,7 +27,7 @@ use Rattle.terms.proofs.Plans.{plan-is}
 use Rattle.terms.proofs.Facts.{facts}
 use Rattle.fragments.specs.Fragments.{from, regenerated, Sources}
 use Rattle.fragments.proofs.Laws.{among-from, length-from, getD-from, itself, length-regenerated}
-use Rattle.frame.specs.Frame.{kindOf, frameNode, askOf, bodyOf, goodReply, answersTo}
+use Rattle.frame.specs.Frame.{kindOf, frameNode, askOf, bodyOf, goodReply}
 use Rattle.frame.proofs.Frames.{reply-is}
 use Rattle.record.specs.Record.{hashesOk, timeZero}
 use Rattle.record.specs.Desk.{slotOf, fragmentIn}
@@ -42,7 +42,7 @@ use Rattle.session.specs.declared.Session.{Session}
 use Rattle.session.specs.declared.Stage.{Stage}
 use Rattle.session.specs.declared.Stage.the-variants.{Asking, Storing, Ended}
 use Rattle.session.specs.declared.Operation.the-variants.{Read}
-use Rattle.session.specs.Session.{isRead, isAsking, isStoring, isEnded, askNow, kindAwaited, replies, markedOf, endedOf, refused, stillOpen, done, saidOf}
+use Rattle.session.specs.Session.{isRead, isAsking, isStoring, isEnded, askNow, awaitsKind, replies, markedOf, endedOf, refused, stillOpen, done, saidOf}
 use Rattle.session.specs.Ranges.{inRange}
 use Rattle.session.specs.Reply.{bears, lengthsOk, awaited, isHeard, readLadder}
 use Rattle.recover.specs.Recover.{collected}
@@ -273,7 +273,7 @@ module _ (p : Plan) (d i : List ℕ) (ok : planOk p ≡ true) (ld : length d ≡
         (marked-more (λ (S : ℕ). S) (s .marks) (acknowledged (w .stored)) (frameNode f) (frameNode f) refl (omega (arith, low, k .size))
         (not-heard (markOf (s .marks) (frameNode f)) u) (k .marked))
 
-    stores : Leaves p (stored p s f d i) with-response
+    stores : Leaves p (stored p (markedOf s (frameNode f) Record) d i) with-response
     unfolding stored isHeard
     stores = go (ltb (heardCount (markedOf s (frameNode f) Record .marks)) (replies p)) refl
       where
@@ -412,7 +412,7 @@ module _ (p : Plan) (s : Session) (f d i : List ℕ) (w : Polled) where
 
         waits : rolled p with-message ≡ with-message
         waits =
-            rolled-is p s d i with-message st after plan-ok (lengths .item-is) (ranges .0 .rest) (leb-true (s .round .number) (p .w) (ranges .0 .high)) (omega (arith, few)) sz
+            rolled-is p s d i with-message st after plan-ok (lengths .item-is) (ranges .0 .rest) (ranges .0 .high) (omega (arith, few)) sz
             ∙ rw (lt-ltb (heardCount (s .marks)) (replies p) few)
 
     -- 11: heard already
@@ -454,14 +454,14 @@ module _ (p : Plan) (s : Session) (f d i : List ℕ) (w : Polled) where
         settled-so : AllApart p (rolled p with-message .rounds) → Leaves p (settled p (markedOf s node (mark .is)) e i) (rolled p with-message)
         settled-so =
             settles p (markedOf s node (mark .is)) e i with-message st marked plan-ok (lengths .item-is) (rest-set (s .marks) (p .n) node mark node-low ∙ ranges .0 .rest)
-            (leb-true (s .round .number) (p .w) (ranges .0 .high))
+            (ranges .0 .high)
             (let n16 = plan-is p plan-ok .n-high in omega (arith, count-set (s .marks) node mark inside unmarked one, few)) sz
 
       accepts : None ladder → Leaves p (heard p s f d i) (rolled p with-message) → Leaves p (readReply p s f d i) (rolled p with-message)
       unfolding accepted
       accepts n q =
           subst (λ (o : Outcome). Leaves p o (rolled p with-message))
-          (sym (one-ladder p s f d i ∙ is-passed ladder refuse (accepted p s f d i) n ∙ ap (λ (x : Stage). cond (isStoring x) (stored p s f d i) (heard p s f d i)) st)) q
+          (sym (one-ladder p s f d i ∙ is-passed ladder refuse (accepted p s f d i) n ∙ ap (λ (x : Stage). cond (isStoring x) (stored p (markedOf s node Record) d i) (heard p s f d i)) st)) q
 
       -- a first triple
       first-right : bears p f ≡ false → AllApart p (rolled p with-message .rounds) → Leaves p (readReply p s f d i) (rolled p with-message)
@@ -572,9 +572,9 @@ module _ (p : Plan) (s : Session) (f d i : List ℕ) (w : Polled) where
 
     -- a write reply bears no record
     no-record : isStoring (s .round .stage) ≡ true → awaited s f ≡ true → bears p f ≡ false
-    unfolding awaited kindAwaited bears
+    unfolding awaited awaitsKind bears
     no-record t a =
-        let k : eqb (kindOf f) 4 ≡ true = rw t at (both (eqb (askOf f) (askNow s)) _ (both (answersTo f (askNow s) (kindAwaited s)) _ a .0) .1) in
+        let k : eqb (kindOf f) 4 ≡ true = rw t at (both (awaitsKind s (kindOf f)) _ (both (eqb (askOf f) (askNow s)) _ a .1) .0) in
         let e : kindOf f ≡ 4 = eqb-true (kindOf f) 4 k in
         rw (ne-eqb (kindOf f) 7 (λ z. omega (arith, e, z)))
 

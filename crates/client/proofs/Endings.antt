@@ -10,7 +10,7 @@ use mathlib.Core.Bool.{Bool, true, false}
 use mathlib.Core.List.{List}
 use native.Mathlib.Omega.{arith}
 use lib.ListN.{length}
-use Rattle.terms.specs.Terms.{recordLength, COMPLETE}
+use Rattle.terms.specs.Terms.{COMPLETE, slotsOf}
 use Rattle.terms.specs.declared.Plan.{Plan}
 use Rattle.terms.proofs.Facts.{facts}
 use Rattle.frame.specs.Frame.{frameNode}
@@ -21,7 +21,7 @@ use Rattle.rounds.proofs.Closes.{Best, candidate, Members, members-are}
 use Rattle.session.specs.declared.Session.{Session}
 use Rattle.session.specs.declared.Took.{Took}
 use Rattle.session.specs.Session.{isStoring, markedOf, Said, refused, stillOpen, done, neverWritten, aborted, roundsSpent, clockSpent, saidOf, roundOpen}
-use Rattle.session.specs.Reader.{ReadReplyCall, Outcome, outcome, headLength, closed, settled, stored, accepted}
+use Rattle.session.specs.Reader.{ReadReplyCall, Outcome, outcome, closed, settled, stored, accepted}
 use Rattle.session.specs.Writer.{WriteReplyCall}
 use Rattle.client.specs.Endings.{Exactly, readLadder, afterReply, deskAfter, Candidate, size, WhenNever, WhenAborted, WhenSpent, WhenDone, WhenOpen, DoneByRead, RepairOpens, WriteDone, WriteClock, WriteOpen, ReadGives, WriteGives}
 use Rattle.terms.proofs.Ladders as ladders
@@ -128,14 +128,14 @@ first-triple-complete p s f d item n w =
     go Record b h = absurd (h refl)
 
 -- the candidate is the greatest timestamp heard, at the lowest-numbered node that bears it
-pub greatest : (p : Plan) (s : Session) (f d : List ℕ) (a : ℕ) → Candidate p s f d a → Best (afterReply p s f .marks) (deskAfter p f d) (recordLength p) (p .n) a
-greatest p s f d a h = candidate (afterReply p s f .marks) (deskAfter p f d) (recordLength p) (p .n) a h
+pub greatest : (p : Plan) (s : Session) (f d : List ℕ) (a : ℕ) → Candidate p s f d a → Best (afterReply p s f .marks) (deskAfter p f d) (slotsOf p) (p .n) a
+greatest p s f d a h = candidate (afterReply p s f .marks) (deskAfter p f d) (slotsOf p) (p .n) a h
 
 -- the set is rising, below N, and its nodes are exactly those that bear the candidate's timestamp and cross checksum
 pub set-is : (p : Plan) (s : Session) (f d : List ℕ) (a : ℕ)
-    → Members (deskAfter p f d) (recordLength p) (headLength p) a (p .n) (afterReply p s f .marks)
-    (setOf (afterReply p s f .marks) (deskAfter p f d) (recordLength p) (headLength p) a (p .n))
-set-is p s f d a = members-are (afterReply p s f .marks) (deskAfter p f d) (recordLength p) (headLength p) a (p .n)
+    → Members (deskAfter p f d) (slotsOf p) a (p .n) (afterReply p s f .marks)
+    (setOf (afterReply p s f .marks) (deskAfter p f d) (slotsOf p) a (p .n))
+set-is p s f d a = members-are (afterReply p s f .marks) (deskAfter p f d) (slotsOf p) a (p .n)
 
 -- where a set is decoded, and where it is repaired, it has m nodes
 pub decodes : (p : Plan) (s : Session) (f d : List ℕ) (item stamp n : ℕ) (w : DoneByRead p s f d item stamp n) → p .m ≤ size p s f d (w .node)

@@ -12,7 +12,7 @@ use Rattle.octets.specs.Bytes.{put}
 use Rattle.octets.proofs.Laws.{length-put, slot-room}
 use Rattle.terms.specs.Ladder.{first, _and_, None}
 use Rattle.terms.specs.Stamp.{stampAt, stampNumber}
-use Rattle.terms.specs.Terms.{planOk, recordLength, COMPLETE, INCOMPLETE, decided}
+use Rattle.terms.specs.Terms.{planOk, recordLength, COMPLETE, INCOMPLETE, decided, slotsOf, thresholdsOf}
 use Rattle.terms.specs.declared.Plan.{Plan}
 use Rattle.terms.specs.declared.Member.{Member}
 use Rattle.terms.specs.declared.Member.the-variants.{Repairable, NonRepair}
@@ -36,7 +36,8 @@ use Rattle.session.specs.declared.Operation.the-variants.{Read}
 use Rattle.session.specs.Session.{isStoring, replies, markedOf, endedOf, nextOf, storingOf, Said, refused, stillOpen, done, neverWritten, aborted, roundsSpent, clockSpent, roundOpen}
 use Rattle.session.specs.Ranges.{inRange}
 use Rattle.session.specs.Reply.{bears, lengthsOk, sameOperation}
-use Rattle.session.specs.Reader.{Outcome, outcome, headLength, decoded, collected, repaired, failing, acted, closed, settled, heard, stored, accepted, readReply}
+use Rattle.recover.specs.Recover.{decoded, collected, repaired}
+use Rattle.session.specs.Reader.{Outcome, outcome, failing, acted, closed, settled, heard, stored, accepted, readReply}
 use Rattle.session.proofs.Rules.{lengths-are, range-stands, few-open, many-over}
 use Rattle.session.proofs.Readers as readers
 use Rattle.client.specs.Endings.{readLadder, afterReply, deskAfter, Closes, Candidate, size, valid, Fails, ReadGives}
@@ -126,8 +127,8 @@ module _ (p : Plan) (s : Session) (f d i : List ℕ) where
 
   -- ---- a candidate
   module _ (a : ℕ) (h : Candidate p s f d a) where
-    led : c ≡ closeWith (u .marks) e (p .n) (headLength p) (recordLength p) (p .member) (COMPLETE p) (INCOMPLETE p) (Node a)
-    led = ap (closeWith (u .marks) e (p .n) (headLength p) (recordLength p) (p .member) (COMPLETE p) (INCOMPLETE p)) h
+    led : c ≡ closeWith (u .marks) e (slotsOf p) (p .member) (thresholdsOf p) (Node a)
+    led = ap (closeWith (u .marks) e (slotsOf p) (p .member) (thresholdsOf p)) h
 
     lead-is : c .lead ≡ Node a
     unfolding closeWith
@@ -207,10 +208,10 @@ module _ (p : Plan) (s : Session) (f d i : List ℕ) where
             length-put d (frameNode f * recordLength p) (bodyOf f) (omega arith) ∙ t .desk
         go false b = t .desk
 
-    pub stamp-of : (a : ℕ) → Candidate p s f d a → stampNumber (c .stamp) ≡ slotStamp e (recordLength p) a
+    pub stamp-of : (a : ℕ) → Candidate p s f d a → stampNumber (c .stamp) ≡ slotStamp e (slotsOf p) a
     unfolding slotStamp
     stamp-of a h =
-        let r = slot-room a (p .n) (recordLength p) (length e) (lead-room (u .marks) e (recordLength p) (p .n) a (leadOf (u .marks) e (recordLength p) (p .n)) refl h) (omega (arith, desk-is)) in
+        let r = slot-room a (p .n) (recordLength p) (length e) (lead-room (u .marks) e (slotsOf p) (p .n) a (leadOf (u .marks) e (slotsOf p) (p .n)) refl h) (omega (arith, desk-is)) in
         let k : 40 ≤ recordLength p = unfold recordLength in omega arith in
         ap stampNumber (stamp-is a h) ∙ stamp-at-number e (a * recordLength p) (omega arith)
 
@@ -251,24 +252,24 @@ module _ (p : Plan) (s : Session) (f d i : List ℕ) where
     goes-on a h w q = is-failing a h w ∙ rw (lt-leb (p .w) (s .round .number) q)
 
     pub never : ((k : ℕ) → k < p .n → markOf (u .marks) k ≡ Record → ⊥) → acted p u c e i ≡ outcome (neverWritten (s .round .number)) (endedOf u) e i
-    never h = go (leadOf (u .marks) e (recordLength p) (p .n)) refl
+    never h = go (leadOf (u .marks) e (slotsOf p) (p .n)) refl
       where
-        go : (l : Lead) → leadOf (u .marks) e (recordLength p) (p .n) ≡ l → acted p u c e i ≡ outcome (neverWritten (s .round .number)) (endedOf u) e i
+        go : (l : Lead) → leadOf (u .marks) e (slotsOf p) (p .n) ≡ l → acted p u c e i ≡ outcome (neverWritten (s .round .number)) (endedOf u) e i
         go Nobody q =
-            let z : c ≡ closeWith (u .marks) e (p .n) (headLength p) (recordLength p) (p .member) (COMPLETE p) (INCOMPLETE p) Nobody =
-            ap (closeWith (u .marks) e (p .n) (headLength p) (recordLength p) (p .member) (COMPLETE p) (INCOMPLETE p)) q in
+            let z : c ≡ closeWith (u .marks) e (slotsOf p) (p .member) (thresholdsOf p) Nobody =
+            ap (closeWith (u .marks) e (slotsOf p) (p .member) (thresholdsOf p)) q in
             let l : c .lead ≡ Nobody = ap (λ (x : Closed). x .lead) z ∙ (unfold closeWith in refl) in
             sym (readers.act-never p u c e i (endedOf u) l refl)
         go (Node a) q =
-            absurd (h a (lead-room (u .marks) e (recordLength p) (p .n) a (leadOf (u .marks) e (recordLength p) (p .n)) refl q)
-            (candidate (u .marks) e (recordLength p) (p .n) a q .marked))
+            absurd (h a (lead-room (u .marks) e (slotsOf p) (p .n) a (leadOf (u .marks) e (slotsOf p) (p .n)) refl q)
+            (candidate (u .marks) e (slotsOf p) (p .n) a q .marked))
 
     -- ---- it gives one of the answers, with its condition
     abbrev Gives : Outcome → Type 0
     Gives o = ReadGives p s f d (length i) (o .said)
 
     closed-gives : isStoring (s .round .stage) ≡ false → replies p ≤ heardCount (u .marks) → Gives (acted p u c e i)
-    closed-gives q g = go (leadOf (u .marks) e (recordLength p) (p .n)) refl
+    closed-gives q g = go (leadOf (u .marks) e (slotsOf p) (p .n)) refl
       where
         k : Closes p s f d (length i)
         k = record { accepted = n; asks = q; enough = g }
@@ -295,9 +296,9 @@ module _ (p : Plan) (s : Session) (f d i : List ℕ) where
             subst Gives (sym (is-aborted a h v)) (record { closes = k; node = a; candidate = h; low = l; high = x; member = m; counted = refl })
         by-size a h (short x l v) w y = rest a h (inl l) (leb (p .w) (s .round .number)) refl
 
-        go : (l : Lead) → leadOf (u .marks) e (recordLength p) (p .n) ≡ l → Gives (acted p u c e i)
+        go : (l : Lead) → leadOf (u .marks) e (slotsOf p) (p .n) ≡ l → Gives (acted p u c e i)
         go Nobody h =
-            let z = no-candidate (u .marks) e (recordLength p) (p .n) h in
+            let z = no-candidate (u .marks) e (slotsOf p) (p .n) h in
             subst Gives (sym (never z)) (record { closes = k; first = z; counted = refl })
         go (Node a) h = by-size a h (sorted (p .member) (COMPLETE p) (INCOMPLETE p) (size p s f d a)) (valid p s f d a) refl
 

@@ -27,7 +27,8 @@ use Rattle.session.specs.declared.Took.{Took}
 use Rattle.session.specs.declared.Operation.the-variants.{Read}
 use Rattle.session.specs.Session.{isAsking, isStoring, isEnded, markedOf, endedOf, refused, stillOpen, done, roundOpen}
 use Rattle.session.specs.Reply.{bears, replyLadder, recordLadder}
-use Rattle.session.specs.Reader.{Outcome, outcome, decoded, collected, repaired, acted, closed, settled, stored, accepted, readReply, ReadReplyCall}
+use Rattle.recover.specs.Recover.{decoded, collected, repaired}
+use Rattle.session.specs.Reader.{Outcome, outcome, acted, closed, settled, stored, accepted, readReply, ReadReplyCall}
 use Rattle.session.proofs.Checks.{outcome-all}
 use Rattle.session.proofs.Closings.{led, sized, goes}
 use Rattle.session.proofs.ReadKept.{not-asking}

@@ -16,7 +16,8 @@ use Rattle.rounds.specs.declared.Heard.the-variants.{Record}
 use Rattle.rounds.specs.Rounds.{heardCount}
 use Rattle.session.specs.declared.Session.{Session}
 use Rattle.session.specs.Session.{isStoring, replies, markedOf, endedOf, storingOf, Said, refused, stillOpen, done, neverWritten, aborted, roundsSpent, clockSpent, roundOpen}
-use Rattle.session.specs.Writer.{timedOf, newTime, stampFor, recordsFor, Leaves, leaves, timeEnd, timeTurn, writeTurn, acceptedWrite, writeReply}
+use Rattle.recover.specs.Records.{stampFor, recordsFor}
+use Rattle.session.specs.Writer.{timedOf, newTime, Leaves, leaves, timeEnd, timeTurn, writeTurn, acceptedWrite, writeReply}
 use Rattle.session.proofs.Rules.{few-open, many-over, over-many}
 use Rattle.client.specs.Endings.{writeLadder, WriteGives}
 use Rattle.terms.proofs.Ladders as ladders

@@ -17,7 +17,7 @@ use lib.ListN.{length}
 use Rattle.octets.specs.Bytes.{put}
 use Rattle.terms.specs.Ladder.{Rung, None, Given}
 use Rattle.terms.specs.Stamp.{time, stampNumber, top}
-use Rattle.terms.specs.Terms.{recordLength, COMPLETE, INCOMPLETE}
+use Rattle.terms.specs.Terms.{recordLength, COMPLETE, INCOMPLETE, slotsOf}
 use Rattle.terms.specs.declared.Plan.{Plan}
 use Rattle.terms.specs.declared.Member.the-variants.{Repairable, NonRepair}
 use Rattle.frame.specs.Frame.{frameNode, bodyOf}
@@ -30,7 +30,8 @@ use Rattle.session.specs.declared.Operation.the-variants.{Write}
 use Rattle.session.specs.Session.{isStoring, replies, markedOf, Said, refused, stillOpen, done, neverWritten, aborted, roundsSpent, clockSpent}
 use Rattle.session.specs.Reply.{bears, replyLadder}
 pub use Rattle.session.specs.Reply.{readLadder}
-use Rattle.session.specs.Reader.{headLength, closed, sound}
+use Rattle.recover.specs.Recover.{sound}
+use Rattle.session.specs.Reader.{closed}
 use Rattle.session.specs.Writer.{timedOf}
 
 -- one thing exactly when another
@@ -55,11 +56,11 @@ pub record Closes (p : Plan) (s : Session) (f d : List ℕ) (item : ℕ) : Type 
 
 -- "the candidate is the greatest timestamp": that of node a, the lowest-numbered that bears it
 abbrev pub Candidate : Plan → Session → List ℕ → List ℕ → ℕ → Type 0
-Candidate p s f d a = leadOf (afterReply p s f .marks) (deskAfter p f d) (recordLength p) (p .n) ≡ Node a
+Candidate p s f d a = leadOf (afterReply p s f .marks) (deskAfter p f d) (slotsOf p) (p .n) ≡ Node a
 
 -- "Its set is the replies with this timestamp and the same cross checksum as the lowest-numbered of them"
 abbrev pub size : Plan → Session → List ℕ → List ℕ → ℕ → ℕ
-size p s f d a = length (setOf (afterReply p s f .marks) (deskAfter p f d) (recordLength p) (headLength p) a (p .n))
+size p s f d a = length (setOf (afterReply p s f .marks) (deskAfter p f d) (slotsOf p) a (p .n))
 
 -- validation of that set
 abbrev pub valid : Plan → Session → List ℕ → List ℕ → ℕ → Bool
@@ -101,7 +102,7 @@ pub record DoneByRead (p : Plan) (s : Session) (f d : List ℕ) (item stamp roun
   pub candidate : Candidate p s f d node
   pub full : COMPLETE p ≤ size p s f d node
   pub validated : valid p s f d node ≡ true
-  pub of : stamp ≡ slotStamp (deskAfter p f d) (recordLength p) node
+  pub of : stamp ≡ slotStamp (deskAfter p f d) (slotsOf p) node
   pub counted : rounds ≡ s .round .number
 
 -- "runs a write round, then is done"; "A repair round is not counted."

@@ -26,7 +26,8 @@ use Rattle.session.specs.declared.Session.{Session}
 use Rattle.session.specs.declared.Operation.the-variants.{Write, Read}
 use Rattle.session.specs.Session.{isStoring, markedOf, endedOf, nextOf, refused, stillOpen, roundsSpent, roundOpen}
 use Rattle.session.specs.Reply.{bears, replyLadder, recordLadder}
-use Rattle.session.specs.Reader.{Outcome, outcome, sound, failing, actOn, actFor, closed, settled, heard, stored, accepted, readReply}
+use Rattle.recover.specs.Recover.{sound}
+use Rattle.session.specs.Reader.{Outcome, outcome, failing, actOn, actFor, closed, settled, heard, stored, accepted, readReply}
 use Rattle.session.specs.Writer.{Leaves, leaves, timedOf, timeEnd, timeTurn, writeTurn, acceptedWrite, writeReply}
 use Rattle.session.proofs.Checks.{outcome-all}
 

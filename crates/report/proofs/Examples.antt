@@ -7,6 +7,7 @@ use mathlib.Core.Bool.{Bool, true, false}
 use mathlib.Core.List.{List, [], _∷_}
 use lib.ListN.{length}
 use Rattle.octets.specs.Bytes.{alike}
+use Rattle.terms.specs.Terms.{COMPLETE, INCOMPLETE}
 use Rattle.report.specs.Triple.{Triple, Message, null, suchThat, each, MAX, upTo, strung, Family}
 use Rattle.report.specs.Figure1 as node
 use Rattle.report.specs.Figure1.{initial, RECEIVE-TIME-REQUEST, RECEIVE-WRITE-REQUEST, Latest, RECEIVE-READ-LATEST, PreHistory, RECEIVE-READ-PREVIOUS}

@@ -20,11 +20,11 @@ use Rattle.terms.specs.declared.Member.the-variants.{Repairable}
 use Rattle.terms.specs.declared.Clients.the-variants.{Byzantine}
 use Rattle.fragments.specs.Fragments.{among, regenerated}
 use Rattle.frame.specs.Frame.{kindOf, frame, goodRequest, shaped, bodyFits, forParty, oneOf, goodFrame, goodReply}
-use Rattle.record.specs.Record.{fragmentHash, hashesOk, timeZero}
+use Rattle.record.specs.Record.{fragmentHash, hashesOk, timeZero, prefixOf}
 use Rattle.record.specs.Desk.{row, crossMade}
 use Rattle.rounds.specs.declared.Bound.the-variants.{Free}
 use Rattle.rounds.specs.Rounds.{heardCount, every, slotStamp, slotsFit, slotFits, underOf, leadOf, stepOf, aheadOf, joinsOf, setOf, closeWith}
-use Rattle.recover.specs.Recover.{validates}
+use Rattle.recover.specs.Recover.{validates, sound}
 use Rattle.session.specs.declared.Answer.the-variants.{Done, Open}
 use Rattle.session.specs.declared.Session.{Session}
 use Rattle.session.specs.declared.Operation.the-variants.{Write, Read}
@@ -34,7 +34,7 @@ use Rattle.session.specs.Session.{askNow, awaitsKind, done, stillOpen}
 use Rattle.session.specs.Opening.{openWith, freshOf, OpenCall}
 use Rattle.session.specs.Ranges.{standingRules, openRules, inRange}
 use Rattle.session.specs.Reply.{lengthsOk, awaited, isHeard, bears}
-use Rattle.session.specs.Reader.{Outcome, outcome, sound, actOn, actFor, settled, heard, accepted, readReply, ReadReplyCall}
+use Rattle.session.specs.Reader.{Outcome, outcome, actOn, actFor, settled, heard, accepted, readReply, ReadReplyCall}
 use Rattle.session.specs.declared.Stage.the-variants.{Storing}
 use Rattle.session.specs.Writer.{Leaves, leaves, timeEnd, timeTurn, acceptedWrite, writeReply, WriteReplyCall}
 use Rattle.book.specs.Records.{timed, rising, some}
@@ -104,7 +104,7 @@ left : Outcome
 left = readReply plan start reply desk (0 ∷ [])
 
 said-is : left .said ≡ done (stampNumber (stampAt rec 0)) 1
-unfolding left reply desk rec readReply first planOk countsOk limitsOk columnOf all recordLength lengthsOk inRange standingRules openRules every heardCount slotsFit slotFits goodReply goodFrame shaped forParty oneOf bodyFits awaited askNow awaitsKind isHeard bears accepted heard settled closeWith leadOf stepOf aheadOf slotStamp joinsOf setOf actFor actOn sound validates decided classOf among regenerated fragmentHash row crossMade hashesOk underOf num numFrom part put be beOnto alike timeZero stampAt stampNumber then sha256 after compressOf addedOf roundsOf roundOf T1 T2 scheduleOf words padding bigEndian K
+unfolding left reply desk rec readReply first planOk countsOk limitsOk columnOf all recordLength lengthsOk inRange standingRules openRules every heardCount slotsFit slotFits goodReply goodFrame shaped forParty oneOf bodyFits awaited askNow awaitsKind isHeard bears accepted heard settled closeWith leadOf stepOf aheadOf slotStamp joinsOf setOf actFor actOn sound validates decided classOf among regenerated fragmentHash prefixOf row crossMade hashesOk underOf num numFrom part put be beOnto alike timeZero stampAt stampNumber then sha256 after compressOf addedOf roundsOf roundOf T1 T2 scheduleOf words padding bigEndian K
 said-is = refl
 
 pub call : turns.Turn
@@ -207,7 +207,7 @@ pub taken : node.ServedOutcome
 taken = served plan request book (replicate 88 0)
 
 replied-is : taken .answer ≡ replied 55
-unfolding taken request book rec served first planOk countsOk limitsOk columnOf all recordLength node.bookReplyOk goodBook headed filled rising timed recordsFrom goodRequest goodFrame shaped forParty oneOf bodyFits timeFails hashFails otherHeld noRoom some fragmentHash hashesOk timeZero answered sends replyTo over laidAs header joined num numFrom part be beOnto alike sha256 after compressOf addedOf roundsOf roundOf T1 T2 scheduleOf words padding bigEndian K
+unfolding taken request book rec served first planOk countsOk limitsOk columnOf all recordLength node.bookReplyOk goodBook headed filled rising timed recordsFrom goodRequest goodFrame shaped forParty oneOf bodyFits timeFails hashFails otherHeld noRoom some fragmentHash prefixOf hashesOk timeZero answered sends replyTo over laidAs header joined num numFrom part be beOnto alike sha256 after compressOf addedOf roundsOf roundOf T1 T2 scheduleOf words padding bigEndian K
 replied-is = refl
 
 node-met : NodeCall plan request book (replicate 88 0) (Replied 55) (taken .book) (taken .reply)

@@ -17,7 +17,7 @@ use Rattle.octets.proofs.Laws.{length-put, slot-fits}
 use Rattle.octets.proofs.Meaning.{octets-drop, octets-put}
 use Rattle.terms.specs.Ladder.{Rung, all, _and_, None, rung, upto}
 use Rattle.terms.specs.Stamp.{stamp, time, stampNumber}
-use Rattle.terms.specs.Terms.{planOk, recordLength}
+use Rattle.terms.specs.Terms.{planOk, recordLength, slotsOf}
 use Rattle.terms.specs.declared.Plan.{Plan}
 use Rattle.terms.specs.declared.Ask.{Ask}
 use Rattle.terms.proofs.Down.{Down, clear, stop}
@@ -31,7 +31,8 @@ use Rattle.frame.specs.Frame.{kindOf, frameNode, askOf, bodyOf, goodReply}
 use Rattle.frame.proofs.Frames.{reply-is}
 use Rattle.record.specs.Record.{hashesOk, timeZero}
 use Rattle.record.specs.Desk.{slotOf, fragmentIn}
-use Rattle.record.proofs.Records.{record-length}
+use Rattle.record.proofs.Desks.{fragment-in}
+use Rattle.terms.proofs.Places.{record-length}
 use Rattle.rounds.specs.declared.Heard.the-variants.{Unheard, First, Record}
 use Rattle.rounds.specs.declared.Mark.{Mark}
 use Rattle.rounds.specs.declared.Bound.the-variants.{Free}
@@ -44,7 +45,8 @@ use Rattle.session.specs.declared.Operation.the-variants.{Read}
 use Rattle.session.specs.Session.{isRead, isAsking, isStoring, isEnded, askNow, awaitsKind, replies, markedOf, endedOf, refused, stillOpen, done, saidOf}
 use Rattle.session.specs.Ranges.{inRange}
 use Rattle.session.specs.Reply.{bears, lengthsOk, awaited, isHeard, readLadder}
-use Rattle.session.specs.Reader.{Outcome, outcome, collected, acted, closed, settled, heard, stored, accepted, readReply}
+use Rattle.recover.specs.Recover.{collected}
+use Rattle.session.specs.Reader.{Outcome, outcome, acted, closed, settled, heard, stored, accepted, readReply}
 use Rattle.session.proofs.Made.{OpenIs, in-range-facts, rest-set, few-unheards}
 use Rattle.session.proofs.Rules.{Lengths, lengths-are, StandingIs}
 use Rattle.session.proofs.Openings.{accepted-session}
@@ -62,7 +64,7 @@ use Rattle.report.specs.Run.{Polled, unpolled, messageOf, isMessage, rol
 use Rattle.report.proofs.Lists.{strung-same}
 use Rattle.report.proofs.Sets.{size-is}
 use Rattle.report.proofs.Hears.{puts, heard-hears, hash-hears, late-hears, said-by, said-first, valid-record, valid-first, in-time-is, first-in-time, unheard-has, heard-has, record-after, first-after}
-use Rattle.report.proofs.Erasure.{fragment-place, laid-is}
+use Rattle.report.proofs.Erasure.{laid-is}
 use Rattle.report.proofs.Round.{Full, round-decides}
 use Rattle.report.proofs.Marks.{no-mark, mark-none, none-heard, slot-own, slot-other, Passed, one-cross}
 use Rattle.client.specs.Turns.{ReadTurn, Calls}
@@ -241,10 +243,7 @@ module _ (p : Plan) (s : Session) (d i : List ℕ) (w : Polled) (st : s .round .
 
 -- ---- a repair round
 module _ (p : Plan) (d i : List ℕ) (ok : planOk p ≡ true) (ld : length d ≡ p .n * recordLength p) (li : length i ≡ p .m * p .f) where
-  abbrev head : ℕ
-  head = 40 + 32 * p .n
-
-  src : Sources d head (recordLength p) (p .f) (from 0 (p .m))
+  src : Sources d (slotsOf p) (from 0 (p .m))
   src k l =
       let f = facts p ok in
       let h : k < p .m = omega (arith, length-from 0 (p .m)) in
@@ -254,11 +253,11 @@ module _ (p : Plan) (d i : List ℕ) (ok : planOk p ≡ true) (ld : length d ≡
   collected-is : collected p d i ≡ strung (fragmentIn p d) (p .m)
   unfolding collected
   collected-is =
-      laid-is d head (recordLength p) (p .f) (from 0 (p .m)) (λ k. length-regenerated d head (recordLength p) (p .f) (from 0 (p .m)) k src) (p .m) i li
-      ∙ strung-same (regenerated d head (recordLength p) (p .f) (from 0 (p .m))) (fragmentIn p d) (p .m) own
+      laid-is d (slotsOf p) (from 0 (p .m)) (λ k. length-regenerated d (slotsOf p) (from 0 (p .m)) k src) (p .m) i li
+      ∙ strung-same (regenerated d (slotsOf p) (from 0 (p .m))) (fragmentIn p d) (p .m) own
     where
-      own : (k : ℕ) → k < p .m → regenerated d head (recordLength p) (p .f) (from 0 (p .m)) k ≡ fragmentIn p d k
-      own k h = sym (itself d head (recordLength p) (p .f) (from 0 (p .m)) k (sym (among-from k (p .m) ∙ lt-ltb k (p .m) h))) ∙ sym (fragment-place p d k)
+      own : (k : ℕ) → k < p .m → regenerated d (slotsOf p) (from 0 (p .m)) k ≡ fragmentIn p d k
+      own k h = sym (itself d (slotsOf p) (from 0 (p .m)) k (sym (among-from k (p .m) ∙ lt-ltb k (p .m) h))) ∙ fragment-in p d k
 
   -- a response of a node that was not heard
   module _ (s : Session) (f : List ℕ) (w : Polled) (st : s .round .stage ≡ Storing) (k : Stores p s d w) (sz : AllFull p (w .rounds))

@@ -19,15 +19,16 @@ use Rattle.terms.specs.Ladder.{Rung, _and_, rung}
 use Rattle.terms.specs.Stamp.{stamp, time, stampNumber, top}
 use Rattle.terms.specs.declared.Plan.{Plan}
 use Rattle.terms.specs.declared.Ask.{Ask}
-use Rattle.terms.specs.Terms.{planOk}
+use Rattle.terms.specs.Terms.{planOk, slotsOf}
 use Rattle.terms.proofs.Down.{Down, stop}
 use Rattle.terms.proofs.Ladders.{by-ladder, is-passed}
 use Rattle.terms.proofs.Rungs.{both, clash}
 use Rattle.terms.proofs.Plans.{plan-is}
 use Rattle.terms.proofs.Stamps.{stamp-at-number}
+use Rattle.terms.specs.Terms.{slotsOf}
 use Rattle.fragments.specs.Fragments.{fragment}
 use Rattle.fragments.proofs.Theorems.{length-fragment}
-use Rattle.record.specs.Record.{crossOf, fragmentOf, fragmentHash}
+use Rattle.record.specs.Record.{crossOf, fragmentOf, fragmentHash, prefixOf}
 use Rattle.record.specs.Desk.{slotOf, crossMade, stampMade}
 use Rattle.record.proofs.Desks.{length-cross}
 use Rattle.frame.specs.Frame.{frameNode, bodyOf, goodReply}
@@ -46,11 +47,12 @@ use Rattle.session.specs.Opening.{OpenCall, freshOf}
 use Rattle.session.specs.Session.{isRead, isStoring, isEnded, replies, markedOf, endedOf, storingOf, refused, stillOpen, done, clockSpent, saidOf}
 use Rattle.session.specs.Ranges.{inRange}
 use Rattle.session.specs.Reply.{lengthsOk, isHeard, replyLadder}
-use Rattle.session.specs.Writer.{timedOf, newTime, crossFor, stampFor, recordsFor, Leaves, leaves, timeEnd, timeTurn, writeTurn, acceptedWrite, writeReply}
+use Rattle.recover.specs.Records.{crossFor, stampFor, recordsFor}
+use Rattle.session.specs.Writer.{timedOf, newTime, Leaves, leaves, timeEnd, timeTurn, writeTurn, acceptedWrite, writeReply}
 use Rattle.session.proofs.Made.{in-range-facts, few-unheards}
 use Rattle.session.proofs.Rules.{Lengths, lengths-are}
 use Rattle.session.proofs.Openings.{accepted-session}
-use Rattle.session.proofs.Writers.{record-is}
+use Rattle.recover.proofs.Records.{record-is}
 use Rattle.report.specs.Triple.{Triple, Message, each, larger, MAX}
 use Rattle.report.specs.Figure2.{in-set, GATHERED, Clock, clocks, Times, acknowledged, READ-TIMESTAMP, MAKE-CROSS-CHECKSUM, MAKE-TIMESTAMP, DO-WRITE, ts-written, WRITE}
 use Rattle.report.specs.Ours.{family, stampedAs, bearing, sending}
@@ -70,7 +72,7 @@ module _ (p : Plan) (t : ℕ) (i : List ℕ) (l : length i ≡ p .m * p .f) wher
   ts = MAKE-TIMESTAMP (family p) t CC
 
   pub cross-is : crossFor p i ≡ CC
-  unfolding crossFor crossMade fragmentHash MAKE-CROSS-CHECKSUM
+  unfolding crossFor crossMade fragmentHash prefixOf MAKE-CROSS-CHECKSUM
   cross-is = sym (strung-row (λ (k : ℕ). sha256 (fragment (p .m) (p .f) i k)) (p .n))
 
   abbrev bytes : List ℕ
@@ -91,7 +93,7 @@ module _ (p : Plan) (t : ℕ) (i : List ℕ) (l : length i ≡ p .m * p .f) wher
 
   length-crossed : length (crossFor p i) ≡ 32 * p .n
   unfolding crossFor
-  length-crossed = length-cross (fragment (p .m) (p .f) i) (p .n)
+  length-crossed = length-cross p (fragment (p .m) (p .f) i) (p .n)
 
   abbrev message : ℕ → Triple → Message
   message k x = record { S = k; Response = x }
@@ -113,7 +115,7 @@ module _ (p : Plan) (t : ℕ) (i : List ℕ) (l : length i ≡ p .m * p .f) wher
 
       body : fragmentOf p (slotOf p (recordsFor p t i) k) ≡ fragment (p .m) (p .f) i k
       body =
-          part-middle (slotOf p (recordsFor p t i) k) (bytes ++ crossFor p i) (fragment (p .m) (p .f) i k) [] (40 + 32 * p .n) (p .f)
+          part-middle (slotOf p (recordsFor p t i) k) (bytes ++ crossFor p i) (fragment (p .m) (p .f) i k) [] (slotsOf p .head) (p .f)
           (is ∙ sym (append-assoc bytes (crossFor p i) (fragment (p .m) (p .f) i k)) ∙ ap (λ (y : List ℕ). (bytes ++ crossFor p i) ++ y) (sym (append-nil (fragment (p .m) (p .f) i k))))
           (length-append bytes (crossFor p i) ∙ omega (arith, length-bytes, length-crossed)) (length-fragment (p .m) (p .f) i l k)
 

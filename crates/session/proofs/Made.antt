@@ -10,11 +10,12 @@ use lib.Dec.{leb, ltb}
 use lib.ListN.{getD, set, drop, replicate}
 use lib.Seq.{drop-set-lt}
 use Rattle.terms.specs.Ladder.{all, _and_, _or_}
-use Rattle.terms.specs.Terms.{planOk, recordLength}
+use Rattle.terms.specs.Terms.{planOk, slotsOf}
 use Rattle.terms.specs.declared.Plan.{Plan}
 use Rattle.terms.specs.declared.Timestamp.{Timestamp}
 use Rattle.terms.proofs.Facts.{facts}
 use Rattle.terms.proofs.Rungs.{both}
+use Rattle.terms.specs.declared.Slots.{Slots}
 use Rattle.rounds.specs.declared.Bound.{Bound}
 use Rattle.rounds.specs.declared.Heard.{Heard}
 use Rattle.rounds.specs.declared.Heard.the-variants.{Record}
@@ -30,7 +31,7 @@ pub record OpenIs (p : Plan) (s : Session) (d : List ℕ) : Type 0 where
   pub stamped : (not (isStoring (s .round .stage)) or leb 1 (s .stamp .time .0)) ≡ true
   pub firsts : (readRound s or noneFirst (s .marks)) ≡ true
   pub few : roundOpen p s ≡ true
-  pub slots : (not (readRound s) or slotsFit (s .marks) d (recordLength p) (s .round .bound) (p .n)) ≡ true
+  pub slots : (not (readRound s) or slotsFit (s .marks) d (slotsOf p) (s .round .bound) (p .n)) ≡ true
 
 pub open-facts : (p : Plan) (s : Session) (d : List ℕ) → openRules p s d ≡ true → OpenIs p s d
 unfolding openRules all
@@ -38,7 +39,7 @@ open-facts p s d e =
     let e1 = both (not (isStoring (s .round .stage)) or leb 1 (s .stamp .time .0)) _ e in
     let e2 = both (readRound s or noneFirst (s .marks)) _ (e1 .1) in
     let e3 = both (roundOpen p s) _ (e2 .1) in
-    let e4 = both (not (readRound s) or slotsFit (s .marks) d (recordLength p) (s .round .bound) (p .n)) _ (e3 .1) in
+    let e4 = both (not (readRound s) or slotsFit (s .marks) d (slotsOf p) (s .round .bound) (p .n)) _ (e3 .1) in
     record { stamped = e1 .0; firsts = e2 .0; few = e3 .0; slots = e4 .0 }
 
 module _ (p : Plan) (s : Session) where
@@ -94,10 +95,10 @@ pub few-unheards : (p : Plan) → planOk p ≡ true → ltb (heardCount unheards
 unfolding heardCount
 few-unheards p e = let g = facts p e in lt-ltb 0 (replies p) (omega arith)
 
-pub slots-unheards : (d : List ℕ) (r : ℕ) (b : Bound) (n : ℕ) → slotsFit unheards d r b n ≡ true
+pub slots-unheards : (d : List ℕ) (slots : Slots) (b : Bound) (n : ℕ) → slotsFit unheards d slots b n ≡ true
 unfolding slotsFit slotFits
-slots-unheards d r b zero = refl
-slots-unheards d r b (suc n) = rw (slots-unheards d r b n, mark-same unheard 16 n)
+slots-unheards d slots b zero = refl
+slots-unheards d slots b (suc n) = rw (slots-unheards d slots b n, mark-same unheard 16 n)
 
 pub rest-set : (ms : List Mark) (n i : ℕ) (m : Mark) → i < n → restUnheard (set ms i m) n ≡ restUnheard ms n
 rest-set ms n i m h = ap (every isUnheard) (drop-set-lt n ms i m h)
@@ -121,6 +122,6 @@ storing-in-range p s t d k q h =
     side true = none-unheards
     side false = none-unheards
 
-    other : (b : Bool) → (not (b and false) or slotsFit unheards d (recordLength p) (s .round .bound) (p .n)) ≡ true
+    other : (b : Bool) → (not (b and false) or slotsFit unheards d (slotsOf p) (s .round .bound) (p .n)) ≡ true
     other true = refl
     other false = refl

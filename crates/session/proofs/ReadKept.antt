@@ -10,7 +10,7 @@ use lib.ListN.{length}
 use Rattle.octets.specs.Bytes.{put}
 use Rattle.terms.specs.Ladder.{first, None, _and_}
 use Rattle.terms.proofs.Down.{clear}
-use Rattle.terms.specs.Terms.{recordLength}
+use Rattle.terms.specs.Terms.{recordLength, slotsOf}
 use Rattle.terms.specs.Stamp.{stamp, stampNumber}
 use Rattle.terms.specs.declared.Plan.{Plan}
 use Rattle.frame.specs.Frame.{frameNode, bodyOf}
@@ -26,7 +26,8 @@ use Rattle.session.specs.declared.Stage.the-variants.{Asking, Storing, E
 use Rattle.session.specs.declared.Operation.the-variants.{Read}
 use Rattle.session.specs.Session.{isRead, isAsking, isStoring, isEnded, markedOf, endedOf, nextOf, refused, stillOpen, done, roundOpen}
 use Rattle.session.specs.Reply.{bears, replyLadder, recordLadder}
-use Rattle.session.specs.Reader.{Outcome, outcome, collected, acted, closed, settled, heard, stored, accepted, readReply, ReadReplyCall}
+use Rattle.recover.specs.Recover.{collected}
+use Rattle.session.specs.Reader.{Outcome, outcome, acted, closed, settled, heard, stored, accepted, readReply, ReadReplyCall}
 use Rattle.session.proofs.Checks.{none-applies, outcome-all}
 use Rattle.session.proofs.Rules.{range-stands, StandingIs}
 use Rattle.session.proofs.Known.{Known, known-reply, same, reply}
@@ -69,7 +70,7 @@ module _ (p : Plan) (s : Session) (f d i : List ℕ) (k : Kept p s d) where
         ended : Kept p (endedOf u) e
         ended = record { range = ended-in-range p (endedOf u) e (end-stands p u stood) refl; desk-is = long; clock = k .clock }
 
-        module _ (ask : isAsking (s .round .stage) ≡ true) (fits : slotsFit (u .marks) e (recordLength p) (s .round .bound) (p .n) ≡ true) where
+        module _ (ask : isAsking (s .round .stage) ≡ true) (fits : slotsFit (u .marks) e (slotsOf p) (s .round .bound) (p .n) ≡ true) where
           still : roundOpen p u ≡ true → Kept p u e
           still c =
               record {
@@ -81,8 +82,8 @@ module _ (p : Plan) (s : Session) (f d i : List ℕ) (k : Kept p s d) where
           stamped : (a : ℕ) → closed p u e .lead ≡ Node a → 1 ≤ closed p u e .stamp .time .0
           stamped a l =
               let g : Led p u e a = led p u e a l in
-              let best = candidate (u .marks) e (recordLength p) (p .n) a (g .leads) in
-              rw (g .stamp-is) (lead-time (u .marks) e (recordLength p) (s .round .bound) (p .n) a fits (lead-low p u e a g) (best .marked))
+              let best = candidate (u .marks) e (slotsOf p) (p .n) a (g .leads) in
+              rw (g .stamp-is) (lead-time (u .marks) e (slotsOf p) (s .round .bound) (p .n) a fits (lead-low p u e a g) (best .marked))
 
           next : (a : ℕ) → closed p u e .lead ≡ Node a → u .round .number < p .w → Kept p (nextOf u (closed p u e .stamp)) e
           next a l h =
@@ -101,7 +102,7 @@ module _ (p : Plan) (s : Session) (f d i : List ℕ) (k : Kept p s d) where
                       stamped = refl;
                       firsts = rw reads;
                       few = few-unheards p (q .plan-ok);
-                      slots = rw reads (slots-unheards e (recordLength p) _ (p .n));
+                      slots = rw reads (slots-unheards e (slotsOf p) _ (p .n));
                     });
                 desk-is = long;
                 clock = k .clock;
@@ -157,7 +158,7 @@ module _ (p : Plan) (s : Session) (f d i : List ℕ) (k : Kept p s d) where
         ask = asking (s .round .stage) t (q .going)
 
         fits : (b : Bool) → bears p f ≡ b
-            → slotsFit (u (cond b Record First) .marks) (cond b (put d (frameNode f * recordLength p) (bodyOf f)) d) (recordLength p) (s .round .bound) (p .n) ≡ true
+            → slotsFit (u (cond b Record First) .marks) (cond b (put d (frameNode f * recordLength p) (bodyOf f)) d) (slotsOf p) (s .round .bound) (p .n) ≡ true
         fits = slots-after p f d low (q .desk-is) (s .marks) (s .round .bound) (λ c. rw c at (clear (recordLadder p s f) n 5))
             (λ c. not-false (underOf (s .round .bound) (stamp (bodyOf f))) (rw c at (clear (recordLadder p s f) n 12))) (rw (reads, ask) at (q .opens .slots))
 

@@ -10,7 +10,7 @@ use mathlib.Core.Bool.{Bool, not}
 use mathlib.Core.List.{List, [], _∷_}
 use lib.Dec.{ltb, leb, eqb}
 use Rattle.terms.specs.Ladder.{all, _and_, _or_}
-use Rattle.terms.specs.Terms.{recordLength, openingOk}
+use Rattle.terms.specs.Terms.{slotsOf, openingOk}
 use Rattle.terms.specs.declared.Plan.{Plan}
 use Rattle.rounds.specs.declared.Bound.{Bound}
 use Rattle.rounds.specs.declared.Bound.the-variants.{Free, Under}
@@ -41,7 +41,7 @@ openRules p s d =
     (not (isStoring (s .round .stage)) or leb 1 (s .stamp .time .0)) ∷
     (readRound s or noneFirst (s .marks)) ∷
     roundOpen p s ∷
-    (not (readRound s) or slotsFit (s .marks) d (recordLength p) (s .round .bound) (p .n)) ∷ [])
+    (not (readRound s) or slotsFit (s .marks) d (slotsOf p) (s .round .bound) (p .n)) ∷ [])
 
 -- "An ended session meets only the rules on round, bound, opening ask and marks from N on."
 unfoldable pub inRange : Plan → Session → List ℕ → Bool

@@ -3,7 +3,6 @@
 -- replies bearing that timestamp. The item comes as a slice that cannot be written, so it is not among the outcomes.
 --   laterOf timedOf    the greatest time so far; the session after a time reply
 --   newTime            the time of the write, from the greatest time
---   crossFor stampFor recordsFor   the cross checksum, the timestamp and the N records of an item
 --   Leaves leaves      the answer, the session and the desk as a call leaves them
 --   timeTurn timeEnd   the time round after a reply: open, clock spent, or the write round opens
 --   writeTurn          the write round after a reply: open, or done
@@ -17,12 +16,10 @@ use mathlib.Core.List.{List}
 use lib.ListN.{length, set}
 use lib.Dec.{ltb, eqb}
 use Rattle.terms.specs.Ladder.{first}
-use Rattle.terms.specs.Stamp.{time, stampAt, stampNumber, top}
+use Rattle.terms.specs.Stamp.{time, stampNumber, top}
 use Rattle.terms.specs.declared.Plan.{Plan}
-use Rattle.terms.specs.declared.Timestamp.{Timestamp}
-use Rattle.fragments.specs.Fragments.{fragment}
 use Rattle.frame.specs.Frame.{frameNode, bodyOf}
-use Rattle.record.specs.Desk.{crossMade, deskOf, stampMade}
+use Rattle.recover.specs.Records.{stampFor, recordsFor}
 use Rattle.rounds.specs.declared.Heard.the-variants.{Record}
 use Rattle.session.specs.declared.Session.{Session}
 use Rattle.session.specs.declared.Took.{Took}
@@ -41,16 +38,6 @@ timedOf s i t = withMarks (withGreatest s (record { 0 = laterOf (s .greatest .0)
 -- "the new time is the greatest reply plus 1"
 abbrev pub newTime : ℕ → ℕ
 newTime greatest = greatest + 1
-
--- ---- the records of an item, written at a time
-unfoldable pub crossFor : Plan → List ℕ → List ℕ
-crossFor p i = crossMade (fragment (p .m) (p .f) i) (p .n)
-
-unfoldable pub stampFor : Plan → ℕ → List ℕ → Timestamp
-stampFor p t i = stampAt (stampMade t (crossFor p i)) 0
-
-unfoldable pub recordsFor : Plan → ℕ → List ℕ → List ℕ
-recordsFor p t i = deskOf (stampMade t (crossFor p i)) (crossFor p i) (fragment (p .m) (p .f) i) (p .n)
 
 -- ---- the call
 pub record Leaves : Type 0 where

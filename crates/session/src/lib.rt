@@ -18,7 +18,7 @@ ghost use mathlib.Core.Path.{_≡_};
 ghost use mathlib.Core.Bool.{true, not};
 ghost use Prim.Native.Nat.{_+_, _-_, _*_, _≤_, _<_};
 ghost use lib.ListN.{length};
-ghost use Rattle.terms.specs.Terms.{planOk, recordLength};
+ghost use Rattle.terms.specs.Terms.{planOk, recordLength, slotsOf};
 ghost use lib.Dec.{eqb, leb};
 ghost use Rattle.terms.specs.Ladder.{first, _or_};
 ghost use Rattle.frame.specs.Frame.{kindOf};
@@ -307,7 +307,7 @@ impl Session {
     // "in a read round each slot marked 'record' must hold a time of 1 or more and a timestamp below the bound, if there is one"
     fn slots_ok(self, p: Plan, desk: &[u8]) -> bool
         requires { ⌜ (planOk p ≡ true) × (length (now desk) ≡ p .n * recordLength p) ⌝ }
-        ensures { λ r. ⌜ r ≡ (not (readRound self) or slotsFit (self .marks) (now (desk .entry)) (recordLength p) (self .round .bound) (p .n)) ⌝ }
+        ensures { λ r. ⌜ r ≡ (not (readRound self) or slotsFit (self .marks) (now (desk .entry)) (slotsOf p) (self .round .bound) (p .n)) ⌝ }
     {
         if !self.in_read_round() {
             return true;
@@ -315,8 +315,8 @@ impl Session {
         let marks = self.marks;
         let now = self.round;
         let b = now.bound;
-        let r = terms::record_length(p);
-        rounds::slots_fit(marks, desk, p.n as usize, r, b)
+        let slots = terms::slots_of(p);
+        rounds::slots_fit(marks, desk, slots, b)
     }
 
     // Whether the round is open: fewer than N-t nodes are heard. Else it is over.

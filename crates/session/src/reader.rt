@@ -8,7 +8,6 @@ use crate::Took;
 use rounds::Close;
 use rounds::Heard;
 use rounds::Lead;
-use terms::Clients;
 use terms::Plan;
 use terms::Refusal;
 use terms::Timestamp;
@@ -24,7 +23,7 @@ ghost use Rattle.rounds.specs.declared.Lead.the-variants.{Node};
 ghost use Rattle.rounds.specs.Rounds.{told};
 ghost use Rattle.session.specs.Session.{saidOf};
 ghost use Rattle.session.specs.Reply.{bears, recordLadder, checkNumber};
-ghost use Rattle.session.specs.Reader.{outcome, sound, decoded, collected, repaired, failing, actOn, acted, settled, heard, stored, accepted, ReadReplyCall, Usable, Acting};
+ghost use Rattle.session.specs.Reader.{outcome, failing, actOn, acted, settled, heard, stored, accepted, ReadReplyCall, Acting};
 
 // Whether a reply bears a record, and not the first triple.
 fn bears_record(p: Plan, frame: &[u8]) -> bool
@@ -35,66 +34,6 @@ fn bears_record(p: Plan, frame: &[u8]) -> bool
         return false;
     }
     frame.len() == 15 + terms::record_length(p)
-}
-
-// Validation: the clients of the plan are trusted, or the cross checksum agrees.
-fn validate(p: Plan, c: Close, a: usize, desk: &[u8]) -> bool
-    requires { ⌜ Usable p c a (now desk) ⌝ }
-    ensures { λ r. ⌜ r ≡ sound p (told c) a (now (desk .entry)) ⌝ }
-{
-    let k = p.clients;
-    match k {
-        Clients::Crash => true,
-        Clients::Byzantine => {
-            let n = p.n as usize;
-            let m = p.m as usize;
-            let f = p.f as usize;
-            let set = c.set;
-            let nodes = set.nodes;
-            let h = 40 + 32 * n;
-            recover::validated(desk, h, h + f, f, &nodes[..m], a, n)
-        }
-    }
-}
-
-// The item, from the m lowest-numbered of the set.
-fn decode(p: Plan, c: Close, a: usize, desk: &[u8], item: &mut [u8])
-    requires { ⌜ (Usable p c a (now desk)) × (length (now item) ≡ p .m * p .f) ⌝ }
-    ensures { λ _. ⌜ now (item .exit) ≡ decoded p (told c) (now (desk .entry)) (now (item .entry)) ⌝ }
-{
-    let n = p.n as usize;
-    let m = p.m as usize;
-    let f = p.f as usize;
-    let set = c.set;
-    let nodes = set.nodes;
-    let h = 40 + 32 * n;
-    fragments::decode(desk, h, h + f, f, &nodes[..m], m, item);
-}
-
-// All N records of the set, in place.
-fn repair(p: Plan, c: Close, a: usize, desk: &mut [u8])
-    requires { ⌜ Usable p c a (now desk) ⌝ }
-    ensures { λ _. ⌜ now (desk .exit) ≡ repaired p (told c) a (now (desk .entry)) ⌝ }
-{
-    let n = p.n as usize;
-    let m = p.m as usize;
-    let f = p.f as usize;
-    let set = c.set;
-    let nodes = set.nodes;
-    let h = 40 + 32 * n;
-    recover::mend(desk, h, h + f, f, &nodes[..m], a, n);
-}
-
-// The item from the desk's first m slots, after a repair round.
-fn collect(p: Plan, desk: &[u8], item: &mut [u8])
-    requires { ⌜ (planOk p ≡ true) × (length (now desk) ≡ p .n * recordLength p) × (length (now item) ≡ p .m * p .f) ⌝ }
-    ensures { λ _. ⌜ now (item .exit) ≡ collected p (now (desk .entry)) (now (item .entry)) ⌝ }
-{
-    let n = p.n as usize;
-    let m = p.m as usize;
-    let f = p.f as usize;
-    let h = 40 + 32 * n;
-    fragments::collect(desk, h, h + f, f, m, item);
 }
 
 impl Session {
@@ -150,10 +89,10 @@ impl Session {
         let round = self.round.number;
         match v {
             Verdict::Complete => {
-                if !validate(p, c, a, &desk[..]) {
+                if !recover::validate(p, c, a, &desk[..]) {
                     return self.fall(p, t, &desk[..], &item[..]);
                 }
-                decode(p, c, a, &desk[..], item);
+                recover::decode(p, c, a, &desk[..], item);
                 let s = self.over();
                 Took {
                     session: s,
@@ -161,10 +100,10 @@ impl Session {
                 }
             }
             Verdict::Repair => {
-                if !validate(p, c, a, &desk[..]) {
+                if !recover::validate(p, c, a, &desk[..]) {
                     return self.fall(p, t, &desk[..], &item[..]);
                 }
-                repair(p, c, a, desk);
+                recover::repair(p, c, a, desk);
                 let s = self.store(t);
                 Took {
                     session: s,
@@ -213,13 +152,10 @@ impl Session {
             };
         }
         let marks = self.marks;
-        let n = p.n as usize;
-        let h = 40 + 32 * n;
-        let r = h + p.f as usize;
+        let slots = terms::slots_of(p);
         let member = p.member;
-        let high = terms::complete_of(p);
-        let low = terms::incomplete_of(p);
-        let c = rounds::closing(marks, &desk[..], n, h, r, member, high, low);
+        let t = terms::thresholds_of(p);
+        let c = rounds::closing(marks, &desk[..], slots, member, t);
         self.act(p, c, desk, item)
     }
 
@@ -252,7 +188,7 @@ impl Session {
         }
         let t = self.stamp;
         let round = self.round.number;
-        collect(p, desk, item);
+        recover::collect(p, desk, item);
         let s = self.over();
         Took {
             session: s,

@@ -9,7 +9,6 @@ use rounds::Heard;
 use rounds::Mark;
 use terms::Plan;
 use terms::Time;
-use terms::Timestamp;
 ghost use mathlib.Core.Path.{_≡_};
 ghost use mathlib.Core.Bool.{true};
 ghost use mathlib.Core.List.{List};
@@ -22,7 +21,7 @@ ghost use Rattle.frame.specs.Frame.{bodyOf};
 ghost use Rattle.session.specs.declared.Operation.the-variants.{Write};
 ghost use Rattle.session.specs.Session.{saidOf};
 ghost use Rattle.session.specs.Reply.{replyLadder};
-ghost use Rattle.session.specs.Writer.{laterOf, timedOf, stampFor, recordsFor, leaves, timeTurn, writeTurn, acceptedWrite, WriteReplyCall};
+ghost use Rattle.session.specs.Writer.{laterOf, timedOf, leaves, timeTurn, writeTurn, acceptedWrite, WriteReplyCall};
 
 // The time that a time reply bears.
 fn time_in(reply: &[u8]) -> Time
@@ -40,20 +39,6 @@ fn later(a: Time, b: Time) -> Time
         return b;
     }
     a
-}
-
-// All N records of an item at a time, into the desk, by way of a cross checksum; their timestamp.
-fn write_records(p: Plan, at: Time, item: &[u8], desk: &mut [u8], cross: &mut [u8]) -> Timestamp
-    requires { ⌜ (planOk p ≡ true) × (length (now item) ≡ p .m * p .f) × (length (now desk) ≡ p .n * recordLength p) × (512 ≤ length (now cross)) ⌝ }
-    ensures { λ r. ⌜ (r ≡ stampFor p (at .0) (now (item .entry))) × (now (desk .exit) ≡ recordsFor p (at .0) (now (item .entry))) ⌝ }
-{
-    let n = p.n as usize;
-    let r = terms::record_length(p);
-    fragments::encode(item, p.m as usize, p.f as usize, n, desk, 40 + 32 * n, r);
-    record::cross(p, &desk[..], cross, 0);
-    let t = record::stamp_of(p, at, &cross[..], 0);
-    record::fill(p, t, &cross[..], 0, desk);
-    t
 }
 
 impl Session {
@@ -87,7 +72,7 @@ impl Session {
                 answer: Answer::ClockSpent,
             };
         }
-        let t = write_records(p, Time(g.0 + 1), item, desk, cross);
+        let t = recover::write_records(p, Time(g.0 + 1), item, desk, cross);
         let s = self.store(t);
         Took {
             session: s,

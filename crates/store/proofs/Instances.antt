@@ -27,7 +27,7 @@ use Rattle.frame.specs.Frame.{kindOf, frameNode, bodyOf, frame, goodRequest, bo
 use Rattle.frame.specs.declared.Party.the-variants.{Node}
 use Rattle.frame.proofs.Frames as frames
 use Rattle.frame.proofs.Built as built
-use Rattle.record.specs.Record.{hashesOk, timeZero, fragmentHash}
+use Rattle.record.specs.Record.{hashesOk, timeZero, fragmentHash, prefixOf}
 use Rattle.book.specs.Records.{holds, kept, timed, rising}
 use Rattle.book.specs.Book.{laidOut, laidAs, header, joined, recordsOf, nodeOf}
 use Rattle.book.proofs.Lists.{length-insert}
@@ -134,7 +134,7 @@ module _ (t : ℕ) (low : 0 < t) (high : t < 256) where
   entry-is = whole fragment cross refl
 
   hashes : hashesOk plan 0 (record-of t) ≡ true
-  unfolding hashesOk fragmentHash plan
+  unfolding hashesOk fragmentHash prefixOf plan
   hashes = rw (cross-is, verifier-is, fragment-is, entry-is, alike-refl (sha256 cross)) (alike-refl (sha256 fragment))
 
   kind-is : kindOf (request t) ≡ 3

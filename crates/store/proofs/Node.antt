@@ -16,7 +16,7 @@ use Rattle.terms.specs.declared.Refusal.{Refusal}
 use Rattle.terms.proofs.Down as down
 use Rattle.terms.proofs.Rungs as rungs
 use Rattle.frame.specs.Frame.{goodRequest, goodFrame, bodyFits}
-use Rattle.record.specs.Record.{hashesOk}
+use Rattle.record.specs.Record.{hashesOk, fragmentHash, prefixOf}
 use Rattle.book.specs.Book.{goodBook, headed, filled, laidAs, laidOut, header, recordsOf, nodeOf}
 use Rattle.book.proofs.Laws as books
 use Rattle.node.specs.declared.Answer.{Answer}
@@ -152,7 +152,7 @@ rest ok p f b y =
     on 8 (noRoom p f b) ∷ []) (λ (k : ℕ). servedOutcome (refused k) b y) (answered p f b y)
 
 rest-bare : (ok : Bool) (p : Plan) (f b y : List ℕ) → rest ok p f b y ≡ rest ok (bare (p .n) (p .f)) f b y
-unfolding rest recordLength bookReplyOk goodBook headed filled goodRequest goodFrame bodyFits hashFails hashesOk otherHeld noRoom answered bookAfter laidAs header
+unfolding rest recordLength bookReplyOk goodBook headed filled goodRequest goodFrame bodyFits hashFails hashesOk fragmentHash prefixOf otherHeld noRoom answered bookAfter laidAs header
 rest-bare ok p f b y = refl
 
 -- The node's answer, book and reply depend on the plan only through refusal 1, N and F: two plans that are both accepted or both not, with the

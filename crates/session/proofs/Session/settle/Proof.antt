@@ -1,5 +1,5 @@
 use native.Mathlib.Omega.{arith}
-use Rattle.terms.proofs.Plans.{plan-is}
+use Rattle.terms.proofs.Places.{slots-are}
 use Rattle.rounds.specs.Rounds.{told}
 use Rattle.session.proofs.Readers as laws
 use borrow.Author.Needs.{needs}
@@ -14,23 +14,22 @@ settle-spec =
     (λ c.
     let args = c .before .before .before .before .args in
     laws.settled-open (args .p) (args .self) _ _ _ (c .before .round-open .ensures) (c .if1 .taken))
-    (λ c. let q = plan-is _ (c .before .before .before .before .before .pre .0) in omega arith)
-    (λ c. let q = plan-is _ (c .before .before .before .before .before .pre .0) in omega arith)
-    (λ c. let q = plan-is _ (c .before .before .before .before .before .pre .0) in omega arith)
     (λ c κs. search needs)
     (λ c κs. search needs)
     (λ c κs.
     let start = c .before .before .before .before .before .before .before .before in
-    let q = plan-is _ (start .pre .0) in
-    (omega (arith, laws.desk-sum (start .args .p) (start .args .desk .now) (start .pre .1)), omega arith, omega arith, q .n-high))
+    let slots = c .before .before .slots-of in
+    let q = slots-are _ _ (start .pre .0) (slots .ensures) in
+    (laws.desk-room (start .args .p) (slots .result) (slots .ensures) (start .args .desk .now) (start .pre .1), omega arith, omega arith, omega arith))
     (λ c κs.
     let shut = c .before .before in
     let turn = shut .before .before .before .before .before .before in
     let start = turn .before .before .before in
     let args = start .args in
+    let q = slots-are _ _ (start .pre .0) (shut .before .before .before .slots-of .ensures) in
     laws.acting (args .p) (args .self) (args .desk .now) (shut .closing .result) (start .pre .0) (start .pre .1)
-    (laws.closed-is (args .p) (args .self) (args .desk .now) _ _ _ (shut .before .before .before .complete-of .ensures) (shut .before .before .incomplete-of .ensures) (shut .closing .ensures .0))
-    (shut .closing .ensures .1) (shut .closing .ensures .2) (args .item .now) (start .pre .2))
+    (laws.closed-is (args .p) (args .self) (args .desk .now) _ _ _ (shut .before .before .before .slots-of .ensures) (shut .before .before .thresholds-of .ensures) (shut .closing .ensures .0))
+    (shut .closing .ensures .1) (omega (arith, shut .closing .ensures .2)) (args .item .now) (start .pre .2))
     (λ c. search needs)
     (λ c. search needs)
     (λ c.
@@ -39,5 +38,5 @@ settle-spec =
     let turn = shut .before .before .before .before .before .before in
     let args = turn .before .before .before .args in
     laws.settled-acts (args .p) (args .self) (args .desk .now) (args .item .now) _ (turn .round-open .ensures) _ (told (shut .closing .result)) (shut .before .before .before .before .before .if1 .left)
-    (laws.closed-is (args .p) (args .self) (args .desk .now) _ _ _ (shut .before .before .before .complete-of .ensures) (shut .before .before .incomplete-of .ensures) (shut .closing .ensures .0))
+    (laws.closed-is (args .p) (args .self) (args .desk .now) _ _ _ (shut .before .before .before .slots-of .ensures) (shut .before .before .thresholds-of .ensures) (shut .closing .ensures .0))
     (acts .act .ensures)))

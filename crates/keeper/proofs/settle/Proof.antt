@@ -1,6 +1,6 @@
 -- `keeper::settle` sends what lies within the reply buffer. Assumes nothing.
 use borrow.Author.Needs.{needs}
-use Rattle.step.proofs.Laws as laws
+use Rattle.keeper_step.proofs.Laws as laws
 use Rattle.keeper.proofs.settle.Statement.{statement}
 use Rattle.keeper.proofs.settle.Tie as tie
 

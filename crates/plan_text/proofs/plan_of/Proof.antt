@@ -6,7 +6,7 @@ use Rattle.plan_text.proofs.plan_of.Tie as tie
 
 returns : tie.Need-returns
 unfolding planFrom
-returns c = let w = c .before .before .before .before .before .before .before .before .before .member .ensures in let z = c .before .before .before .before .before .before .before .clients .ensures in cc
+returns c = let far = c .before .before .before .before in let w = far .before .before .before .before .before .member .ensures in let z = c .before .before .before .before .before .before .before .clients .ensures in cc
 
 pub plan-of-spec : {M : Type 1} → statement M
 plan-of-spec =

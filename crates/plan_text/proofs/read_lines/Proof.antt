@@ -21,7 +21,7 @@ returns c = laws.turn-wrong (c .before .before .before .before .before .before .
 
 loop-again : tie.Need-loop-again Inv-loop μ-loop
 unfolding part
-loop-again c = (omega arith, omega arith, omega arith, c .before .before .take-line .ensures .0 .2, laws.turn-on (c .before .before .before .before .before .before .before .before .before .args .s .now) (c .before .before .before .before .before .before .before .loop .values) (c .before .before .before .before .before .before .before .loop .at) (c .before .before .before .before .before .before .before .loop .k) (c .before .before .before .before .before .before .before .loop .lines) (c .before .before .before .before .before .before .before .loop .inv .4) (omega arith) _ (c .before .before .before .before .before .line-at .result .next) (c .before .before .before .before .before .line-at .ensures .1 .0) (c .before .before .before .before .before .line-at .ensures .1 .1) _ (sym (c .before .if1 .left) ∙ c .before .before .take-line .ensures .0 .1) (c .before .before .take-line .ensures .1))
+loop-again c = let far = c .before .before .before .before in (omega arith, omega arith, omega arith, c .before .before .take-line .ensures .0 .2, laws.turn-on (far .before .before .before .before .before .args .s .now) (c .before .before .before .before .before .before .before .loop .values) (c .before .before .before .before .before .before .before .loop .at) (c .before .before .before .before .before .before .before .loop .k) (c .before .before .before .before .before .before .before .loop .lines) (c .before .before .before .before .before .before .before .loop .inv .4) (omega arith) _ (c .before .before .before .before .before .line-at .result .next) (c .before .before .before .before .before .line-at .ensures .1 .0) (c .before .before .before .before .before .line-at .ensures .1 .1) _ (sym (c .before .if1 .left) ∙ c .before .before .take-line .ensures .0 .1) (c .before .before .take-line .ensures .1))
 
 pub read-lines-spec : {M : Type 1} → statement M
 read-lines-spec =

@@ -18,4 +18,4 @@ value-at-spec =
     (λ c κs. search needs)
     (λ c. (omega arith, laws.name-tight (c .before .before .before .before .before .before .before .before .args .w .now) (c .before .before .before .before .before .before .before .before .args .name .now) (omega arith) (c .before .before .before .before .same .result) (c .before .before .before .before .same .ensures) (not-false (c .before .before .before .before .same .result) (c .before .before .before .if2 .left)) (sym (c .before .is-blank .ensures) ∙ not-true (c .before .is-blank .result) (c .if3 .taken))))
     (λ c κs. (omega arith, omega arith))
-    (λ c. (omega arith, laws.name-is (c .before .before .before .before .before .before .before .before .before .args .w .now) (c .before .before .before .before .before .before .before .before .before .args .name .now) (omega arith) (c .before .before .before .before .before .same .result) (c .before .before .before .before .before .same .ensures) (not-false (c .before .before .before .before .before .same .result) (c .before .before .before .before .if2 .left)) (sym (c .before .before .is-blank .ensures) ∙ not-false (c .before .before .is-blank .result) (c .before .if3 .left)) (c .past-blanks .result) (c .past-blanks .ensures .2))))
+    (λ c. let far = c .before .before .before .before in (omega arith, laws.name-is (far .before .before .before .before .before .args .w .now) (far .before .before .before .before .before .args .name .now) (omega arith) (c .before .before .before .before .before .same .result) (c .before .before .before .before .before .same .ensures) (not-false (c .before .before .before .before .before .same .result) (c .before .before .before .before .if2 .left)) (sym (c .before .before .is-blank .ensures) ∙ not-false (c .before .before .is-blank .result) (c .before .if3 .left)) (c .past-blanks .result) (c .past-blanks .ensures .2))))

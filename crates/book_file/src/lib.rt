@@ -57,16 +57,6 @@ pub fn load(path: &[u8], area: &mut [u8]) -> Loaded
     }
 }
 
-// Whether there is a file of this name that can be opened.
-pub fn exists(path: &[u8]) -> bool {
-    let fd = os::open_read(path);
-    if fd < 0 {
-        return false;
-    }
-    libc::close(fd);
-    true
-}
-
 // The name BOOK.new. 0 where it does not fit.
 fn beside(path: &[u8], name: &mut [u8]) -> usize
     ensures { λ r. ⌜ Counts r (now (name .exit)) ⌝ }
@@ -204,18 +194,8 @@ fn give_up(fd: i32, spare: &[u8]) -> bool {
     false
 }
 
-// The file at BOOK.new takes the name BOOK.
-fn take_name(spare: &[u8], path: &[u8]) -> bool {
-    if os::rename(spare, path) != 0 {
-        say::failed(path);
-        os::unlink(spare);
-        return false;
-    }
-    sync_name(path)
-}
-
-// A whole book, first under the name BOOK.new.
-fn store_by(fd: i32, spare: &[u8], path: &[u8], book: &[u8]) -> bool {
+// The bytes of BOOK.new, safely on the disk. Where it answers false a line has said why, and BOOK.new is gone.
+fn write_down(fd: i32, spare: &[u8], book: &[u8]) -> bool {
     if !io::write_all(fd, book) {
         return give_up(fd, spare);
     }
@@ -227,7 +207,28 @@ fn store_by(fd: i32, spare: &[u8], path: &[u8], book: &[u8]) -> bool {
         os::unlink(spare);
         return false;
     }
-    take_name(spare, path)
+    true
+}
+
+// The file at BOOK.new takes the name BOOK. Where it does not, a line has said why, and BOOK.new is gone.
+fn take_name(spare: &[u8], path: &[u8]) -> bool {
+    if os::rename(spare, path) != 0 {
+        say::failed(path);
+        os::unlink(spare);
+        return false;
+    }
+    true
+}
+
+// A whole book, first under the name BOOK.new.
+fn store_by(fd: i32, spare: &[u8], path: &[u8], book: &[u8]) -> bool {
+    if !write_down(fd, spare, book) {
+        return false;
+    }
+    if !take_name(spare, path) {
+        return false;
+    }
+    sync_name(path)
 }
 
 // A whole book, safely on the disk under its name, through BOOK.new that is held. Where it answers false a line has said why, and BOOK
@@ -236,4 +237,48 @@ pub fn store(fd: i32, path: &[u8], book: &[u8]) -> bool {
     let mut name = io::buffer();
     let n = beside(path, &mut name);
     store_by(fd, &name[..n], path, book)
+}
+
+// Makes an empty file of a name that nothing has: what cannot be opened is not missing, and neither is a link to nothing. False where a line
+// has said why.
+fn reserve(path: &[u8]) -> bool {
+    let fd = os::create(path);
+    if fd >= 0 {
+        libc::close(fd);
+        return true;
+    }
+    if os::errno() == libc::EEXIST {
+        say::about(path, b"is there already, and stays as it is");
+    } else {
+        say::failed(path);
+    }
+    false
+}
+
+// A fresh book in the place of the empty file, which is taken away where the name is not to be had.
+fn take_reserved(spare: &[u8], path: &[u8]) -> bool {
+    if !take_name(spare, path) {
+        os::unlink(path);
+        return false;
+    }
+    sync_name(path)
+}
+
+// A fresh book, whole before its name is made.
+fn make_by(fd: i32, spare: &[u8], path: &[u8], book: &[u8]) -> bool {
+    if !write_down(fd, spare, book) {
+        return false;
+    }
+    if !reserve(path) {
+        os::unlink(spare);
+        return false;
+    }
+    take_reserved(spare, path)
+}
+
+// A fresh book, safely on the disk under a name that nothing had, through BOOK.new that is held. Where it answers false a line has said why.
+pub fn make(fd: i32, path: &[u8], book: &[u8]) -> bool {
+    let mut name = io::buffer();
+    let n = beside(path, &mut name);
+    make_by(fd, &name[..n], path, book)
 }

@@ -272,18 +272,13 @@ fn book_ok(p: Plan, path: &[u8]) -> bool {
     good(p, &area[..n])
 }
 
-// A fresh book on the disk, where there is none yet.
+// A fresh book on the disk, where nothing has its name.
 fn lay_down(path: &[u8], book: &[u8]) {
     let fd = book_file::hold(path);
     if fd < 0 {
         return;
     }
-    if book_file::exists(path) {
-        book_file::let_go(fd, path);
-        say::about(path, b"is there already, and stays as it is");
-        return;
-    }
-    if book_file::store(fd, path, book) {
+    if book_file::make(fd, path, book) {
         io::write_all(STDOUT_FILENO, b"made\n");
     }
 }

@@ -1,8 +1,8 @@
 // Files for the programs: read whole, and changed so that a crash leaves the old or the new one. A book is changed by writing the whole
 // new one to BOOK.new, waiting until it is on the disk, giving it the name BOOK, and waiting until that name is on the disk: at any moment
 // BOOK is the old book or the new one, whole. BOOK.new is made only where no file has that name, so that one keeper at a time has it, and a
-// keeper reads BOOK, changes it and lets BOOK.new go while it has it. One that a crash left stays until an operator removes it
-// (docs/DECISIONS.md, "keeper").
+// keeper reads BOOK, changes it and lets BOOK.new go while it has it. One that a crash left stays until an operator removes it, or a keeper
+// comes that is told that it holds the lock of the book (docs/DECISIONS.md, "keeper").
 pub mod say;
 
 ghost use Prim.Native.Nat.{ℕ, _+_, _≤_};
@@ -164,14 +164,26 @@ fn wait_for(spare: &[u8]) -> i32 {
     -1
 }
 
+// Opens BOOK.new for who holds the lock of the book: no one else has it, and what is there was left by a crash and is written over.
+fn write_over(spare: &[u8]) -> i32 {
+    let fd = os::open_overwrite(spare);
+    if fd < 0 {
+        say::failed(spare);
+    }
+    fd
+}
+
 // Makes BOOK.new, which no one else then has, and answers a descriptor to write to it. Where another has it this waits, and at last says
-// so and answers -1.
-pub fn hold(path: &[u8]) -> i32 {
+// so and answers -1; `locked` says that no one else can have it.
+pub fn hold(path: &[u8], locked: bool) -> i32 {
     let mut name = io::buffer();
     let n = beside(path, &mut name);
     if n == 0 {
         say::about(path, b"the name is too long");
         return -1;
+    }
+    if locked {
+        return write_over(&name[..n]);
     }
     wait_for(&name[..n])
 }

@@ -2,6 +2,7 @@
 // one line for each fault to standard error. Document 01, "The node"; docs/KEEPER.md says how to run it.
 //
 //     keeper PLAN BOOK                  answers frames until the input ends
+//     keeper PLAN BOOK locked           so does this, while whoever started it holds the lock of the book (host/keeper-locked)
 //     keeper PLAN BOOK new NODE BYTES   makes a fresh book for node NODE, of BYTES bytes
 //
 // The book is read from its file for each request and kept nowhere else, so that several keepers may serve one book: each reads an old
@@ -198,11 +199,11 @@ fn answer_held(p: Plan, path: &[u8], fd: i32, request: &[u8]) -> bool {
 }
 
 // A request, and whether to go on.
-fn answer(p: Plan, path: &[u8], request: &[u8]) -> bool {
+fn answer(p: Plan, path: &[u8], locked: bool, request: &[u8]) -> bool {
     if !keeper_step::asks_to_write(request) {
         return answer_look(p, path, request);
     }
-    let fd = book_file::hold(path);
+    let fd = book_file::hold(path, locked);
     if fd < 0 {
         return false;
     }
@@ -221,13 +222,13 @@ fn too_long() -> bool {
 }
 
 // The next request, if there is one, and whether to go on.
-fn turn(p: Plan, path: &[u8]) -> bool {
+fn turn(p: Plan, path: &[u8], locked: bool) -> bool {
     let mut area = frame_area();
     let c = read_frame(&mut area);
     let n = c.length;
     let how = c.how;
     match how {
-        How::Whole => answer(p, path, &area[..n]),
+        How::Whole => answer(p, path, locked, &area[..n]),
         How::Ended => false,
         How::CutOff => cut_off(),
         How::TooLong => too_long(),
@@ -235,9 +236,9 @@ fn turn(p: Plan, path: &[u8]) -> bool {
 }
 
 // A proved loop has to end, and nothing says that an input does: the turns are counted down from a number that no run uses up.
-fn turns(p: Plan, path: &[u8]) {
+fn turns(p: Plan, path: &[u8], locked: bool) {
     let mut left = u64::MAX;
-    while left > 0 && turn(p, path) {
+    while left > 0 && turn(p, path, locked) {
         left -= 1;
     }
 }
@@ -274,7 +275,7 @@ fn book_ok(p: Plan, path: &[u8]) -> bool {
 
 // A fresh book on the disk, where nothing has its name.
 fn lay_down(path: &[u8], book: &[u8]) {
-    let fd = book_file::hold(path);
+    let fd = book_file::hold(path, false);
     if fd < 0 {
         return;
     }
@@ -315,7 +316,7 @@ fn make(p: Plan, path: &[u8], node: u64, bytes: u64) {
 // ---- arguments
 
 fn usage() {
-    say::line(b"usage: keeper PLAN BOOK, or keeper PLAN BOOK new NODE BYTES");
+    say::line(b"usage: keeper PLAN BOOK [locked], or keeper PLAN BOOK new NODE BYTES");
 }
 
 // Argument i as a number.
@@ -325,19 +326,19 @@ fn number_arg(i: usize) -> Numeral {
     plan_text::number_in(&text[..n], 0, n)
 }
 
-// Whether argument 3 is the word new.
-fn is_new() -> bool {
-    let mut text = [0u8; 3];
+// Whether argument 3 is this word.
+fn is_word(word: &[u8]) -> bool {
+    let mut text = io::buffer();
     let n = os::arg(3, &mut text);
-    if n != 3 {
+    if n != word.len() {
         return false;
     }
-    octets::same(&text, 0, b"new", 0, 3)
+    octets::same(&text, 0, word, 0, n)
 }
 
 // The numbers of `new NODE BYTES`, and the fresh book.
 fn run_new(p: Plan, path: &[u8]) {
-    if !is_new() {
+    if !is_word(b"new") {
         usage();
         return;
     }
@@ -392,14 +393,28 @@ fn say_wrong(path: &[u8], line: u64, k: usize) {
     say::text(b"\n");
 }
 
-// The requests of the input, where the book is good; or a fresh book.
-fn run(p: Plan, path: &[u8], count: usize) {
-    if count != 3 {
-        run_new(p, path);
+// The requests of the input, where the book is good.
+fn run_turns(p: Plan, path: &[u8], locked: bool) {
+    if book_ok(p, path) {
+        turns(p, path, locked);
+    }
+}
+
+// The requests of the input, by who holds the lock of the book.
+fn run_locked(p: Plan, path: &[u8]) {
+    if !is_word(b"locked") {
+        usage();
         return;
     }
-    if book_ok(p, path) {
-        turns(p, path);
+    run_turns(p, path, true);
+}
+
+// What these arguments ask for.
+fn run(p: Plan, path: &[u8], count: usize) {
+    match count {
+        3 => run_turns(p, path, false),
+        4 => run_locked(p, path),
+        _ => run_new(p, path),
     }
 }
 
@@ -431,7 +446,7 @@ fn run_book(plan_path: &[u8], count: usize) {
 
 fn main() {
     let count = os::arg_count();
-    if count != 3 && count != 6 {
+    if count != 3 && count != 4 && count != 6 {
         usage();
         return;
     }

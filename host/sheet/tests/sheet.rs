@@ -300,7 +300,7 @@ fn a_book_that_cannot_be_written() {
     let place = five("disk");
     assert_eq!(place.code("save s one"), 0);
     for node in 0..5 {
-        fs::create_dir(place.file(&format!("s/book-{node}.new"))).expect("in the way of the new file");
+        fs::create_dir(place.file(&format!("s/book-{node}.sheet"))).expect("in the way of the new file");
     }
     let books = |place: &Place| (0..5).map(|node| place.get(&format!("s/book-{node}"))).collect::<Vec<_>>();
     let before = books(&place);

@@ -46,7 +46,7 @@ use Rattle.session.proofs.Openings.{accepted-session}
 use Rattle.session.proofs.Closings as shapes
 use Rattle.client.specs.Asks.{Goes, stays, ends, opens, Moves, IsOver, NotCounted}
 use Rattle.client.specs.Endings.{readLadder, writeLadder, heardAs, afterReply, deskAfter}
-use Rattle.client.specs.Turns.{Turn, Either, Calls}
+use Rattle.client.specs.Turns.{Turn, EitherTurn, Calls}
 use Rattle.client.specs.Sessions.{lastSession}
 use Rattle.terms.proofs.Ladders as ladders
 use Rattle.client.proofs.Reading as reading
@@ -159,7 +159,7 @@ module _ (p : Plan) (s : Session) (f d i : List ℕ) where
 
 -- A CALL LEAVES THE OPEN ROUND AS IT IS, OR ENDS THE SESSION, OR OPENS THE NEXT ROUND, whose ask number is 1 more: a refused reply and one
 -- that its round goes on after are of the first kind
-pub one-call : (p : Plan) (s : Session) (d : List ℕ) (t : Turn) → Either p s d t → Moves s (t .took .session)
+pub one-call : (p : Plan) (s : Session) (d : List ℕ) (t : Turn) → EitherTurn p s d t → Moves s (t .took .session)
 one-call p s d t (inl c) = subst (λ (o : Leaves). Moves s (o .session)) (sym (c .1 .is)) (write-moves p s (t .reply) d (t .item))
 one-call p s d t (inr c) = subst (λ (o : Outcome). Moves s (o .session)) (sym (c .1 .is)) (read-moves p s (t .reply) d (t .item))
 
@@ -179,19 +179,19 @@ then-goes s u v (greater l) (stays x y z) = greater (omega arith)
 then-goes s u v (greater l) (opens x y z) = greater (omega arith)
 then-goes s u v w (ends e) = over e
 
-later : (p : Plan) (s u : Session) (d : List ℕ) (cs : List Turn) → Later s u → Calls (Either p) u d cs → Later s (lastSession u cs)
+later : (p : Plan) (s u : Session) (d : List ℕ) (cs : List Turn) → Later s u → Calls (EitherTurn p) u d cs → Later s (lastSession u cs)
 later p s u d [] w h = w
 later p s u d (c ∷ cs) w h =
     later p s (c .took .session) (c .deskLeft) cs
     (then-goes s u (c .took .session) w (one-call p u d c (h .0) .goes)) (h .1)
 
-same-opening : (p : Plan) (s : Session) (d : List ℕ) (cs : List Turn) → Calls (Either p) s d cs → lastSession s cs .opening ≡ s .opening
+same-opening : (p : Plan) (s : Session) (d : List ℕ) (cs : List Turn) → Calls (EitherTurn p) s d cs → lastSession s cs .opening ≡ s .opening
 same-opening p s d [] h = refl
 same-opening p s d (c ∷ cs) h =
     same-opening p (c .took .session) (c .deskLeft) cs (h .1) ∙ one-call p s d c (h .0) .opening
 
 -- THE ASK NUMBER OF AN EARLIER ROUND IS SMALLER THAN THAT OF THE OPEN ONE: cs are the calls since s was handed back
-pub asks-rise : (p : Plan) (s : Session) (d : List ℕ) (cs : List Turn) → Calls (Either p) s d cs → IsOver s (lastSession s cs)
+pub asks-rise : (p : Plan) (s : Session) (d : List ℕ) (cs : List Turn) → Calls (EitherTurn p) s d cs → IsOver s (lastSession s cs)
     → isEnded (lastSession s cs .stage) ≡ false → askNow s < askNow (lastSession s cs)
 asks-rise p s d cs h past going = go (later p s s d cs (same refl refl refl) h)
   where
@@ -268,7 +268,7 @@ module _ (p : Plan) (s : Session) (f d i : List ℕ) (open-other : isEnded (s .s
 -- A LATE REPLY OF AN EARLIER ROUND IS NEVER COUNTED. s is a session of an operation, cs are the calls since, whatever they were, and the round
 -- that was open at s is over. Then a reply with the ask number of that round is refused, 10 or one before it in the order, and leaves the
 -- session and every buffer, whichever are lent with it, as they came: to a writer and to a reader.
-module _ (p : Plan) (s : Session) (d : List ℕ) (cs : List Turn) (h : Calls (Either p) s d cs) (past : IsOver s (lastSession s cs))
+module _ (p : Plan) (s : Session) (d : List ℕ) (cs : List Turn) (h : Calls (EitherTurn p) s d cs) (past : IsOver s (lastSession s cs))
     (f : List ℕ) (bears : askOf f ≡ askNow s) (e i : List ℕ) where
   gone : isEnded (lastSession s cs .stage) ≡ false → askOf f ≡ askNow (lastSession s cs) → ⊥
   gone q z = omega (arith, asks-rise p s d cs h past q)
@@ -284,7 +284,7 @@ module _ (p : Plan) (s : Session) (d : List ℕ) (cs : List Turn) (h : Calls (Ei
 -- FROM AN ACCEPTED OPENING ON, every round's ask number is at least the opening one and at most W above it: "The caller gives each operation
 -- an ask number range that it has not used."
 module _ (op : Operation) (p : Plan) (a : Ask) (r : Opened) (opened : OpenCall op p a r) (accepted : r .answer ≡ Accepted)
-    (d : List ℕ) (long : length d ≡ p .n * recordLength p) (cs : List Turn) (h : Calls (Either p) (r .session) d cs) where
+    (d : List ℕ) (long : length d ≡ p .n * recordLength p) (cs : List Turn) (h : Calls (EitherTurn p) (r .session) d cs) where
   abbrev now : Session
   now = lastSession (r .session) cs
 

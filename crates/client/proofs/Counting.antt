@@ -30,15 +30,15 @@ use Rattle.session.specs.Reader.{Outcome, outcome, readReply}
 use Rattle.session.proofs.Openings.{accepted-session}
 use Rattle.session.proofs.ReadKept.{asking as is-asking, not-asking}
 use Rattle.client.specs.Endings.{readLadder, heardAs, afterReply}
-use Rattle.client.specs.Turns.{Turn, Reads, Calls, closedRounds, Reports, lastSaid}
+use Rattle.client.specs.Turns.{Turn, ReadTurn, Calls, closedRounds, Reports, lastSaid}
 use Rattle.terms.proofs.Ladders as ladders
 use Rattle.client.proofs.Reading as reading
 use Rattle.session.proofs.Closings as shapes
 use Rattle.client.proofs.Round.Kept as kept
 
 -- ---- the rounds that a session has closed: those before the one that is open
-pub closedBy : Session → ℕ
-closedBy s = cond (isAsking (s .stage)) (s .round - 1) (s .round)
+pub roundsBehind : Session → ℕ
+roundsBehind s = cond (isAsking (s .stage)) (s .round - 1) (s .round)
 
 -- k replies were accepted in the read round that is open
 pub record At (s : Session) (k : ℕ) : Type 0 where
@@ -49,8 +49,8 @@ pub record At (s : Session) (k : ℕ) : Type 0 where
 -- what one reply comes to: x is 1 where it closed a round, k₂ were accepted in the round that is open after it
 pub record Step (p : Plan) (s : Session) (k : ℕ) (o : Outcome) (x k₂ : ℕ) : Type 0 where
   pub at : At (o .session) k₂
-  pub more : closedBy (o .session) ≡ closedBy s + x
-  pub tells : (n : ℕ) → Reports (o .said) n → (n ≡ closedBy (o .session)) × (n ≤ p .w)
+  pub more : roundsBehind (o .session) ≡ roundsBehind s + x
+  pub tells : (n : ℕ) → Reports (o .said) n → (n ≡ roundsBehind (o .session)) × (n ≤ p .w)
 
 -- a reply that is refused or of a repair round; one that its round goes on after; the last of its round
 pub data Turned (p : Plan) (s : Session) (k : ℕ) (o : Outcome) : Type 0 where
@@ -63,9 +63,9 @@ module _ (p : Plan) (s : Session) (f d i : List ℕ) (k : ℕ) (a : At s k) wher
   length-marks h = length-set (s .marks) (frameNode f) (record { is = h }) ∙ a .marks
 
   -- a mark changes nothing of what is behind the round
-  stays : (h : Heard) → closedBy (markedOf s (frameNode f) h) ≡ closedBy s + 0
-  unfolding closedBy
-  stays h = sym (add-zero (closedBy s))
+  stays : (h : Heard) → roundsBehind (markedOf s (frameNode f) h) ≡ roundsBehind s + 0
+  unfolding roundsBehind
+  stays h = sym (add-zero (roundsBehind s))
 
   module _ (n : None (readLadder p s f d (length i))) where
     ended-not : isEnded (s .stage) ≡ false
@@ -87,8 +87,8 @@ module _ (p : Plan) (s : Session) (f d i : List ℕ) (k : ℕ) (a : At s k) wher
           kept.count-marked p s f (a .marks) in-marks heard-not
           ∙ ap (λ (x : ℕ). x + 1) (a .heard asking)
 
-      here : closedBy s ≡ s .round - 1
-      unfolding closedBy
+      here : roundsBehind s ≡ s .round - 1
+      unfolding roundsBehind
       here = rw asking
 
       -- what the close comes to has one round more behind it
@@ -98,13 +98,13 @@ module _ (p : Plan) (s : Session) (f d i : List ℕ) (k : ℕ) (a : At s k) wher
       low : s .round ≤ p .w
       low = reading.low-round p s f d i n
 
-      one-more : closedBy s + 1 ≡ s .round
+      one-more : roundsBehind s + 1 ≡ s .round
       one-more = let h = here in let l = a .low in omega arith
 
       ended : (o : Outcome) → o .session ≡ endedOf (afterReply p s f) → ((m : ℕ) → Reports (o .said) m → m ≡ s .round) → Step p s k o 1 0
-      unfolding closedBy
+      unfolding roundsBehind
       ended o e t =
-          let z : closedBy (o .session) ≡ s .round = rw e in
+          let z : roundsBehind (o .session) ≡ s .round = rw e in
           record {
             at = rw e (record { marks = length-marks (heardAs p f); heard = λ w. (let y : _≡_ {A = ℕ} 0 1 = cc in absurd (omega arith)); low = a .low });
             more = z ∙ sym one-more;
@@ -112,7 +112,7 @@ module _ (p : Plan) (s : Session) (f d i : List ℕ) (k : ℕ) (a : At s k) wher
           }
 
       closing : Closing (reading.act-of p s f d i)
-      unfolding closedBy heardCount
+      unfolding roundsBehind heardCount
       closing =
           shapes.goes Closing p (afterReply p s f) _ _ i
           (record {
@@ -154,7 +154,7 @@ module _ (p : Plan) (s : Session) (f d i : List ℕ) (k : ℕ) (a : At s k) wher
 
     -- a repair round
     in-repair : isStoring (s .stage) ≡ true → Turned p s k (readReply p s f d i)
-    unfolding closedBy
+    unfolding roundsBehind
     in-repair q = go (ltb (heardCount (markedOf s (frameNode f) Record .marks)) (replies p)) refl
       where
         off : isAsking (s .stage) ≡ false
@@ -181,7 +181,7 @@ module _ (p : Plan) (s : Session) (f d i : List ℕ) (k : ℕ) (a : At s k) wher
   turned =
       subst (Turned p s k) (sym (reading.one-ladder p s f d i))
       (ladders.by-ladder (Turned p s k) (readLadder p s f d (length i)) (λ (j : ℕ). outcome (refused j) s d i) _
-      (λ j g. apart (side (isAsking (s .stage))) (record { at = a; more = sym (add-zero (closedBy s)); tells = λ m y. absurd y }))
+      (λ j g. apart (side (isAsking (s .stage))) (record { at = a; more = sym (add-zero (roundsBehind s)); tells = λ m y. absurd y }))
       (λ n. subst (Turned p s k) (reading.is-accepted p s f d i n) (go n (isStoring (s .stage)) refl)))
     where
       side : (x : Bool) → (x and false) ≡ false
@@ -200,18 +200,18 @@ module _ (p : Plan) where
 
   -- the last answer reports n: the rounds behind s, x, and those that the replies us close
   abbrev Told : ℕ → Session → ℕ → ℕ → Session → List Turn → Type 0
-  Told n s x k₂ s₂ us = (n ≡ closedBy s + (x + closedRounds p k₂ s₂ us)) × (n ≤ p .w)
+  Told n s x k₂ s₂ us = (n ≡ roundsBehind s + (x + closedRounds p k₂ s₂ us)) × (n ≤ p .w)
 
   onward : (s : Session) (k : ℕ) (t : Turn) (us : List Turn) (n : ℕ) → Turned p s k (left t)
-      → ((x k₂ : ℕ) → Step p s k (left t) x k₂ → Told n s x k₂ (t .took .session) us) → (n ≡ closedBy s + closedRounds p k s (t ∷ us)) × (n ≤ p .w)
+      → ((x k₂ : ℕ) → Step p s k (left t) x k₂ → Told n s x k₂ (t .took .session) us) → (n ≡ roundsBehind s + closedRounds p k s (t ∷ us)) × (n ≤ p .w)
   unfolding closedRounds
   onward s k t us n (apart e w) f = let z = f 0 k w in rw e (omega (arith, z .0), z .1)
   onward s k t us n (more e g w) f = let z = f 0 (k + 1) w in rw (e, lt-leb (replies p) (k + 1) g) (omega (arith, z .0), z .1)
   onward s k t us n (last e g w) f = rw (e, le-leb (replies p) (k + 1) g) (f 1 0 w)
 
   -- the last answer, if it reports rounds, reports those closed before and those that the replies closed
-  counts-all : (s : Session) (d : List ℕ) (k : ℕ) (t : Turn) (ts : List Turn) → At s k → Calls (Reads p) s d (t ∷ ts) → (n : ℕ) → Reports (lastSaid t ts) n
-      → (n ≡ closedBy s + closedRounds p k s (t ∷ ts)) × (n ≤ p .w)
+  counts-all : (s : Session) (d : List ℕ) (k : ℕ) (t : Turn) (ts : List Turn) → At s k → Calls (ReadTurn p) s d (t ∷ ts) → (n : ℕ) → Reports (lastSaid t ts) n
+      → (n ≡ roundsBehind s + closedRounds p k s (t ∷ ts)) × (n ≤ p .w)
   counts-all s d k t [] a h n r =
       onward s k t [] n (subst (Turned p s k) (sym (h .0 .1 .is)) (turned p s (t .reply) d (t .item) k a))
       (λ x k₂ w. let y = w .tells n r in let z = w .more in unfold closedRounds in (omega arith, y .1))
@@ -222,10 +222,10 @@ module _ (p : Plan) where
 -- THE ROUNDS THAT A READ REPORTS ARE THOSE IT CLOSED, and at most W: from an accepted opening on, whatever replies come, late, damaged or
 -- refused ones among them, with whatever desk and item buffers.
 pub counted-rounds : (p : Plan) (a : Ask) (r : Opened) → OpenCall Read p a r → r .answer ≡ Accepted → (d : List ℕ) (t : Turn) (ts : List Turn)
-    → Calls (Reads p) (r .session) d (t ∷ ts) → (n : ℕ) → Reports (lastSaid t ts) n → (n ≡ closedRounds p 0 (r .session) (t ∷ ts)) × (n ≤ p .w)
-unfolding closedBy heardCount
+    → Calls (ReadTurn p) (r .session) d (t ∷ ts) → (n : ℕ) → Reports (lastSaid t ts) n → (n ≡ closedRounds p 0 (r .session) (t ∷ ts)) × (n ≤ p .w)
+unfolding roundsBehind heardCount
 counted-rounds p a r call e d t ts h n q =
     let z = accepted-session Read p a r call e in
     let y = counts-all p (r .session) d 0 t ts (rw z (record { marks = refl; heard = λ w. refl; low = omega arith })) h n q in
-    let b : closedBy (r .session) ≡ 0 = rw z in
+    let b : roundsBehind (r .session) ≡ 0 = rw z in
     (omega (arith, y .0, b), y .1)

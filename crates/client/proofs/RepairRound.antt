@@ -34,7 +34,7 @@ use Rattle.session.proofs.Checks.{outcome-all}
 use Rattle.session.proofs.Closings.{led, sized, goes}
 use Rattle.session.proofs.ReadKept.{Hearing, hearing, not-asking}
 use Rattle.client.specs.Endings.{afterReply, deskAfter}
-use Rattle.client.specs.Turns.{Turn, Reads, Calls}
+use Rattle.client.specs.Turns.{Turn, ReadTurn, Calls}
 use Rattle.client.specs.Repair.{Holds, EachTurn, Rests}
 use Rattle.client.proofs.Reading.{heard-settles}
 use Rattle.client.proofs.Round.Order.{length-after}
@@ -146,7 +146,7 @@ module _ (p : Plan) (s : Session) (f d i : List ℕ) (past : isAsking (s .stage)
       (λ g. counts (hearing p s f d (length i) e .going)))
 
 module _ (p : Plan) (u : Session) (e d : List ℕ) (r : Refilled p u e d) where
-  rests : (s : Session) (ts : List Turn) → isAsking (s .stage) ≡ false → Calls (Reads p) s d ts → EachTurn (Rests p (closed p u e) e d) ts
+  rests : (s : Session) (ts : List Turn) → isAsking (s .stage) ≡ false → Calls (ReadTurn p) s d ts → EachTurn (Rests p (closed p u e) e d) ts
   rests s [] past h = tt
   rests s (t ∷ ts) past h =
       let x : Stays p s (t .reply) d (t .item) past _ = subst (Stays p s (t .reply) d (t .item) past) (sym (h .0 .1 .is)) (stays p s (t .reply) d (t .item) past) in
@@ -154,13 +154,13 @@ module _ (p : Plan) (u : Session) (e d : List ℕ) (r : Refilled p u e d) where
       let item : collected p d (t .item) ≡ decoded p (closed p u e) e (t .item) =
       rw (r .is) (repaired-item p u e (r .node) (r .plan) (r .long) (r .leads) (r .size) (t .item)) in (
         record { desk = same; item = λ n k z. x .item n k z ∙ item },
-        rests (t .took .session) ts (x .later) (subst (λ (y : List ℕ). Calls (Reads p) (t .took .session) y ts) same (h .1)),
+        rests (t .took .session) ts (x .later) (subst (λ (y : List ℕ). Calls (ReadTurn p) (t .took .session) y ts) same (h .1)),
       )
 
 -- WHATEVER REPLIES FOLLOW leave the desk so filled; the one that ends the read writes the item that the m lowest of the set decode to, from
 -- the desk as it was: what the desk's first m slots give
 pub repair-ends : (p : Plan) (s : Session) (f d i : List ℕ) → isStoring (s .stage) ≡ false → (t : Took) (d₂ i₂ : List ℕ) → ReadReplyCall p s f d i t d₂ i₂
-    → isStoring (t .session .stage) ≡ true → (ts : List Turn) → Calls (Reads p) (t .session) d₂ ts
+    → isStoring (t .session .stage) ≡ true → (ts : List Turn) → Calls (ReadTurn p) (t .session) d₂ ts
     → EachTurn (Rests p (closed p (afterReply p s f) (deskAfter p f d)) (deskAfter p f d) d₂) ts
 repair-ends p s f d i asks t d₂ i₂ call opens ts h =
     rests p (afterReply p s f) (deskAfter p f d) d₂ (refills p s f d i asks t d₂ i₂ call opens) (t .session) ts (not-asking (t .session .stage) opens) h

@@ -23,25 +23,25 @@ use Rattle.session.specs.Ranges.{inRange}
 use Rattle.session.specs.Reply.{sameOperation}
 use Rattle.session.proofs.Kept.{Kept, opened-kept, write-kept}
 use Rattle.session.proofs.ReadKept.{read-kept, round-kept}
-use Rattle.client.specs.Turns.{Turn, Reads, Either, Calls}
+use Rattle.client.specs.Turns.{Turn, ReadTurn, EitherTurn, Calls}
 use Rattle.client.specs.Sessions.{lastSession, lastDesk}
 
-pub replies-keep : (p : Plan) (s : Session) (d : List ℕ) (cs : List Turn) → Kept p s d → Calls (Either p) s d cs → Kept p (lastSession s cs) (lastDesk d cs)
+pub replies-keep : (p : Plan) (s : Session) (d : List ℕ) (cs : List Turn) → Kept p s d → Calls (EitherTurn p) s d cs → Kept p (lastSession s cs) (lastDesk d cs)
 replies-keep p s d [] k h = k
 replies-keep p s d (c ∷ cs) k h = replies-keep p (c .took .session) (c .deskLeft) cs (one (h .0)) (h .1)
   where
-    one : Either p s d c → Kept p (c .took .session) (c .deskLeft)
+    one : EitherTurn p s d c → Kept p (c .took .session) (c .deskLeft)
     one (inl w) = write-kept p s (c .reply) d (c .item) (w .0) k (c .took) (c .deskLeft) (w .1)
     one (inr w) = read-kept p s (c .reply) d (c .item) k (c .took) (c .deskLeft) (c .itemLeft) (w .1)
 
 -- calls of a reader, or of a writer, are calls of either
-pub either-way : (p : Plan) (s : Session) (d : List ℕ) (cs : List Turn) → Calls (Reads p) s d cs → Calls (Either p) s d cs
+pub either-way : (p : Plan) (s : Session) (d : List ℕ) (cs : List Turn) → Calls (ReadTurn p) s d cs → Calls (EitherTurn p) s d cs
 either-way p s d [] h = tt
 either-way p s d (c ∷ cs) h = (inr (h .0), either-way p (c .took .session) (c .deskLeft) cs (h .1))
 
 -- EVERY SESSION THAT THE LIBRARY MAKES IS IN ITS RANGES WITH THE DESK THAT IT HANDED BACK
 module _ (op : Operation) (p : Plan) (a : Ask) (r : Opened) (opens : OpenCall op p a r) (accepted : r .answer ≡ Accepted)
-    (d : List ℕ) (long : length d ≡ p .n * recordLength p) (cs : List Turn) (h : Calls (Either p) (r .session) d cs) where
+    (d : List ℕ) (long : length d ≡ p .n * recordLength p) (cs : List Turn) (h : Calls (EitherTurn p) (r .session) d cs) where
   pub every-session : Kept p (lastSession (r .session) cs) (lastDesk d cs)
   every-session = replies-keep p (r .session) d cs (opened-kept op p a r opens accepted d long) h
 

@@ -1,7 +1,7 @@
 -- The replies of a read round in whichever order they come: the words of the third demand, for read rounds. "From one session, desk and
 -- sheet buffer, a read round that opens there and hears the same N - t acceptable replies, one a node, ends alike in whichever order they
 -- come." The sheet buffer is document 01's item buffer.
---   roundAt, ending, answers   a round as it opens; reply frames heard one after another: what the last call leaves, the answers in turn
+--   roundAt, ending, saidInTurn   a round as it opens; reply frames heard one after another: what the last call leaves, the saidInTurn in turn
 --   openUntil                 answers of which all but the last are "open"
 --   RoundOpens                a read round that opens
 --   Accepted                  no answer of a list is a refusal
@@ -35,9 +35,9 @@ unfoldable pub ending : Plan → Outcome → List (List ℕ) → Outcome
 ending p o [] = o
 ending p o (f ∷ fs) = ending p (readReply p (o .session) f (o .desk) (o .item)) fs
 
-unfoldable pub answers : Plan → Outcome → List (List ℕ) → List Said
-answers p o [] = []
-answers p o (f ∷ fs) = readReply p (o .session) f (o .desk) (o .item) .said ∷ answers p (readReply p (o .session) f (o .desk) (o .item)) fs
+unfoldable pub saidInTurn : Plan → Outcome → List (List ℕ) → List Said
+saidInTurn p o [] = []
+saidInTurn p o (f ∷ fs) = readReply p (o .session) f (o .desk) (o .item) .said ∷ saidInTurn p (readReply p (o .session) f (o .desk) (o .item)) fs
 
 -- every answer but the last is "open"
 abbrev pub openUntil : ℕ → Said → List Said

@@ -1,7 +1,7 @@
 -- Calls of a client one after another, and how many read rounds they close. Document 01, "The client": a session is a value handed in and
 -- handed back. "Rounds used are reported with every read ending and never exceed W. A repair round is not counted."
 --   Turn               a reply with what the call was lent and left
---   Reads Writes Either   what one call met: a reader's contract, a writer's, either
+--   ReadTurn WriteTurn EitherTurn   what one call met: a reader's contract, a writer's, either
 --   Calls              calls one after another, each on the session and desk that the one before it handed back
 --   counts             the reply was accepted in a read round
 --   closedRounds       a read round closes at its N-t-th accepted reply; k were accepted in the round that is open
@@ -31,14 +31,14 @@ pub record Turn : Type 0 where
   pub itemLeft : List ℕ
 
 -- the call met its contract, as a reader's or a writer's, on a session and a desk; a frame is bytes
-abbrev pub Reads : Plan → Session → List ℕ → Turn → Type 0
-Reads p s d t = Octets (t .reply) × ReadReplyCall p s (t .reply) d (t .item) (t .took) (t .deskLeft) (t .itemLeft)
+abbrev pub ReadTurn : Plan → Session → List ℕ → Turn → Type 0
+ReadTurn p s d t = Octets (t .reply) × ReadReplyCall p s (t .reply) d (t .item) (t .took) (t .deskLeft) (t .itemLeft)
 
-abbrev pub Writes : Plan → Session → List ℕ → Turn → Type 0
-Writes p s d t = Octets (t .reply) × WriteReplyCall p s (t .reply) d (t .item) (t .took) (t .deskLeft)
+abbrev pub WriteTurn : Plan → Session → List ℕ → Turn → Type 0
+WriteTurn p s d t = Octets (t .reply) × WriteReplyCall p s (t .reply) d (t .item) (t .took) (t .deskLeft)
 
-abbrev pub Either : Plan → Session → List ℕ → Turn → Type 0
-Either p s d t = Writes p s d t ⊎ Reads p s d t
+abbrev pub EitherTurn : Plan → Session → List ℕ → Turn → Type 0
+EitherTurn p s d t = WriteTurn p s d t ⊎ ReadTurn p s d t
 
 -- calls one after another, each on the session and the desk that the one before it handed back
 abbrev pub Calls : (Session → List ℕ → Turn → Type 0) → Session → List ℕ → List Turn → Type 0

@@ -32,7 +32,7 @@ use Rattle.session.specs.Opening.{OpenCall}
 use Rattle.session.specs.Reader.{headLength}
 use Rattle.session.specs.Writer.{recordsFor}
 use Rattle.store.specs.History.{Call, History, lastBook}
-use Rattle.client.specs.Turns.{Turn, Reads, Writes, Calls}
+use Rattle.client.specs.Turns.{Turn, ReadTurn, WriteTurn, Calls}
 use Rattle.report.specs.Triple.{Same}
 use Rattle.client.proofs.ComesBack.{block-comes-back}
 use Rattle.report.specs.Figure1.{INITIALIZE, RECEIVE-TIME-REQUEST, RECEIVE-READ-LATEST, RECEIVE-READ-PREVIOUS}
@@ -71,14 +71,14 @@ node-over-time = fresh-run
 -- Over any replies from an accepted opening on: the write round sends what Figure 2's WRITE sends for the times heard and the item, and
 -- "done" bears its timestamp.
 pub write-as-the-report : (p : Plan) (a : Ask) (r : Opened) (d : List ℕ) (cs : List Turn) → OpenCall Write p a r → r .answer ≡ Accepted
-    → Calls (Writes p) (r .session) d cs → EachWrites p (r .session) d untimed cs
+    → Calls (WriteTurn p) (r .session) d cs → EachWrites p (r .session) d untimed cs
 write-as-the-report = opened-write
 
 -- Over any replies from an accepted opening on: each answer is what Figure 3's READ says of the response sets of the rounds closed so far,
 -- each of which is one that DO_READ gathered for the command that READ was to send, of N-t responses; where no two cross checksums of one
 -- response set share a hash.
 pub read-as-the-report : (p : Plan) (a : Ask) (r : Opened) (d : List ℕ) (cs : List Turn) → OpenCall Read p a r → r .answer ≡ Accepted
-    → length d ≡ p .n * recordLength p → Octets d → Calls (Reads p) (r .session) d cs → AllApart (closedOver p (r .session) d [] cs)
+    → length d ≡ p .n * recordLength p → Octets d → Calls (ReadTurn p) (r .session) d cs → AllApart (closedOver p (r .session) d [] cs)
     → EachTells p (r .session) d [] cs × AllClose p (closedOver p (r .session) d [] cs)
 read-as-the-report = opened-read
 

@@ -21,7 +21,7 @@ use Rattle.session.specs.Opening.{openWith}
 use Rattle.session.specs.Owed.{owedTo}
 use Rattle.session.specs.Writer.{writeReply}
 use Rattle.session.specs.Reader.{readReply}
-use Rattle.demands.specs.Edges.{Counts, counts, planWith, Every, RefusedOne, CasesHold, firstPlan, secondPlan, table}
+use Rattle.demands.specs.Edges.{Counts, countsOf, planWith, Every, RefusedOne, CasesHold, firstPlan, secondPlan, table}
 
 -- the rules of a plan that F and W have no part in
 abbrev rulesOk : Counts → Bool
@@ -58,9 +58,8 @@ too-many false d rest = refl
 too-many true false rest = refl
 too-many true true rest = refl
 
-exclude-all : (k : Member) (n t b q m : ℕ) → leb b t ≡ false → Every (counts k n t b q m) RefusedOne
-unfolding planOk countsOk
-exclude-all k n t b q m e F W c f₁ f₂ w₁ w₂ = refused-one (planWith (counts k n t b q m) F W c) (rw e (too-many (leb 1 n) (leb n 16) _))
+exclude-all : (k : Member) (n t b q m : ℕ) → leb b t ≡ false → Every (countsOf k n t b q m) RefusedOne
+exclude-all k n t b q m e = refuses (countsOf k n t b q m) (unfold countsOk in rw e (too-many (leb 1 n) (leb n 16) _))
 
 certain-all : (s : Counts) → rulesOk s ≡ true → s .t ≡ 0
     → Every s (λ (p : Plan). (size : ℕ) → classOf (COMPLETE p) (INCOMPLETE p) size ≡ Unclassifiable → ⊥)
@@ -72,25 +71,25 @@ unfolding countsOk columnOf all decided classOf
 edges = (
   accepts firstPlan refl,
   (
-    refuses (counts Repairable 5 1 1 3 3) refl,
+    refuses (countsOf Repairable 5 1 1 3 3) refl,
     (
-      refuses (counts Repairable 4 1 1 3 2) refl,
+      refuses (countsOf Repairable 4 1 1 3 2) refl,
       (
-        refuses (counts Repairable 5 1 1 4 2) refl,
+        refuses (countsOf Repairable 5 1 1 4 2) refl,
         (
           accepts secondPlan refl,
           (
-            refuses (counts NonRepair 7 1 1 3 5) refl,
+            refuses (countsOf NonRepair 7 1 1 3 5) refl,
             (
-              refuses (counts NonRepair 6 1 1 3 4) refl,
+              refuses (countsOf NonRepair 6 1 1 3 4) refl,
               (
-                accepts (counts Repairable 1 0 0 1 1) refl,
+                accepts (countsOf Repairable 1 0 0 1 1) refl,
                 (
-                  accepts (counts NonRepair 1 0 0 1 1) refl,
+                  accepts (countsOf NonRepair 1 0 0 1 1) refl,
                   (
-                    certain-all (counts Repairable 1 0 0 1 1) refl refl,
+                    certain-all (countsOf Repairable 1 0 0 1 1) refl refl,
                     (
-                      certain-all (counts NonRepair 1 0 0 1 1) refl refl,
+                      certain-all (countsOf NonRepair 1 0 0 1 1) refl refl,
                       (
                         λ k n q m. exclude-all k n 1 2 q m refl,
                         (

@@ -43,8 +43,8 @@ pub record Counts : Type 0 where
   pub q : ℕ
   pub m : ℕ
 
-abbrev pub counts : Member → (n t b q m : ℕ) → Counts
-counts k n t b q m = record { member = k; n = n; t = t; b = b; q = q; m = m }
+abbrev pub countsOf : Member → (n t b q m : ℕ) → Counts
+countsOf k n t b q m = record { member = k; n = n; t = t; b = b; q = q; m = m }
 
 abbrev pub planWith : Counts → (F W : ℕ) → Clients → Plan
 planWith s F W c = record { n = s .n; t = s .t; b = s .b; q = s .q; m = s .m; f = F; member = s .member; clients = c; w = W }
@@ -77,27 +77,27 @@ pub data Case : Type 0 where
   constant : (x y byte : ℕ) → Case
 
 abbrev pub firstPlan : Counts
-firstPlan = counts Repairable 5 1 1 3 2
+firstPlan = countsOf Repairable 5 1 1 3 2
 
 abbrev pub secondPlan : Counts
-secondPlan = counts NonRepair 7 1 1 3 4
+secondPlan = countsOf NonRepair 7 1 1 3 4
 
 abbrev pub table : List Case
 table =
     -- N5 t1 b1 Q3 m2 repairable; same, m3 / N4 / Q4
     accept firstPlan ∷
-    refuse (counts Repairable 5 1 1 3 3) ∷
-    refuse (counts Repairable 4 1 1 3 2) ∷
-    refuse (counts Repairable 5 1 1 4 2) ∷
+    refuse (countsOf Repairable 5 1 1 3 3) ∷
+    refuse (countsOf Repairable 4 1 1 3 2) ∷
+    refuse (countsOf Repairable 5 1 1 4 2) ∷
     -- N7 t1 b1 Q3 m4 non-repair; m5 or N6
     accept secondPlan ∷
-    refuse (counts NonRepair 7 1 1 3 5) ∷
-    refuse (counts NonRepair 6 1 1 3 4) ∷
+    refuse (countsOf NonRepair 7 1 1 3 5) ∷
+    refuse (countsOf NonRepair 6 1 1 3 4) ∷
     -- N1 t0 b0 Q1 m1, either member
-    accept (counts Repairable 1 0 0 1 1) ∷
-    accept (counts NonRepair 1 0 0 1 1) ∷
-    certain (counts Repairable 1 0 0 1 1) ∷
-    certain (counts NonRepair 1 0 0 1 1) ∷
+    accept (countsOf Repairable 1 0 0 1 1) ∷
+    accept (countsOf NonRepair 1 0 0 1 1) ∷
+    certain (countsOf Repairable 1 0 0 1 1) ∷
+    certain (countsOf NonRepair 1 0 0 1 1) ∷
     -- t1 b2
     exclude 1 2 ∷
     -- first plan, set of 4 / 3 / 2 / 1; second plan, set of 3
@@ -119,7 +119,7 @@ table =
 abbrev pub CaseHolds : Case → Type 0
 CaseHolds (accept s) = Every s (λ (p : Plan). planOk p ≡ true)
 CaseHolds (refuse s) = Every s RefusedOne
-CaseHolds (exclude t b) = (k : Member) (n q m : ℕ) → Every (counts k n t b q m) RefusedOne
+CaseHolds (exclude t b) = (k : Member) (n q m : ℕ) → Every (countsOf k n t b q m) RefusedOne
 CaseHolds (certain s) = Every s (λ (p : Plan). (size : ℕ) → classOf (COMPLETE p) (INCOMPLETE p) size ≡ Unclassifiable → ⊥)
 CaseHolds (decide s size v) = Every s (λ (p : Plan). decided (p .member) (COMPLETE p) (INCOMPLETE p) size ≡ v)
 CaseHolds (multiply x y product) = mul x y ≡ product

@@ -55,7 +55,7 @@ use Rattle.report.specs.WriteRun.{untimed, EachWrites}
 use Rattle.report.proofs.Node.{write-acts, fresh-run}
 use Rattle.report.proofs.Run.{opened-read}
 use Rattle.report.proofs.Write.{opened-write}
-use Rattle.client.specs.Turns.{Reads, Writes, Calls}
+use Rattle.client.specs.Turns.{ReadTurn, WriteTurn, Calls}
 use Rattle.report.specs.Acts.{Executes, Added}
 
 abbrev plan : Plan
@@ -111,7 +111,7 @@ met : ReadReplyCall plan start reply desk (0 ∷ []) (record { answer = Done (st
 unfolding left
 met = record { is = λ j. outcome (sym said-is j) (left .session) (left .desk) (left .item) }
 
-calls : Calls (Reads plan) start desk (call ∷ [])
+calls : Calls (ReadTurn plan) start desk (call ∷ [])
 unfolding call
 calls = ((small-octets reply reply-small, met), tt)
 
@@ -167,7 +167,7 @@ write-met : WriteReplyCall plan start-to-write time-reply desk (7 ∷ []) (recor
 unfolding after-time
 write-met = record { is = λ j. leaves (sym still-is j) (after-time .session) (after-time .desk) }
 
-write-calls : Calls (Writes plan) start-to-write desk (write-call ∷ [])
+write-calls : Calls (WriteTurn plan) start-to-write desk (write-call ∷ [])
 unfolding write-call
 write-calls = ((small-octets time-reply time-small, write-met), tt)
 

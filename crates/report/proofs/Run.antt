@@ -64,7 +64,7 @@ use Rattle.report.proofs.Hears.{puts, said-by, said-first, valid-record
 use Rattle.report.proofs.Erasure.{fragment-place, laid-is}
 use Rattle.report.proofs.Round.{Full, round-decides}
 use Rattle.report.proofs.Marks.{no-mark, mark-none, none-heard, slot-own, slot-other, Passed, one-cross}
-use Rattle.client.specs.Turns.{Reads, Calls}
+use Rattle.client.specs.Turns.{ReadTurn, Calls}
 
 -- ---- what is known between two calls: by the stage, of the session, its desk and the rounds closed so far
 -- in a read round: READ is to send what the bound says
@@ -528,7 +528,7 @@ repairing p s d sets e k =
 
 -- EACH CALL OF A READ TELLS WHAT FIGURE 3'S READ DECIDES OF THE RESPONSE SETS OF THE ROUNDS CLOSED SO FAR, cut at W
 pub read-run : (p : Plan) (s : Session) (d : List ℕ) (sets : List (List Message)) (cs : List turns.Turn) → Keeps p s d sets → AllClose p sets
-    → Calls (Reads p) s d cs → AllApart (closedOver p s d sets cs) → EachTells p s d sets cs × AllClose p (closedOver p s d sets cs)
+    → Calls (ReadTurn p) s d cs → AllApart (closedOver p s d sets cs) → EachTells p s d sets cs × AllClose p (closedOver p s d sets cs)
 read-run p s d sets [] k sz r a = (tt, sz)
 read-run p s d sets (c ∷ cs) k sz r a =
     let q : Leaves p (outcome (saidOf (c .took .answer)) (c .took .session) (c .deskLeft) (c .itemLeft)) (closing p s (c .reply) d (length (c .item)) sets) =
@@ -539,7 +539,7 @@ read-run p s d sets (c ∷ cs) k sz r a =
 
 -- FROM OPENING: no round is closed yet
 pub opened-read : (p : Plan) (a : Ask) (r : Opened) (d : List ℕ) (cs : List turns.Turn) → OpenCall Read p a r → r .answer ≡ Accepted
-    → length d ≡ p .n * recordLength p → Octets d → Calls (Reads p) (r .session) d cs
+    → length d ≡ p .n * recordLength p → Octets d → Calls (ReadTurn p) (r .session) d cs
     → AllApart (closedOver p (r .session) d [] cs) → EachTells p (r .session) d [] cs × AllClose p (closedOver p (r .session) d [] cs)
 opened-read p a r d cs call e ld od h apart = read-run p (r .session) d [] cs start tt h apart
   where

@@ -52,7 +52,7 @@ use Rattle.report.specs.Ours.{family, stampedAs, bearing, sending}
 use Rattle.client.specs.Turns as turns
 use Rattle.report.specs.WriteRun.{Timed, untimed, timing, Wrote, Sending, EachWrites}
 use Rattle.report.proofs.Lists.{strung-row, listed-same}
-use Rattle.client.specs.Turns.{Writes, Calls}
+use Rattle.client.specs.Turns.{WriteTurn, Calls}
 
 -- ---- the records of an item at a time are what DO_WRITE sends
 module _ (p : Plan) (t : ℕ) (i : List ℕ) (l : length i ≡ p .m * p .f) where
@@ -288,7 +288,7 @@ sent : (p : Plan) (s : Session) (d : List ℕ) (w : Timed) → s .stage ≡ Stor
 sent p s d w e k = let q : Sending p s d w × (length (s .marks) ≡ 16) = subst (λ (y : Stage). KeepsAt y p s d w) e k in q .0
 
 -- EACH CALL OF A WRITE SENDS AND TELLS WHAT FIGURE 2'S WRITE DOES
-pub write-run : (p : Plan) (s : Session) (d : List ℕ) (w : Timed) (cs : List turns.Turn) → Keeps p s d w → Calls (Writes p) s d cs → EachWrites p s d w cs
+pub write-run : (p : Plan) (s : Session) (d : List ℕ) (w : Timed) (cs : List turns.Turn) → Keeps p s d w → Calls (WriteTurn p) s d cs → EachWrites p s d w cs
 write-run p s d w [] k r = tt
 write-run p s d w (c ∷ cs) k r =
     let q : Right p (leaves (saidOf (c .took .answer)) (c .took .session) (c .deskLeft)) (timing p s (c .reply) d (c .item) w) =
@@ -300,7 +300,7 @@ write-run p s d w (c ∷ cs) k r =
 
 -- FROM OPENING: no time is heard yet
 pub opened-write : (p : Plan) (a : Ask) (r : Opened) (d : List ℕ) (cs : List turns.Turn) → OpenCall Write p a r → r .answer ≡ Accepted
-    → Calls (Writes p) (r .session) d cs → EachWrites p (r .session) d untimed cs
+    → Calls (WriteTurn p) (r .session) d cs → EachWrites p (r .session) d untimed cs
 opened-write p a r d cs call e h = write-run p (r .session) d untimed cs start h
   where
     fresh : Keeps p (freshOf Write 1 Free a) d untimed

@@ -52,7 +52,7 @@ use Rattle.session.specs.Reader.{sound, failing, actOn, actFor, closed, settled
 use Rattle.session.specs.Writer.{crossFor, stampFor, recordsFor}
 use Rattle.session.proofs.Kept.{Kept}
 use Rattle.client.specs.Endings.{afterReply, deskAfter}
-use Rattle.client.specs.Turns.{Turn, Reads, Calls, closedRounds, Either}
+use Rattle.client.specs.Turns.{Turn, ReadTurn, Calls, closedRounds, EitherTurn}
 use Rattle.client.specs.Repair.{Holds, EachTurn, Rests}
 use Rattle.client.specs.Asks.{NotCounted}
 use Rattle.terms.proofs.Small.{small, small-octets}
@@ -235,7 +235,7 @@ module _ where
   unfolding small desk-good good stamp-bytes hash
   small-desk = refl
 
-pub calls : Calls (Reads plan) start desk (call-1 ∷ call-2 ∷ call-3 ∷ call-4 ∷ call-5 ∷ call-6 ∷ [])
+pub calls : Calls (ReadTurn plan) start desk (call-1 ∷ call-2 ∷ call-3 ∷ call-4 ∷ call-5 ∷ call-6 ∷ [])
 calls = (
   (small-octets reply-1 small-1, met-1),
   (
@@ -252,7 +252,7 @@ pub counted-so : (2 ≡ closedRounds plan 0 start (call-1 ∷ call-2 ∷ call-3 
 unfolding plan
 counted-so = counted-rounds plan ask opened opened-so refl desk call-1 (call-2 ∷ call-3 ∷ call-4 ∷ call-5 ∷ call-6 ∷ []) calls 2 refl
 
-pub replies-so : Calls (Either plan) start desk (call-1 ∷ call-2 ∷ call-3 ∷ call-4 ∷ call-5 ∷ call-6 ∷ [])
+pub replies-so : Calls (EitherTurn plan) start desk (call-1 ∷ call-2 ∷ call-3 ∷ call-4 ∷ call-5 ∷ call-6 ∷ [])
 replies-so = either-way plan start desk (call-1 ∷ call-2 ∷ call-3 ∷ call-4 ∷ call-5 ∷ call-6 ∷ []) calls
 
 pub desk-long : length desk ≡ plan .n * recordLength plan

@@ -38,7 +38,7 @@ use Rattle.session.specs.declared.opening.Opened.{Opened}
 use Rattle.session.specs.declared.opening.Opening.the-variants.{Accepted}
 use Rattle.session.proofs.Kept.{Kept}
 use Rattle.client.specs.Endings.{afterReply, deskAfter}
-use Rattle.client.specs.Turns.{Turn, Reads, Calls}
+use Rattle.client.specs.Turns.{Turn, ReadTurn, Calls}
 use Rattle.client.specs.Repair.{Holds, EachTurn, Rests}
 use Rattle.client.proofs.Sessions.{every-session}
 use Rattle.terms.proofs.Small.{small, small-octets}
@@ -135,7 +135,7 @@ last-turn =
       itemLeft = 0 ∷ 128 ∷ [];
     }
 
-turns-so : Calls (Reads plan) (took .session) left (first-turn ∷ second-turn ∷ last-turn ∷ [])
+turns-so : Calls (ReadTurn plan) (took .session) left (first-turn ∷ second-turn ∷ last-turn ∷ [])
 unfolding first-turn second-turn last-turn turn-open stored-by plan slot desk session item took left readReply first planOk countsOk limitsOk columnOf all recordLength lengthsOk
     inRange standingRules openRules heardCount every slotsFit slotFits slotStamp underOf num numFrom part alike goodReply goodFrame shaped forParty oneOf bodyFits
     awaited askNow kindAwaited isHeard bears accepted stored collected laid from closeWith leadOf stepOf aheadOf setOf joinsOf repaired refilled slotFilled regenerated

@@ -43,7 +43,7 @@ use Rattle.session.specs.Writer.{crossFor, recordsFor}
 use Rattle.session.proofs.Made.{in-range-facts}
 use Rattle.session.proofs.Openings.{accepted-in-range}
 use Rattle.session.proofs.Writers.{length-records, record-is, record-passes}
-use Rattle.client.specs.Round.{roundAt, ending, answers, RoundOpens, Accepted, Acceptable, SameReplies}
+use Rattle.client.specs.Round.{roundAt, ending, saidInTurn, RoundOpens, Accepted, Acceptable, SameReplies}
 use Rattle.client.proofs.Round.Swaps.{swap, times-kept}
 use Rattle.client.proofs.Round.Reply.{Ready, acceptable}
 use Rattle.client.proofs.Round.AnyOrder as theorems
@@ -200,7 +200,7 @@ enough : length replies ≡ plan .n - plan .t
 unfolding replies plan
 enough = refl
 
-pub accepted : Accepted (answers plan (roundAt session desk item) replies)
+pub accepted : Accepted (saidInTurn plan (roundAt session desk item) replies)
 unfolding replies
 accepted =
     theorems.in-turn plan session desk item opens replies (omega (arith, enough)) (first-none, (then-one, tt))

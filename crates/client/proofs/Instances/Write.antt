@@ -33,7 +33,7 @@ use Rattle.session.specs.Ranges.{standingRules, openRules, inRange}
 use Rattle.session.specs.Reply.{lengthsOk, awaited, isHeard}
 use Rattle.session.specs.Writer.{timedOf, stampFor, recordsFor, leaves, timeEnd, timeTurn, writeTurn, acceptedWrite, writeReply, WriteReplyCall}
 use Rattle.session.proofs.Kept.{Kept}
-use Rattle.client.specs.Turns.{Turn, Writes, Either, Calls}
+use Rattle.client.specs.Turns.{Turn, WriteTurn, EitherTurn, Calls}
 use Rattle.client.specs.Asks.{NotCounted}
 use Rattle.terms.proofs.Small.{small, small-octets}
 use Rattle.client.proofs.Sessions.{every-session}
@@ -116,7 +116,7 @@ write-small : (small (write-reply 0) ≡ true) × (small (write-reply 2) ≡ tru
 unfolding small write-reply stamp-bytes be beOnto
 write-small = (refl, refl)
 
-pub calls : Calls (Writes plan) start desk (call-1 ∷ call-2 ∷ call-3 ∷ call-4 ∷ [])
+pub calls : Calls (WriteTurn plan) start desk (call-1 ∷ call-2 ∷ call-3 ∷ call-4 ∷ [])
 calls = (
   (small-octets (time-reply 0) (time-small .0), met-1),
   (
@@ -125,7 +125,7 @@ calls = (
   ),
 )
 
-replies-so : Calls (Either plan) start desk (call-1 ∷ call-2 ∷ call-3 ∷ call-4 ∷ [])
+replies-so : Calls (EitherTurn plan) start desk (call-1 ∷ call-2 ∷ call-3 ∷ call-4 ∷ [])
 replies-so = (inl (calls .0), (inl (calls .1 .0), (inl (calls .1 .1 .0), (inl (calls .1 .1 .1 .0), tt))))
 
 pub kept-so : Kept plan ended desk-full

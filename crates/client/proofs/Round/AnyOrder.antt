@@ -21,7 +21,7 @@ use Rattle.rounds.specs.Rounds.{heardCount}
 use Rattle.session.specs.declared.Session.{Session}
 use Rattle.session.specs.Session.{replies}
 use Rattle.session.specs.Reader.{acted, closed}
-use Rattle.client.specs.Round.{roundAt, ending, answers, openUntil, RoundOpens, Accepted, Acceptable, Each, OneANode, allMarked, allSlotted, SameReplies}
+use Rattle.client.specs.Round.{roundAt, ending, saidInTurn, openUntil, RoundOpens, Accepted, Acceptable, Each, OneANode, allMarked, allSlotted, SameReplies}
 use Rattle.client.proofs.Round.Swaps.{Reordered, swaps, length-kept}
 use Rattle.client.proofs.Round.Reply.{Fits, Taken, taken, acceptable}
 use Rattle.client.proofs.Round.Run.{each-map, each-both, Unheard, Hears, hear, heard-so, reordered, last, same-last, settled-closed, all-accepted}
@@ -37,11 +37,11 @@ module _ (p : Plan) (s : Session) (d i : List ℕ) (open-so : RoundOpens s) wher
   unfolding heardCount
   none-heard = rw (open-so .marks)
 
-  hears : (f : List ℕ) (fs : List (List ℕ)) → length (f ∷ fs) ≤ replies p → Accepted (answers p (roundAt s d i) (f ∷ fs)) → Hears p i s d (f ∷ fs)
+  hears : (f : List ℕ) (fs : List (List ℕ)) → length (f ∷ fs) ≤ replies p → Accepted (saidInTurn p (roundAt s d i) (f ∷ fs)) → Hears p i s d (f ∷ fs)
   hears f fs few a = heard-so p i f fs s d (open-so .round) marks-16 (omega (arith, none-heard)) a
 
   -- Replies that are accepted in their turn are of different nodes, and each would be accepted as the first.
-  pub at-opening : (fs : List (List ℕ)) → length fs ≤ replies p → Accepted (answers p (roundAt s d i) fs) → Each (Acceptable p s d i) fs × OneANode fs
+  pub at-opening : (fs : List (List ℕ)) → length fs ≤ replies p → Accepted (saidInTurn p (roundAt s d i) fs) → Each (Acceptable p s d i) fs × OneANode fs
   at-opening [] few a = (tt, tt)
   at-opening (f ∷ fs) few a =
       let h = hears f fs few a in (
@@ -52,8 +52,8 @@ module _ (p : Plan) (s : Session) (d i : List ℕ) (open-so : RoundOpens s) wher
       )
 
   -- And replies of different nodes, each of which would be accepted as the first, are accepted in their turn.
-  pub in-turn : (fs : List (List ℕ)) → length fs ≤ replies p → Each (Acceptable p s d i) fs → OneANode fs → Accepted (answers p (roundAt s d i) fs)
-  unfolding answers
+  pub in-turn : (fs : List (List ℕ)) → length fs ≤ replies p → Each (Acceptable p s d i) fs → OneANode fs → Accepted (saidInTurn p (roundAt s d i) fs)
+  unfolding saidInTurn
   in-turn [] few a o = tt
   in-turn (f ∷ fs) few a o = all-accepted p i s d f fs (hear p i f fs s d h)
     where
@@ -74,9 +74,9 @@ module _ (p : Plan) (s : Session) (d i : List ℕ) (open-so : RoundOpens s) wher
   -- of the marks and the slots that all of them leave.
   pub record Closes (fs : List (List ℕ)) : Type 0 where
     pub ends : ending p (roundAt s d i) fs ≡ acted p (allMarked p s fs) (closed p (allMarked p s fs) (allSlotted p d fs)) (allSlotted p d fs) i
-    pub said : answers p (roundAt s d i) fs ≡ openUntil (length fs - 1) (ending p (roundAt s d i) fs .said)
+    pub said : saidInTurn p (roundAt s d i) fs ≡ openUntil (length fs - 1) (ending p (roundAt s d i) fs .said)
 
-  pub closes : (fs : List (List ℕ)) → planOk p ≡ true → length fs ≡ replies p → Accepted (answers p (roundAt s d i) fs) → Closes fs
+  pub closes : (fs : List (List ℕ)) → planOk p ≡ true → length fs ≡ replies p → Accepted (saidInTurn p (roundAt s d i) fs) → Closes fs
   closes [] ok size a = let z = facts p ok in absurd (omega arith)
   closes (f ∷ fs) ok size a =
       let h = hear p i f fs s d (hears f fs (omega arith) a) in
@@ -85,9 +85,9 @@ module _ (p : Plan) (s : Session) (d i : List ℕ) (open-so : RoundOpens s) wher
         said = h .said ∙ (λ j. openUntil (less (length fs) j) (sym (h .ends) j .said));
       }
 
-  alike : (fs gs : List (List ℕ)) → length fs ≤ replies p → Accepted (answers p (roundAt s d i) fs) → Reordered fs gs
-      → (ending p (roundAt s d i) gs ≡ ending p (roundAt s d i) fs) × (answers p (roundAt s d i) gs ≡ answers p (roundAt s d i) fs)
-  unfolding ending answers
+  alike : (fs gs : List (List ℕ)) → length fs ≤ replies p → Accepted (saidInTurn p (roundAt s d i) fs) → Reordered fs gs
+      → (ending p (roundAt s d i) gs ≡ ending p (roundAt s d i) fs) × (saidInTurn p (roundAt s d i) gs ≡ saidInTurn p (roundAt s d i) fs)
+  unfolding ending saidInTurn
   alike [] [] few a r = (refl, refl)
   alike [] (g ∷ gs) few a r = absurd (omega (arith, length-kept r))
   alike (f ∷ fs) [] few a r = absurd (omega (arith, length-kept r))
@@ -101,17 +101,17 @@ module _ (p : Plan) (s : Session) (d i : List ℕ) (open-so : RoundOpens s) wher
 
   -- The third demand, for read rounds: N-t replies that are accepted in their turn end the round alike in every other order, with the same
   -- answer, its timestamp and its rounds, and the same session, desk and item. It holds of fewer too, which leave the round open.
-  pub any-order-read : (fs gs : List (List ℕ)) → length fs ≤ replies p → Accepted (answers p (roundAt s d i) fs) → SameReplies fs gs
+  pub any-order-read : (fs gs : List (List ℕ)) → length fs ≤ replies p → Accepted (saidInTurn p (roundAt s d i) fs) → SameReplies fs gs
       → ending p (roundAt s d i) gs ≡ ending p (roundAt s d i) fs
   any-order-read fs gs few a e = alike fs gs few a (swaps fs gs e) .0
 
   -- The calls answer alike in turn; so none of the replies is refused in the other order either.
-  pub any-order-answers : (fs gs : List (List ℕ)) → length fs ≤ replies p → Accepted (answers p (roundAt s d i) fs) → SameReplies fs gs
-      → answers p (roundAt s d i) gs ≡ answers p (roundAt s d i) fs
+  pub any-order-answers : (fs gs : List (List ℕ)) → length fs ≤ replies p → Accepted (saidInTurn p (roundAt s d i) fs) → SameReplies fs gs
+      → saidInTurn p (roundAt s d i) gs ≡ saidInTurn p (roundAt s d i) fs
   any-order-answers fs gs few a e = alike fs gs few a (swaps fs gs e) .1
 
-  pub any-order-accepted : (fs gs : List (List ℕ)) → length fs ≤ replies p → Accepted (answers p (roundAt s d i) fs) → SameReplies fs gs
-      → Accepted (answers p (roundAt s d i) gs)
+  pub any-order-accepted : (fs gs : List (List ℕ)) → length fs ≤ replies p → Accepted (saidInTurn p (roundAt s d i) fs) → SameReplies fs gs
+      → Accepted (saidInTurn p (roundAt s d i) gs)
   any-order-accepted fs gs few a e = subst Accepted (sym (any-order-answers fs gs few a e)) a
 
   -- The same in the customer's words: acceptable where the round opens, one a node.

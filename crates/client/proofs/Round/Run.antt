@@ -19,7 +19,7 @@ use Rattle.session.specs.Reply.{isHeard}
 use Rattle.session.proofs.Rules.{lengths-are}
 use Rattle.session.specs.Reader.{Outcome, acted, closed, settled, readReply}
 use Rattle.client.specs.Endings.{heardAs, afterReply, deskAfter}
-use Rattle.client.specs.Round.{roundAt, ending, answers, openUntil, Accepted, Each, OneANode, allMarked, allSlotted}
+use Rattle.client.specs.Round.{roundAt, ending, saidInTurn, openUntil, Accepted, Each, OneANode, allMarked, allSlotted}
 use Rattle.client.proofs.Round.Swaps.{Reordered, length-kept, each-kept, one-kept}
 use Rattle.client.proofs.Round.Order.{same-marks, same-slots}
 use Rattle.client.proofs.Round.Reply.{Fits, Ready, Taken, taken, accepts, settled-taken}
@@ -100,11 +100,11 @@ module _ (p : Plan) (i : List ℕ) where
   -- all but the last leave it open
   pub record Ran (s : Session) (d f : List ℕ) (fs : List (List ℕ)) : Type 0 where
     pub ends : ending p (roundAt s d i) (f ∷ fs) ≡ last s d (f ∷ fs)
-    pub said : answers p (roundAt s d i) (f ∷ fs) ≡ openUntil (length fs) (last s d (f ∷ fs) .said)
+    pub said : saidInTurn p (roundAt s d i) (f ∷ fs) ≡ openUntil (length fs) (last s d (f ∷ fs) .said)
     pub count : heardCount (allMarked p s (f ∷ fs) .marks) ≡ heardCount (s .marks) + length (f ∷ fs)
 
   pub hear : (f : List ℕ) (fs : List (List ℕ)) (s : Session) (d : List ℕ) → Hears s d (f ∷ fs) → Ran s d f fs
-  unfolding ending answers allMarked allSlotted
+  unfolding ending saidInTurn allMarked allSlotted
   hear f [] s d h =
       let k = first-of s d f [] h in
       let e = accepts p s f d i k in
@@ -116,21 +116,21 @@ module _ (p : Plan) (i : List ℕ) where
       let r = hear g fs (afterReply p s f) (deskAfter p f d) (rest s d f g fs (h .long) (h .few) k (h .fits .1) (h .fresh .1) (h .one)) in
       record {
         ends = ap (λ (o : Outcome). ending p o (g ∷ fs)) e ∙ r .ends;
-        said = ap (λ (o : Outcome). o .said ∷ answers p o (g ∷ fs)) e ∙ ap (λ (l : List Said). stillOpen ∷ l) (r .said);
+        said = ap (λ (o : Outcome). o .said ∷ saidInTurn p o (g ∷ fs)) e ∙ ap (λ (l : List Said). stillOpen ∷ l) (r .said);
         count = r .count ∙ omega (arith, c);
       }
 
   -- replies that were accepted in their turn
   pub heard-so : (f : List ℕ) (fs : List (List ℕ)) (s : Session) (d : List ℕ) → readRound s ≡ true → length (s .marks) ≡ 16
-      → heardCount (s .marks) + length (f ∷ fs) ≤ replies p → Accepted (answers p (roundAt s d i) (f ∷ fs)) → Hears s d (f ∷ fs)
-  unfolding answers
+      → heardCount (s .marks) + length (f ∷ fs) ≤ replies p → Accepted (saidInTurn p (roundAt s d i) (f ∷ fs)) → Hears s d (f ∷ fs)
+  unfolding saidInTurn
   heard-so f [] s d r l few a =
       let k = taken p s f d i r (a .0) in
       record { ready = k .ready; long = l; fits = (k .fits, tt); fresh = (k .fresh, tt); one = (tt, tt); few = few }
   heard-so f (g ∷ fs) s d r l few a =
       let k = taken p s f d i r (a .0) in
-      let b : Accepted (answers p (roundAt (afterReply p s f) (deskAfter p f d) i) (g ∷ fs)) =
-      subst (λ (o : Outcome). Accepted (answers p o (g ∷ fs))) (step s d f g fs l few k) (a .1) in
+      let b : Accepted (saidInTurn p (roundAt (afterReply p s f) (deskAfter p f d) i) (g ∷ fs)) =
+      subst (λ (o : Outcome). Accepted (saidInTurn p o (g ∷ fs))) (step s d f g fs l few k) (a .1) in
       back s d f g fs l few k
       (heard-so g fs (afterReply p s f) (deskAfter p f d) r (length-marked p s f l (low-16 p s f d i k)) (omega (arith, counted s d f g fs l few k)) b)
 
@@ -162,7 +162,7 @@ open-accepted : (n : ℕ) (a : Said) → isRefused a ≡ false → Accepted (ope
 open-accepted zero a e = (e, tt)
 open-accepted (suc n) a e = (refl, open-accepted n a e)
 
-pub all-accepted : (p : Plan) (i : List ℕ) (s : Session) (d f : List ℕ) (fs : List (List ℕ)) → Ran p i s d f fs → Accepted (answers p (roundAt s d i) (f ∷ fs))
+pub all-accepted : (p : Plan) (i : List ℕ) (s : Session) (d f : List ℕ) (fs : List (List ℕ)) → Ran p i s d f fs → Accepted (saidInTurn p (roundAt s d i) (f ∷ fs))
 all-accepted p i s d f fs h =
     subst Accepted (sym (h .said))
     (open-accepted (length fs) (last p i s d (f ∷ fs) .said) (settled-taken p (allMarked p s (f ∷ fs)) (allSlotted p d (f ∷ fs)) i))

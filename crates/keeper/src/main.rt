@@ -210,9 +210,31 @@ fn answer(p: Plan, path: &[u8], locked: bool, request: &[u8]) -> bool {
     answer_held(p, path, fd, request)
 }
 
-// Two ends of the input that are faults: a line, and not to go on.
+// Whether no more bytes came because the input cannot be read; then a line says so. One that has ended says so again.
+fn input_failed() -> bool {
+    let mut more = [0u8; 1];
+    let got = libc::read(STDIN_FILENO, &mut more);
+    if got < 0 {
+        say::failed(b"standard input");
+        return true;
+    }
+    if got > 0 {
+        say::line(b"standard input: bytes after its end");
+        return true;
+    }
+    false
+}
+
+// Ends of the input: a line for each that is a fault, and not to go on.
+fn ended() -> bool {
+    input_failed();
+    false
+}
+
 fn cut_off() -> bool {
-    say::line(b"the input ends within a frame, which is dropped");
+    if !input_failed() {
+        say::line(b"the input ends within a frame, which is dropped");
+    }
     false
 }
 
@@ -229,7 +251,7 @@ fn turn(p: Plan, path: &[u8], locked: bool) -> bool {
     let how = c.how;
     match how {
         How::Whole => answer(p, path, locked, &area[..n]),
-        How::Ended => false,
+        How::Ended => ended(),
         How::CutOff => cut_off(),
         How::TooLong => too_long(),
     }

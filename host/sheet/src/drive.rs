@@ -5,6 +5,9 @@ use crate::claim::Claim;
 use crate::folder::{Folder, Silence};
 use pasis::{Answer, Operation, Plan, Refusal, Session, Stage, Timestamp};
 
+/// The silence of a book that has no room.
+pub const FULL: &str = "full";
+
 /// The silence that was asked for, which needs no note.
 const DOWN: &str = "taken as silent";
 
@@ -65,7 +68,7 @@ pub fn told_of(refusal: Refusal, book: &[u8]) -> Silence {
         Refusal::Length => format!("damaged: {} bytes, and a book has 11 to 65,536", book.len()),
         Refusal::Book => format!("damaged ({refusal})"),
         Refusal::Frame => "damaged: it is the book of another node".to_string(),
-        Refusal::Room => "full".to_string(),
+        Refusal::Room => FULL.to_string(),
         refusal => format!("refused ({refusal})"),
     }
 }

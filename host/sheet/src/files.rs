@@ -91,3 +91,11 @@ pub fn read(path: &OsStr, most: usize) -> io::Result<Vec<u8>> {
     }
     Ok(bytes)
 }
+
+/// The same of a file that must be one: a pipe would be waited for.
+pub fn read_file(path: &Path, most: usize) -> io::Result<Vec<u8>> {
+    if !fs::metadata(path)?.is_file() {
+        return Err(io::Error::other("this is not a file"));
+    }
+    read(path.as_os_str(), most)
+}

@@ -56,10 +56,10 @@ pub fn read_plan(path: &OsStr, code: Code) -> Result<Plan, Fault> {
         Err(error) if missing(&error) => return fault(Code::WrongUse, format!("{shown}: no such file")),
         Err(error) => return fault(Code::System, format!("{shown}: {error}")),
     };
-    let Some(text) = String::from_utf8(bytes).ok().filter(|text| text.len() <= 4096) else {
+    if bytes.len() > 4096 {
         return fault(code, format!("{shown}: this is not a plan's nine lines of text"));
-    };
-    let plan = plan_text::read(&text).or_else(|why| fault(code, format!("{shown}: {why}")))?;
+    }
+    let plan = plan_text::read(&bytes).or_else(|why| fault(code, format!("{shown}: {why}")))?;
     match plan.check() {
         Ok(()) => Ok(plan),
         Err(refusal) => fault(code, format!("{shown}: {refusal}; sheet new --help has the rules")),
@@ -127,7 +127,7 @@ impl Folder {
 
     /// A node's book, or why it cannot be had. A missing book is not made anew: an empty book in its place would be a lie.
     pub fn book(&self, node: usize) -> Result<Vec<u8>, Silence> {
-        match files::read(self.book_path(node).as_os_str(), BOOK_MOST) {
+        match files::read_file(&self.book_path(node), BOOK_MOST) {
             Ok(bytes) => Ok(bytes),
             Err(error) if missing(&error) => Err("missing".to_string()),
             Err(error) => Err(format!("cannot be read: {error}")),
@@ -154,13 +154,27 @@ impl Folder {
     /// The first of W+1 ask numbers for an operation. That they are used stands in the file before this comes back.
     pub fn take_ask(&self) -> Result<u64, Fault> {
         let ask = self.next_ask()?;
+        self.set_down(ask).map(|()| ask)
+    }
+
+    /// The same for an open. Nothing of it leaves this process, and no reply can come later: where the folder may not be written, as in a
+    /// snapshot, it goes on with a note.
+    pub fn take_ask_to_read(&self) -> Result<(u64, Option<String>), Fault> {
+        let ask = self.next_ask()?;
+        match self.set_down(ask) {
+            Err(Fault { code: Code::System, line }) => {
+                Ok((ask, Some(format!("{line}; the block is opened all the same"))))
+            }
+            other => other.map(|()| (ask, None)),
+        }
+    }
+
+    /// Writes down that the W+1 ask numbers from `ask` on are used.
+    fn set_down(&self, ask: u64) -> Result<(), Fault> {
         let path = self.path.join("ask");
         let Some(next) = ask.checked_add(u64::from(self.plan.w) + 1) else {
             return fault(Code::Damaged, format!("{}: the ask numbers are used up", path.display()));
         };
-        match files::keep(&path, format!("{next}\n").as_bytes()) {
-            Ok(()) => Ok(ask),
-            Err(error) => fault(Code::System, format!("{}: {error}", path.display())),
-        }
+        files::keep(&path, format!("{next}\n").as_bytes()).map_err(failed(&path))
     }
 }

@@ -477,3 +477,106 @@ fn makes_one_sheet_at_a_time() {
         assert_eq!(place.code(&format!("save {name} one")), 0);
     }
 }
+
+// ---- small things
+
+/// A plan's text says the same here as to keeper: blanks are spaces, tabs and carriage returns alone, zeros before a number count for nothing,
+/// and a comment may hold any bytes.
+#[test]
+fn reads_a_plan_as_keeper_does() {
+    let place = Place::new("text");
+    let text = |n: &[u8]| [n, b"\nt 1\nb 1\nQ 3\nm 2\nF 4\nmember repairable\nclients crash\nW 3\n"].concat();
+    for (name, line, code) in [
+        ("plain", b"N 5".as_slice(), 0),
+        ("blanks", b" \tN\t 5 \r", 0),
+        ("zeros", b"N 00000000000000000005", 0),
+        ("comment", b"N 5 # \xff\xfe caf\xe9", 0),
+        ("space", b"N\xc2\xa05", 2),
+        ("behind", b"N 5\xc2\xa0", 2),
+        ("long", b"N 1000000005", 2),
+        ("sign", b"N +5", 2),
+    ] {
+        place.put("p", text(line));
+        assert_eq!(place.code(&format!("new {name} --plan p")), code, "{name}");
+    }
+}
+
+#[test]
+fn a_save_cut_off_before_any_node_holds_it() {
+    let place = five("none");
+    let before = place.get("s/book-0");
+    let (code, out, _) = place.sheet("save s one --stop-after 0");
+    assert!(code == 7 && out.ends_with("nothing was stored\n"), "{out}");
+    assert_eq!(place.get("s/book-0"), before);
+}
+
+/// A book that is no file is a silent node, and nothing waits for it.
+#[test]
+fn a_pipe_is_no_book() {
+    let place = five("pipe");
+    assert_eq!(place.code("save s one"), 0);
+    fs::remove_file(place.file("s/book-3")).expect("a book");
+    assert!(Command::new("mkfifo").arg(place.file("s/book-3")).status().expect("mkfifo").success());
+    let (code, _, err) = place.sheet("open s out");
+    assert!(code == 0 && err.contains("book-3: cannot be read: "), "{err}");
+    assert_eq!(place.get("out"), b"one leaf");
+}
+
+/// A snapshot that cannot be written is read all the same.
+#[test]
+fn opens_from_a_folder_that_may_not_be_written() {
+    let place = five("snapshot");
+    assert_eq!(place.code("save s one"), 0);
+    let before = place.bytes();
+    // The superuser writes everywhere, but not over a folder that is in the way.
+    fs::create_dir(place.file("s/ask.sheet")).expect("in the way of the new ask number");
+    let (code, _, err) = place.sheet("open s out");
+    assert!(code == 0 && err.contains("ask: "), "{err}");
+    assert_eq!(place.get("out"), b"one leaf");
+    fs::remove_dir(place.file("s/ask.sheet")).expect("out of the way");
+    assert_eq!(place.bytes(), before);
+}
+
+/// Full books are told by `check`, and by the save that does not end.
+#[test]
+fn full_books_are_told() {
+    let place = five("full");
+    assert_eq!(place.code("new f --plan p --room 215"), 0);
+    assert_eq!(place.code("save f one"), 0);
+    let (code, out, _) = place.sheet("check f");
+    assert!(code == 0 && out.contains("full: 0 of 5 books have room for another save, which needs 4"), "{out}");
+    let (code, out, _) = place.sheet("save f two");
+    assert!(code == 7 && out.contains("; 5 books are full"), "{out}");
+}
+
+#[test]
+fn json_has_whole_timestamps() {
+    let place = five("whole");
+    let (_, out, _) = place.sheet("save s one --json");
+    let stamp = out.split("\"timestamp\":\"1:").nth(1).expect("a timestamp");
+    assert_eq!(stamp.find('"'), Some(64), "{out}");
+    let stamp = format!("1:{}", &stamp[..64]);
+    let (_, out, _) = place.sheet("show s --json");
+    assert_eq!(out.matches(&stamp).count(), 3, "saves, eye and candidate: {out}");
+}
+
+#[test]
+fn options_are_indented() {
+    let place = Place::new("indent");
+    for verb in ["new", "save", "open", "show", "check"] {
+        let (_, out, _) = place.sheet(&format!("{verb} --help"));
+        let options = out.split("Options:\n").nth(1).and_then(|rest| rest.split("\n\n").next()).expect("options");
+        assert!(options.lines().all(|line| line.starts_with("  --")), "{options}");
+    }
+}
+
+/// A save whose result cannot be written says on standard error what came of it.
+#[test]
+fn a_result_that_cannot_be_written() {
+    let place = five("result");
+    let full = fs::OpenOptions::new().write(true).open("/dev/full").expect("/dev/full");
+    let mut command = Command::new(env!("CARGO_BIN_EXE_sheet"));
+    let output = command.args(["save", "s", "one"]).current_dir(&place.0).stdout(full).output().expect("it ends");
+    let err = String::from_utf8_lossy(&output.stderr);
+    assert!(output.status.code() == Some(9) && err.starts_with("sheet: done, but "), "{err}");
+}

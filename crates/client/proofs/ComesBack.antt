@@ -127,7 +127,7 @@ module _ (p : Plan) (t : ℕ) (i : List ℕ) (ok : planOk p ≡ true) (bytes : O
 
     -- A READ THAT IS DONE IN A READ ROUND LEAVES THE ITEM THAT WAS WRITTEN, where the m lowest-numbered of its set gave the records that were
     -- written for them
-    pub read-comes-back : isStoring (s .stage) ≡ false → All (λ (z : ℕ). slotOf p e z ≡ slotOf p (recordsFor p t i) z) set → i₂ ≡ i
+    pub read-comes-back : isStoring (s .round .stage) ≡ false → All (λ (z : ℕ). slotOf p e z ≡ slotOf p (recordsFor p t i) z) set → i₂ ≡ i
     read-comes-back asks held = go (read-done p s f d out took d₂ i₂ call stamp n .0 says)
       where
         go : WhenDone p s f d (length out) stamp n → i₂ ≡ i
@@ -135,7 +135,7 @@ module _ (p : Plan) (t : ℕ) (i : List ℕ) (ok : planOk p ≡ true) (bytes : O
         go (inr w) = absurd (clash (sym (w .stores) ∙ asks))
 
     -- SO DOES ONE THAT IS DONE BY A REPAIR, where the desk's first m slots hold such records (those that the set's m lowest give: repair-opens)
-    pub repair-comes-back : isStoring (s .stage) ≡ true → All (λ (z : ℕ). slotOf p d z ≡ slotOf p (recordsFor p t i) z) (from 0 (p .m)) → i₂ ≡ i
+    pub repair-comes-back : isStoring (s .round .stage) ≡ true → All (λ (z : ℕ). slotOf p d z ≡ slotOf p (recordsFor p t i) z) (from 0 (p .m)) → i₂ ≡ i
     repair-comes-back stores held = go (read-done p s f d out took d₂ i₂ call stamp n .0 says)
       where
         go : WhenDone p s f d (length out) stamp n → i₂ ≡ i

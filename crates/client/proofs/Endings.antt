@@ -102,7 +102,7 @@ module _ (i : List ℕ) where
   accepted-stays : (p : Plan) (s : Session) (f d : List ℕ) → Stays (accepted p s f d i)
   unfolding accepted stored
   accepted-stays p s f d =
-      shapes.pick Stays (isStoring (s .stage))
+      shapes.pick Stays (isStoring (s .round .stage))
       (shapes.pick Stays (ltb (heardCount (markedOf s (frameNode f) Record .marks)) (replies p)) (λ e. refl) (λ e. wrong e))
       (subst Stays (sym (reading.heard-settles p s f d i)) (settled-stays p (afterReply p s f) (deskAfter p f d)))
 

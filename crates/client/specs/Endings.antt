@@ -50,7 +50,7 @@ deskAfter p f d = cond (bears p f) (put d (frameNode f * recordLength p) (bodyOf
 -- "At N-t accepted replies"
 pub record Closes (p : Plan) (s : Session) (f d : List ℕ) (item : ℕ) : Type 0 where
   pub accepted : None (readLadder p s f d item)
-  pub asks : isStoring (s .stage) ≡ false
+  pub asks : isStoring (s .round .stage) ≡ false
   pub enough : replies p ≤ heardCount (afterReply p s f .marks)
 
 -- "the candidate is the greatest timestamp": that of node a, the lowest-numbered that bears it
@@ -73,7 +73,7 @@ Fails p n v = (n < INCOMPLETE p) ⊎ ((v ≡ false) × ((COMPLETE p ≤ n) ⊎ (
 pub record WhenNever (p : Plan) (s : Session) (f d : List ℕ) (item rounds : ℕ) : Type 0 where
   pub closes : Closes p s f d item
   pub first : (k : ℕ) → k < p .n → markOf (afterReply p s f .marks) k ≡ Record → ⊥
-  pub counted : rounds ≡ s .round
+  pub counted : rounds ≡ s .round .number
 
 -- "Unclassifiable: non-repair ends aborted, unvalidated."
 pub record WhenAborted (p : Plan) (s : Session) (f d : List ℕ) (item rounds : ℕ) : Type 0 where
@@ -83,7 +83,7 @@ pub record WhenAborted (p : Plan) (s : Session) (f d : List ℕ) (item rounds : 
   pub low : INCOMPLETE p ≤ size p s f d node
   pub high : size p s f d node < COMPLETE p
   pub member : p .member ≡ NonRepair
-  pub counted : rounds ≡ s .round
+  pub counted : rounds ≡ s .round .number
 
 -- "rounds spent (round W was incomplete or invalid)"
 pub record WhenSpent (p : Plan) (s : Session) (f d : List ℕ) (item rounds : ℕ) : Type 0 where
@@ -91,8 +91,8 @@ pub record WhenSpent (p : Plan) (s : Session) (f d : List ℕ) (item rounds : �
   pub node : ℕ
   pub candidate : Candidate p s f d node
   pub fails : Fails p (size p s f d node) (valid p s f d node)
-  pub last : s .round ≡ p .w
-  pub counted : rounds ≡ s .round
+  pub last : s .round .number ≡ p .w
+  pub counted : rounds ≡ s .round .number
 
 -- "Complete: validate, decode from the m lowest-numbered of the set, done."
 pub record DoneByRead (p : Plan) (s : Session) (f d : List ℕ) (item stamp rounds : ℕ) : Type 0 where
@@ -102,20 +102,20 @@ pub record DoneByRead (p : Plan) (s : Session) (f d : List ℕ) (item stamp roun
   pub full : COMPLETE p ≤ size p s f d node
   pub validated : valid p s f d node ≡ true
   pub of : stamp ≡ slotStamp (deskAfter p f d) (recordLength p) node
-  pub counted : rounds ≡ s .round
+  pub counted : rounds ≡ s .round .number
 
 -- "runs a write round, then is done"; "A repair round is not counted."
 pub record DoneByRepair (p : Plan) (s : Session) (f d : List ℕ) (item stamp rounds : ℕ) : Type 0 where
   pub accepted : None (readLadder p s f d item)
-  pub stores : isStoring (s .stage) ≡ true
+  pub stores : isStoring (s .round .stage) ≡ true
   pub enough : replies p ≤ heardCount (markedOf s (frameNode f) Record .marks)
   pub of : stamp ≡ stampNumber (s .stamp)
-  pub counted : rounds ≡ s .round
+  pub counted : rounds ≡ s .round .number
 
 -- the round is not full
 pub record Waits (p : Plan) (s : Session) (f d : List ℕ) (item : ℕ) : Type 0 where
   pub accepted : None (readLadder p s f d item)
-  pub few : heardCount (cond (isStoring (s .stage)) (markedOf s (frameNode f) Record) (afterReply p s f) .marks) < replies p
+  pub few : heardCount (cond (isStoring (s .round .stage)) (markedOf s (frameNode f) Record) (afterReply p s f) .marks) < replies p
 
 -- "Incomplete, or validation failed: … the next round opens"
 pub record NextOpens (p : Plan) (s : Session) (f d : List ℕ) (item : ℕ) : Type 0 where
@@ -123,7 +123,7 @@ pub record NextOpens (p : Plan) (s : Session) (f d : List ℕ) (item : ℕ) : Ty
   pub node : ℕ
   pub candidate : Candidate p s f d node
   pub fails : Fails p (size p s f d node) (valid p s f d node)
-  pub more : s .round < p .w
+  pub more : s .round .number < p .w
 
 -- "Repairable validates, fills the desk with all N records, runs a write round"
 pub record RepairOpens (p : Plan) (s : Session) (f d : List ℕ) (item : ℕ) : Type 0 where
@@ -156,12 +156,12 @@ writeLadder p s f d item = replyLadder Write p s f d item
 
 -- the session after an accepted reply
 abbrev pub wrote : Session → List ℕ → Session
-wrote s f = cond (isStoring (s .stage)) (markedOf s (frameNode f) Record) (timedOf s (frameNode f) (time (bodyOf f)))
+wrote s f = cond (isStoring (s .round .stage)) (markedOf s (frameNode f) Record) (timedOf s (frameNode f) (time (bodyOf f)))
 
 -- "A write round runs to N-t replies bearing that timestamp"; a write counts no read rounds
 pub record WriteDone (p : Plan) (s : Session) (f d : List ℕ) (item stamp rounds : ℕ) : Type 0 where
   pub accepted : None (writeLadder p s f d item)
-  pub stores : isStoring (s .stage) ≡ true
+  pub stores : isStoring (s .round .stage) ≡ true
   pub enough : replies p ≤ heardCount (wrote s f .marks)
   pub of : stamp ≡ stampNumber (s .stamp)
   pub counted : rounds ≡ 0
@@ -169,7 +169,7 @@ pub record WriteDone (p : Plan) (s : Session) (f d : List ℕ) (item stamp round
 -- "clock spent (the greatest time reply is 2^64-1)"
 pub record WriteClock (p : Plan) (s : Session) (f d : List ℕ) (item : ℕ) : Type 0 where
   pub accepted : None (writeLadder p s f d item)
-  pub asks : isStoring (s .stage) ≡ false
+  pub asks : isStoring (s .round .stage) ≡ false
   pub enough : replies p ≤ heardCount (wrote s f .marks)
   pub spent : wrote s f .greatest .0 ≡ top
 
@@ -177,7 +177,7 @@ pub record WriteClock (p : Plan) (s : Session) (f d : List ℕ) (item : ℕ) : T
 pub record WriteOpen (p : Plan) (s : Session) (f d : List ℕ) (item : ℕ) : Type 0 where
   pub accepted : None (writeLadder p s f d item)
   pub goes : (heardCount (wrote s f .marks) < replies p)
-      ⊎ ((isStoring (s .stage) ≡ false) × (wrote s f .greatest .0 ≡ top → ⊥))
+      ⊎ ((isStoring (s .round .stage) ≡ false) × (wrote s f .greatest .0 ≡ top → ⊥))
 
 abbrev pub WriteGives : Plan → Session → List ℕ → List ℕ → ℕ → Said → Type 0
 WriteGives p s f d item (refused k) = Given (writeLadder p s f d item) k

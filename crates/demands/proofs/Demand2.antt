@@ -37,7 +37,7 @@ use Rattle.report.specs.Triple.{Same}
 use Rattle.client.proofs.ComesBack.{block-comes-back}
 use Rattle.report.specs.Figure1.{INITIALIZE, RECEIVE-TIME-REQUEST, RECEIVE-READ-LATEST, RECEIVE-READ-PREVIOUS}
 use Rattle.report.specs.Ours.{history, timeIn}
-use Rattle.report.specs.Run.{OfPlan, received, AllApart, AllClose, closedOver, EachTells}
+use Rattle.report.specs.Run.{OfPlan, received, unpolled, polledOver, AllApart, AllFull, EachTells}
 use Rattle.report.specs.WriteRun.{untimed, EachWrites}
 use Rattle.report.proofs.Plans.{accepted-is, accepted-back}
 use Rattle.report.proofs.Node.{time-acts, latest-acts, previous-acts, write-acts, fresh-run}
@@ -74,12 +74,13 @@ pub write-as-the-report : (p : Plan) (a : Ask) (r : Opened) (d : List ℕ) (cs :
     → Calls (WriteTurn p) (r .session) d cs → EachWrites p (r .session) d untimed cs
 write-as-the-report = opened-write
 
--- Over any replies from an accepted opening on: each answer is what Figure 3's READ says of the response sets of the rounds closed so far,
--- each of which is one that DO_READ gathered for the command that READ was to send, of N-t responses; where no two cross checksums of one
--- response set share a hash.
+-- Over any replies from an accepted opening on: each answer is what Figure 3's READ says of the messages received in the rounds closed so far,
+-- DO_READ gathering from them; "open" says that READ has not returned. Each closed round has its N-t responses, to the command that READ was to
+-- send. Received are the frames of the run in their order, refused ones among them, but for those that document 01 adds refusals for
+-- (isMessage). Where no two cross checksums of one response set share a hash under one timestamp.
 pub read-as-the-report : (p : Plan) (a : Ask) (r : Opened) (d : List ℕ) (cs : List Turn) → OpenCall Read p a r → r .answer ≡ Accepted
-    → length d ≡ p .n * recordLength p → Octets d → Calls (ReadTurn p) (r .session) d cs → AllApart (closedOver p (r .session) d [] cs)
-    → EachTells p (r .session) d [] cs × AllClose p (closedOver p (r .session) d [] cs)
+    → length d ≡ p .n * recordLength p → Octets d → Calls (ReadTurn p) (r .session) d cs → AllApart p (polledOver p (r .session) d unpolled cs .rounds)
+    → EachTells p (r .session) d unpolled cs × AllFull p (polledOver p (r .session) d unpolled cs .rounds)
 read-as-the-report = opened-read
 
 -- An item of m·F bytes, encoded into n fragments of F bytes wherever in a buffer, comes back from any m of them.

@@ -10,8 +10,8 @@ use Rattle.octets.specs.Bytes.{alike}
 use Rattle.report.specs.Triple.{Triple, Message, null, suchThat, each, MAX, upTo, strung, Family}
 use Rattle.report.specs.Figure1 as node
 use Rattle.report.specs.Figure1.{initial, RECEIVE-TIME-REQUEST, RECEIVE-WRITE-REQUEST, Latest, RECEIVE-READ-LATEST, PreHistory, RECEIVE-READ-PREVIOUS}
-use Rattle.report.specs.Figure2.{READ-TIMESTAMP, MAKE-CROSS-CHECKSUM, DO-WRITE}
-use Rattle.report.specs.Figure3.{READ-LATEST, READ-PREVIOUS, returned, repaired, ABORT, reading, VALIDATE, in-time, has, receives, ts-candidate, CandidateSet, CC-of, of-first-triple, VALIDATE-CANDIDATE-SET, LOOP, READ}
+use Rattle.report.specs.Figure2.{Clock, in-set, GATHERED, Times, READ-TIMESTAMP, MAKE-CROSS-CHECKSUM, DO-WRITE}
+use Rattle.report.specs.Figure3.{READ-LATEST, READ-PREVIOUS, returned, repaired, ABORT, reading, VALIDATE, in-time, has, with-it, receives, DO-READ, ts-candidate, CandidateSet, CC-of, of-first-triple, VALIDATE-CANDIDATE-SET, LOOP, READ}
 
 -- a hash of a string is its length; a cross checksum says it once for all; a fragment is the number of its node; what is decoded is the set's size
 toy : Bool → Bool → Family
@@ -69,8 +69,12 @@ unfolding RECEIVE-WRITE-REQUEST node.VALIDATE toy alike
 write-good = refl
 
 -- ---- Figure 2
-time-10 : READ-TIMESTAMP (7 ∷ 9 ∷ 9 ∷ 4 ∷ []) ≡ 10
-unfolding READ-TIMESTAMP MAX
+-- four nodes answer, and node 3 once more, which is not counted
+abbrev clock : ℕ → ℕ → Clock
+clock S time = record { S = S; Time = time }
+
+time-10 : READ-TIMESTAMP (clock 0 7 ∷ clock 3 12 ∷ clock 1 9 ∷ clock 2 9 ∷ clock 3 4 ∷ []) ≡ 10
+unfolding READ-TIMESTAMP Times GATHERED in-set each MAX
 time-10 = refl
 
 -- ---- Figure 3
@@ -120,24 +124,25 @@ never-written : LOOP (toy true true) (first 0 ∷ first 1 ∷ first 2 ∷ first 
 unfolding LOOP CandidateSet ts-candidate VALIDATE-CANDIDATE-SET of-first-triple suchThat each MAX first toy
 never-written = refl
 
--- one round that goes on and one that returns, the last one first; a further set changes nothing
-two-rounds : READ (toy true false) (one ∷ four ∷ one ∷ []) ≡ returned 9 (4 ∷ [])
-unfolding READ LOOP CandidateSet ts-candidate VALIDATE-CANDIDATE-SET suchThat each MAX toy
+-- one round that goes on and one that returns, the last one first, with a message that is not below the bound among its own; a further round
+-- changes nothing
+two-rounds : READ (toy true false) (one ∷ (from 0 5 ∷ from 4 9 ∷ from 1 5 ∷ from 2 5 ∷ from 3 5 ∷ []) ∷ one ∷ []) ≡ returned 5 (4 ∷ [])
+unfolding READ DO-READ receives VALIDATE node.VALIDATE alike in-time has with-it LOOP CandidateSet ts-candidate VALIDATE-CANDIDATE-SET suchThat each MAX toy
 two-rounds = refl
 
 -- DO_READ: put in; not below the bound; of a node that is heard; not valid
 received : receives (toy true true) (READ-PREVIOUS 9) (from 1 5 ∷ []) (from 0 8) ≡ from 0 8 ∷ from 1 5 ∷ []
-unfolding receives VALIDATE node.VALIDATE in-time has alike toy
+unfolding receives VALIDATE node.VALIDATE in-time has alike toy with-it
 received = refl
 
 too-late : receives (toy true true) (READ-PREVIOUS 9) (from 1 5 ∷ []) (from 0 9) ≡ from 1 5 ∷ []
-unfolding receives VALIDATE node.VALIDATE in-time has alike toy
+unfolding receives VALIDATE node.VALIDATE in-time has alike toy with-it
 too-late = refl
 
 heard-twice : receives (toy true true) READ-LATEST (from 1 5 ∷ []) (from 1 9) ≡ from 1 5 ∷ []
-unfolding receives VALIDATE node.VALIDATE in-time has alike toy
+unfolding receives VALIDATE node.VALIDATE in-time has alike toy with-it
 heard-twice = refl
 
 not-valid : receives (toy true true) READ-LATEST [] (record { S = 0; Response = record { ts = 3; D = null; CC = 1 ∷ [] } }) ≡ []
-unfolding receives VALIDATE node.VALIDATE in-time has alike toy
+unfolding receives VALIDATE node.VALIDATE in-time has alike toy with-it
 not-valid = refl

@@ -1,15 +1,15 @@
 -- One turn of DO_READ's loop. Its tests are the client's: VALIDATE is the hash checks of refusal 6 (valid-record), the bound's test that of
 -- refusal 12 (in-time-is), and S is in the set exactly where refusal 11 finds the node heard (heard-has, unheard-has). What fails one of them
--- is left out (heard-hears, hash-hears, late-hears); what passes all is put in (puts), and a node that is marked then is in the set
--- (record-after, first-after). DO_READ goes by the set, and not by its list (receives-same, gathers-more). Assumes nothing.
+-- is left out (heard-hears, hash-hears, late-hears); what passes all is put in (puts), and the response set of the marks after it is that set
+-- (record-after, first-after). Assumes nothing.
+use Prim.{Unit, tt}
 use Prim.Native.Nat.{ℕ, zero, suc, _*_, _≤_, _<_}
 use mathlib.Core.Path.{_≡_, refl, sym, ap, _∙_, subst}
 use mathlib.Core.Bool.{Bool, true, false, cond}
-use mathlib.Core.List.{List, [], _∷_, _++_}
-use mathlib.Core.Logic.{_⊎_, inl, inr}
+use mathlib.Core.List.{List, [], _∷_, _++_, append-nil}
 use native.Mathlib.Decide.{ℕ-discrete}
 use native.Mathlib.Omega.{arith}
-use borrow.Author.Tests.{lt-ltb, leb-true, eq-eqb, ne-eqb, eqb-true}
+use borrow.Author.Tests.{lt-ltb, le-ltb, leb-true, eq-eqb, ne-eqb}
 use lib.Dec.{ltb, leb, eqb}
 use lib.ListN.{length, set}
 use Rattle.octets.specs.Bytes.{put, alike, Octets}
@@ -18,6 +18,7 @@ use Rattle.terms.specs.Terms.{recordLength}
 use Rattle.terms.specs.declared.Plan.{Plan}
 use Rattle.terms.proofs.Rungs.{both, clash}
 use Rattle.terms.proofs.Picks.{either}
+use Rattle.terms.proofs.Small.{strict}
 use Rattle.record.specs.Record.{hashesOk}
 use Rattle.record.specs.Desk.{slotOf}
 use Rattle.rounds.specs.declared.Heard.{Heard}
@@ -28,12 +29,10 @@ use Rattle.rounds.specs.declared.Bound.the-variants.{Free, Under}
 use Rattle.rounds.specs.Rounds.{bitOf, markOf, underOf}
 use Rattle.rounds.proofs.Laws.{mark-set, mark-other}
 use Rattle.session.specs.Ranges.{boundOk}
-use Rattle.report.specs.Triple.{Message, In, Same}
+use Rattle.report.specs.Triple.{Message}
 use Rattle.report.specs.Figure1.{initial}
-use Rattle.report.specs.Figure3.{Command, VALIDATE, in-time, has, with-it, receives, DO-READ}
+use Rattle.report.specs.Figure3.{Command, VALIDATE, in-time, has, with-it, receives}
 use Rattle.report.specs.Ours.{family, tripleOf, responseOf, responses, commandOf}
-use Rattle.report.specs.Run.{Gathers}
-use Rattle.report.proofs.Lists.{in-append, in-split, same-more, same-trans}
 use Rattle.report.proofs.Triples.{stamp-low, validate-is}
 use Rattle.report.proofs.Marks.{slot-own, slot-other}
 
@@ -107,29 +106,6 @@ first-in-time (Under u) round e =
 
 -- ---- the response set after a mark
 module _ (p : Plan) (ms : List Mark) (d : List ℕ) where
-  in-at : (y : Message) (n k : ℕ) → k < n → In y (responseOf p d k (markOf ms k)) → In y (responses p ms d n)
-  unfolding responses
-  in-at y zero k h m = absurd (omega arith)
-  in-at y (suc n) k h m = go (ℕ-discrete k n) (λ l. in-at y n k l m)
-    where
-      go : Dec (k ≡ n) → (k < n → In y (responses p ms d n)) → In y (responses p ms d n ++ responseOf p d n (markOf ms n))
-      go (yes q) more = in-append y (responses p ms d n) (responseOf p d n (markOf ms n)) (inr (subst (λ (j : ℕ). In y (responseOf p d j (markOf ms j))) q m))
-      go (no q) more = in-append y (responses p ms d n) (responseOf p d n (markOf ms n)) (inl (more (omega arith)))
-
-  pub record At (y : Message) (n : ℕ) : Type 0 where
-    pub k : ℕ
-    pub low : k < n
-    pub there : In y (responseOf p d k (markOf ms k))
-
-  at-in : (y : Message) (n : ℕ) → In y (responses p ms d n) → At y n
-  unfolding responses
-  at-in y zero h = absurd h
-  at-in y (suc n) h = go (in-split y (responses p ms d n) (responseOf p d n (markOf ms n)) h) (at-in y n)
-    where
-      go : In y (responses p ms d n) ⊎ In y (responseOf p d n (markOf ms n)) → (In y (responses p ms d n) → At y n) → At y (suc n)
-      go (inl q) ih = let u = ih q in record { k = u .k; low = omega (arith, u .low); there = u .there }
-      go (inr q) ih = record { k = n; low = omega arith; there = q }
-
   -- a node that is unheard has no response
   has-append : (k : ℕ) (l m : List Message) → has k (l ++ m) ≡ cond (has k l) true (has k m)
   unfolding has
@@ -176,41 +152,82 @@ module _ (p : Plan) (ms : List Mark) (d : List ℕ) where
           rw w (either (λ (b : Bool). b ≡ true) (has k (responses p ms d n)) refl refl)
       go (no q) more = rw (more (omega arith))
 
+-- ---- the list of a set goes by node number
+abbrev Below : ℕ → List Message → Type 0
+Below n [] = Unit {0}
+Below n (y ∷ ys) = (y .S < n) × Below n ys
+
+below-more : (n m : ℕ) (A : List Message) → n ≤ m → Below n A → Below m A
+below-more n m [] h b = tt
+below-more n m (y ∷ A) h b = (omega (arith, b .0, h), below-more n m A h (b .1))
+
+below-append : (n : ℕ) (A B : List Message) → Below n A → Below n B → Below n (A ++ B)
+below-append n [] B a b = b
+below-append n (y ∷ A) B a b = (a .0, below-append n A B (a .1) b)
+
+-- one above all goes last; one above x stays behind it
+last-with : (x : Message) (A : List Message) → Below (x .S) A → with-it x A ≡ A ++ (x ∷ [])
+unfolding with-it
+last-with x [] b = refl
+last-with x (y ∷ A) b = rw (lt-ltb (y .S) (x .S) (b .0)) (ap (λ (l : List Message). y ∷ l) (last-with x A (b .1)))
+
+snoc-with : (x y : Message) (A : List Message) → x .S < y .S → with-it x (A ++ (y ∷ [])) ≡ with-it x A ++ (y ∷ [])
+unfolding with-it
+snoc-with x y [] h = rw (le-ltb (y .S) (x .S) (omega arith))
+snoc-with x y (z ∷ A) h = go (ltb (z .S) (x .S)) (snoc-with x y A h)
+  where
+    go : (t : Bool) → with-it x (A ++ (y ∷ [])) ≡ with-it x A ++ (y ∷ [])
+        → cond t (z ∷ with-it x (A ++ (y ∷ []))) (x ∷ z ∷ (A ++ (y ∷ []))) ≡ cond t (z ∷ with-it x A) (x ∷ z ∷ A) ++ (y ∷ [])
+    go true e = ap (λ (l : List Message). z ∷ l) e
+    go false e = refl
+
+module _ (p : Plan) (d : List ℕ) where
+  one-below : (k : ℕ) (h : Heard) → Below (suc k) (responseOf p d k h)
+  unfolding responseOf
+  one-below k Unheard = tt
+  one-below k First = (omega arith, tt)
+  one-below k Record = (omega arith, tt)
+
+  with-one : (x : Message) (A : List Message) (k : ℕ) (h : Heard) → x .S < k → with-it x (A ++ responseOf p d k h) ≡ with-it x A ++ responseOf p d k h
+  unfolding responseOf
+  with-one x A k Unheard l = ap (with-it x) (append-nil A) ∙ sym (append-nil (with-it x A))
+  with-one x A k First l = snoc-with x (said-first k) A l
+  with-one x A k Record l = snoc-with x (said-by p k (slotOf p d k)) A l
+
+  responses-below : (ms : List Mark) (n : ℕ) → Below n (responses p ms d n)
+  unfolding responses
+  responses-below ms zero = tt
+  responses-below ms (suc n) =
+      below-append (suc n) (responses p ms d n) (responseOf p d n (markOf ms n)) (below-more n (suc n) (responses p ms d n) (omega arith) (responses-below ms n))
+      (one-below n (markOf ms n))
+
 -- a mark is set and a desk handed back, in which the other nodes are as they were
-module _ (p : Plan) (ms ms₂ : List Mark) (d d₂ : List ℕ) (i : ℕ) (hi : i < p .n) (x : Message) (u : markOf ms i ≡ Unheard)
+module _ (p : Plan) (ms ms₂ : List Mark) (d d₂ : List ℕ) (i : ℕ) (x : Message) (at : x .S ≡ i) (u : markOf ms i ≡ Unheard)
     (own : responseOf p d₂ i (markOf ms₂ i) ≡ x ∷ [])
     (other : (k : ℕ) → k < p .n → (k ≡ i → ⊥) → responseOf p d₂ k (markOf ms₂ k) ≡ responseOf p d k (markOf ms k)) where
-  pub after-is : Same (responses p ms₂ d₂ (p .n)) (with-it x (responses p ms d (p .n)))
-  unfolding responseOf
-  after-is y = (there, back)
+  before-it : (n : ℕ) → n ≤ i → n ≤ p .n → responses p ms₂ d₂ n ≡ responses p ms d n
+  unfolding responses
+  before-it zero h l = refl
+  before-it (suc n) h l = λ j. before-it n (omega arith) (omega arith) j ++ other n (omega arith) (λ e. omega arith) j
+
+  pub after-is : (n : ℕ) → i < n → n ≤ p .n → responses p ms₂ d₂ n ≡ with-it x (responses p ms d n)
+  unfolding responses
+  after-is zero h l = absurd (omega arith)
+  after-is (suc n) h l = go (ℕ-discrete i n) (λ k. after-is n k (omega arith))
     where
-      there : In y (responses p ms₂ d₂ (p .n)) → In y (with-it x (responses p ms d (p .n)))
-      there h = go (at-in p ms₂ d₂ y (p .n) h)
-        where
-          one : In y (x ∷ []) → In y (with-it x (responses p ms d (p .n)))
-          one (inl e) = inl e
-          one (inr e) = absurd e
+      none : i ≡ n → responseOf p d n (markOf ms n) ≡ []
+      none q = ap (λ (k : ℕ). responseOf p d k (markOf ms k)) (sym q) ∙ ap (responseOf p d i) u ∙ unfold responseOf in refl
 
-          pick : (a : At p ms₂ d₂ y (p .n)) → Dec (a .k ≡ i) → In y (with-it x (responses p ms d (p .n)))
-          pick a (yes q) = one (subst (In y) (ap (λ (k : ℕ). responseOf p d₂ k (markOf ms₂ k)) q ∙ own) (a .there))
-          pick a (no q) = inr (in-at p ms d y (p .n) (a .k) (a .low) (subst (In y) (other (a .k) (a .low) q) (a .there)))
-
-          go : At p ms₂ d₂ y (p .n) → In y (with-it x (responses p ms d (p .n)))
-          go a = pick a (ℕ-discrete (a .k) i)
-
-      back : In y (with-it x (responses p ms d (p .n))) → In y (responses p ms₂ d₂ (p .n))
-      back (inl e) = in-at p ms₂ d₂ y (p .n) i hi (subst (In y) (sym own) (inl e))
-      back (inr h) = go (at-in p ms d y (p .n) h)
-        where
-          none : In y (responseOf p d i (markOf ms i)) → ⊥
-          none q = subst (In y) (ap (responseOf p d i) u) q
-
-          pick : (a : At p ms d y (p .n)) → Dec (a .k ≡ i) → In y (responses p ms₂ d₂ (p .n))
-          pick a (yes q) = absurd (none (subst (λ (k : ℕ). In y (responseOf p d k (markOf ms k))) q (a .there)))
-          pick a (no q) = in-at p ms₂ d₂ y (p .n) (a .k) (a .low) (subst (In y) (sym (other (a .k) (a .low) q)) (a .there))
-
-          go : At p ms d y (p .n) → In y (responses p ms₂ d₂ (p .n))
-          go a = pick a (ℕ-discrete (a .k) i)
+      go : Dec (i ≡ n) → (i < n → responses p ms₂ d₂ n ≡ with-it x (responses p ms d n))
+          → responses p ms₂ d₂ n ++ responseOf p d₂ n (markOf ms₂ n) ≡ with-it x (responses p ms d n ++ responseOf p d n (markOf ms n))
+      go (yes q) more =
+          (λ j. before-it n (omega (arith, q)) (omega arith) j ++ (ap (λ (k : ℕ). responseOf p d₂ k (markOf ms₂ k)) (sym q) ∙ own) j)
+          ∙ sym (last-with x (responses p ms d n) (subst (λ (k : ℕ). Below k (responses p ms d n)) (sym (at ∙ q)) (responses-below p d ms n)))
+          ∙ ap (with-it x) (sym (ap (λ (l : List Message). responses p ms d n ++ l) (none q) ∙ append-nil (responses p ms d n)))
+      go (no q) more =
+          let lower : i < n = strict i n (omega arith) q in
+          (λ j. more lower j ++ other n (omega arith) (λ e. q (sym e)) j)
+          ∙ sym (with-one p d x (responses p ms d n) n (markOf ms n) (omega (arith, at, lower)))
 
 -- the response of a node goes by its slot
 response-slot : (p : Plan) (d d₂ : List ℕ) (k : ℕ) (h : Heard) → slotOf p d₂ k ≡ slotOf p d k → responseOf p d₂ k h ≡ responseOf p d k h
@@ -220,83 +237,19 @@ response-slot p d d₂ k First e = refl
 response-slot p d d₂ k Record e = ap (λ (x : List ℕ). said-by p k x ∷ []) e
 
 module _ (p : Plan) (ms : List Mark) (d : List ℕ) (i : ℕ) (hi : i < p .n) (inside : i < length ms) (u : markOf ms i ≡ Unheard) where
-  pub first-after : Same (responses p (set ms i (record { is = First })) d (p .n)) (with-it (said-first i) (responses p ms d (p .n)))
+  pub first-after : responses p (set ms i (record { is = First })) d (p .n) ≡ with-it (said-first i) (responses p ms d (p .n))
   unfolding responseOf
   first-after =
-      after-is p ms (set ms i (record { is = First })) d d i hi (said-first i) u
+      after-is p ms (set ms i (record { is = First })) d d i (said-first i) refl u
       (ap (responseOf p d i) (mark-set ms i (record { is = First }) inside))
-      (λ k hk q. ap (responseOf p d k) (mark-other ms i k (record { is = First }) q))
+      (λ k hk q. ap (responseOf p d k) (mark-other ms i k (record { is = First }) q)) (p .n) hi (omega arith)
 
   pub record-after : (rec : List ℕ) → length d ≡ p .n * recordLength p → length rec ≡ recordLength p
-      → Same (responses p (set ms i (record { is = Record })) (put d (i * recordLength p) rec) (p .n)) (with-it (said-by p i rec) (responses p ms d (p .n)))
+      → responses p (set ms i (record { is = Record })) (put d (i * recordLength p) rec) (p .n) ≡ with-it (said-by p i rec) (responses p ms d (p .n))
   unfolding responseOf
   record-after rec ld lr =
-      after-is p ms (set ms i (record { is = Record })) d (put d (i * recordLength p) rec) i hi (said-by p i rec) u
+      after-is p ms (set ms i (record { is = Record })) d (put d (i * recordLength p) rec) i (said-by p i rec) refl u
       (ap (responseOf p (put d (i * recordLength p) rec) i) (mark-set ms i (record { is = Record }) inside)
       ∙ ap (λ (x : List ℕ). said-by p i x ∷ []) (slot-own d rec (recordLength p) (p .n) i ld lr hi))
       (λ k hk q. ap (responseOf p (put d (i * recordLength p) rec) k) (mark-other ms i k (record { is = Record }) q)
-      ∙ response-slot p d (put d (i * recordLength p) rec) k (markOf ms k) (slot-other d rec (recordLength p) (p .n) i ld lr hi k q))
-
--- ---- DO_READ goes by the set, and not by its list
-record Heard-by (S : ℕ) (A : List Message) : Type 0 where
-  x : Message
-  there : In x A
-  same : x .S ≡ S
-
-has-in : (S : ℕ) (A : List Message) → has S A ≡ true → Heard-by S A
-unfolding has
-has-in S [] e = absurd (clash (sym e))
-has-in S (x ∷ A) e = go (eqb (x .S) S) refl e (has-in S A)
-  where
-    go : (t : Bool) → eqb (x .S) S ≡ t → cond t true (has S A) ≡ true → (has S A ≡ true → Heard-by S A) → Heard-by S (x ∷ A)
-    go true q k ih = record { x = x; there = inl refl; same = eqb-true (x .S) S q }
-    go false q k ih = let u = ih k in record { x = u .x; there = inr (u .there); same = u .same }
-
-in-has : (y : Message) (A : List Message) → In y A → has (y .S) A ≡ true
-unfolding has
-in-has y [] h = absurd h
-in-has y (x ∷ A) (inl e) = rw (eq-eqb (x .S) (y .S) (ap (λ (z : Message). z .S) (sym e)))
-in-has y (x ∷ A) (inr h) = go (eqb (x .S) (y .S)) (in-has y A h)
-  where
-    go : (t : Bool) → has (y .S) A ≡ true → cond t true (has (y .S) A) ≡ true
-    go true k = refl
-    go false k = k
-
-has-same : (S : ℕ) (A B : List Message) → Same A B → has S A ≡ has S B
-has-same S A B f = go (has S A) (has S B) refl refl
-  where
-    over : (C D : List Message) → ((y : Message) → In y C → In y D) → has S C ≡ true → has S D ≡ true
-    over C D g e = let u = has-in S C e in subst (λ (k : ℕ). has k D ≡ true) (u .same) (in-has (u .x) D (g (u .x) (u .there)))
-
-    go : (s t : Bool) → has S A ≡ s → has S B ≡ t → s ≡ t
-    go true true a b = refl
-    go true false a b = absurd (clash (sym (over A B (λ y. f y .0) a) ∙ b))
-    go false true a b = absurd (clash (sym (over B A (λ y. f y .1) b) ∙ a))
-    go false false a b = refl
-
-pub receives-same : (p : Plan) (command : Command) (x : Message) (A B : List Message) → Same A B → Same (receives (family p) command A x) (receives (family p) command B x)
-unfolding receives
-receives-same p command x A B f =
-    subst (λ (t : Bool). Same (cond (VALIDATE (family p) x) (cond (in-time command (x .Response .ts)) (cond (has (x .S) A) A (with-it x A)) A) A)
-    (cond (VALIDATE (family p) x) (cond (in-time command (x .Response .ts)) (cond t B (with-it x B)) B) B)) (has-same (x .S) A B f)
-    (go (VALIDATE (family p) x) (in-time command (x .Response .ts)) (has (x .S) A))
-  where
-    go : (a b c : Bool) → Same (cond a (cond b (cond c A (with-it x A)) A) A) (cond a (cond b (cond c B (with-it x B)) B) B)
-    go true true true = f
-    go true true false = same-more x A B f
-    go true false c = f
-    go false b c = f
-
--- one message more
-pub gathers-more : (p : Plan) (command : Command) (x : Message) (A B : List Message) → Gathers p command A → Same B (receives (family p) command A x) → Gathers p command B
-unfolding DO-READ
-gathers-more p command x A B g s =
-    record {
-      received = x ∷ g .received;
-      is = same-trans B (receives (family p) command A x) (receives (family p) command (DO-READ (family p) command (g .received)) x) s
-          (receives-same p command x A (DO-READ (family p) command (g .received)) (g .is));
-    }
-
-pub gathers-none : (p : Plan) (command : Command) (A : List Message) → A ≡ [] → Gathers p command A
-unfolding DO-READ
-gathers-none p command A e = record { received = []; is = λ y. ((λ h. subst (In y) e h), (λ h. subst (In y) (sym e) h)) }
+      ∙ response-slot p d (put d (i * recordLength p) rec) k (markOf ms k) (slot-other d rec (recordLength p) (p .n) i ld lr hi k q)) (p .n) hi (omega arith)

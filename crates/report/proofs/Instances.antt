@@ -4,10 +4,11 @@
 use Prim.{tt}
 use Prim.Native.Nat.{ℕ}
 use mathlib.Core.Path.{_≡_, refl, sym, ap, _∙_, subst}
-use mathlib.Core.Bool.{true}
+use mathlib.Core.Bool.{true, cond}
 use mathlib.Core.List.{List, [], _∷_}
 use mathlib.Core.Logic.{inl, inr}
-use lib.ListN.{replicate}
+use lib.Dec.{ltb}
+use lib.ListN.{length, replicate}
 use Rattle.octets.specs.Bytes.{part, put, over, num, numFrom, be, beOnto, alike}
 use Rattle.sha256.specs.Sha256.{sha256, after, compressOf, addedOf, roundsOf, roundOf, T1, T2, scheduleOf, words, padding, bigEndian, K}
 use Rattle.terms.specs.Ladder.{first, all}
@@ -47,16 +48,18 @@ use Rattle.store.specs.History.{Call}
 use Rattle.store.proofs.Node as theorems
 use Rattle.report.specs.Triple.{Message, Same}
 use Rattle.report.specs.Figure1.{INITIALIZE}
-use Rattle.report.specs.Ours.{history, bearing, responseOf, responses}
+use Rattle.report.specs.Ours.{family, verifierIn, history}
 use Rattle.client.specs.Turns as turns
 use Rattle.terms.proofs.Small.{small, small-octets}
-use Rattle.report.specs.Run.{received, closing, closedOver, EachTells, AllClose, Apart, AllApart}
-use Rattle.report.specs.WriteRun.{untimed, EachWrites}
+use Rattle.report.specs.Run.{received, Polled, unpolled, messageOf, polls, polledOver, EachTells, AllFull, Apart, AllApart}
+use Rattle.report.specs.WriteRun.{noneOf, untimed, EachWrites}
 use Rattle.report.proofs.Node.{write-acts, fresh-run}
 use Rattle.report.proofs.Run.{opened-read}
 use Rattle.report.proofs.Write.{opened-write}
 use Rattle.client.specs.Turns.{ReadTurn, WriteTurn, Calls}
 use Rattle.report.specs.Acts.{Executes, Added}
+use Rattle.report.specs.Figure1 as figure1
+use Rattle.report.specs.Figure3.{VALIDATE, in-time, has, with-it, receives, DO-READ, READ, ResponseSet}
 
 abbrev plan : Plan
 plan = record { n = 1; t = 0; b = 0; q = 1; m = 1; f = 1; member = Repairable; clients = Byzantine; w = 1 }
@@ -115,25 +118,29 @@ calls : Calls (ReadTurn plan) start desk (call ∷ [])
 unfolding call
 calls = ((small-octets reply reply-small, met), tt)
 
--- one round is closed, by one response
+-- one round is closed, by one message, which DO_READ takes
 heard-one : Message
-heard-one = bearing plan (put desk 0 rec) 0
+heard-one = messageOf plan reply
 
-closed-one : closing plan start reply desk 1 [] ≡ (heard-one ∷ []) ∷ []
-unfolding heard-one closing responses responseOf reply desk rec first planOk countsOk limitsOk columnOf all recordLength lengthsOk inRange standingRules openRules every heardCount slotsFit slotFits goodReply goodFrame shaped forParty oneOf bodyFits awaited askNow kindAwaited isHeard bears fragmentHash hashesOk underOf num numFrom part put be beOnto alike timeZero sha256 after compressOf addedOf roundsOf roundOf T1 T2 scheduleOf words padding bigEndian K
-closed-one = refl
+gathered-one : ResponseSet (family plan) [] (heard-one ∷ []) ≡ heard-one ∷ []
+unfolding heard-one READ DO-READ receives VALIDATE figure1.VALIDATE in-time has with-it verifierIn alike bears reply rec recordLength num numFrom part be beOnto sha256 after compressOf addedOf roundsOf roundOf T1 T2 scheduleOf words padding bigEndian K
+gathered-one = refl
+
+closed-one : polls plan start reply desk 1 unpolled ≡ record { rounds = (heard-one ∷ []) ∷ []; now = []; stored = [] }
+unfolding polls noneOf heard-one reply desk rec planOk countsOk limitsOk columnOf all recordLength lengthsOk inRange standingRules openRules every heardCount slotsFit slotFits goodReply goodFrame shaped forParty oneOf bodyFits awaited askNow kindAwaited isHeard bears timeZero num numFrom part put be beOnto
+closed-one = ap (λ (l : List Message). cond (ltb (length l) 1) (record { rounds = []; now = heard-one ∷ []; stored = [] }) (record { rounds = (heard-one ∷ []) ∷ []; now = []; stored = [] })) gathered-one
 
 one-apart : (m : Message) → Apart (m ∷ [])
-one-apart m x y (inl a) (inl b) e = ap (λ (z : Message). z .Response .CC) (a ∙ sym b)
-one-apart m x y (inl a) (inr b) e = absurd b
-one-apart m x y (inr a) k e = absurd a
+one-apart m x y (inl a) (inl b) t e = ap (λ (z : Message). z .Response .CC) (a ∙ sym b)
+one-apart m x y (inl a) (inr b) t e = absurd b
+one-apart m x y (inr a) k t e = absurd a
 
-apart : AllApart (closedOver plan start desk [] (call ∷ []))
+apart : AllApart plan (polledOver plan start desk unpolled (call ∷ []) .rounds)
 unfolding call
-apart = subst AllApart (sym closed-one) (one-apart heard-one, tt)
+apart = subst (λ (w : Polled). AllApart plan (w .rounds)) (sym closed-one) (subst Apart (sym gathered-one) (one-apart heard-one), tt)
 
 -- the theorem at this run: READ returns that timestamp and the item that is left, in one round
-pub read-so : EachTells plan start desk [] (call ∷ []) × AllClose plan (closedOver plan start desk [] (call ∷ []))
+pub read-so : EachTells plan start desk unpolled (call ∷ []) × AllFull plan (polledOver plan start desk unpolled (call ∷ []) .rounds)
 unfolding opened desk recordLength
 read-so = opened-read plan ask opened desk (call ∷ []) opens refl refl (small-octets desk desk-small) calls apart
 
@@ -177,7 +184,7 @@ unfolding opened-to-write
 write-so = opened-write plan ask opened-to-write desk (write-call ∷ []) opens-to-write refl write-calls
 
 -- and its write round is open
-storing-is : after-time .session .stage ≡ Storing
+storing-is : after-time .session .round .stage ≡ Storing
 unfolding after-time time-reply desk writeReply acceptedWrite timeTurn timeEnd first planOk countsOk limitsOk columnOf all recordLength lengthsOk inRange standingRules openRules every heardCount slotsFit slotFits goodReply goodFrame shaped forParty oneOf bodyFits awaited askNow kindAwaited isHeard num numFrom part be beOnto
 storing-is = refl
 

@@ -7,6 +7,7 @@ pub mod Sets
 pub mod Erasure
 pub mod Round
 pub mod Marks
+pub mod Gathers
 pub mod Hears
 pub mod Run
 pub mod Write

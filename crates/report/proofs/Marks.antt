@@ -119,7 +119,7 @@ module _ (p : Plan) (ms : List Mark) (d : List ℕ) where
         go (of-slot k h m a) (of-first b) =
             absurd (let z : stamp (slot k) ≡ 0 = ap (λ t. t .Response .ts) (sym a) ∙ e ∙ ap (λ t. t .ts) b in omega (arith, z, low k h m))
         go (of-slot k h m a) (of-slot j i w b) =
-            apart x y hx hy
+            apart x y hx hy e
             (ap (λ t. sha256 (t .Response .CC)) a ∙ hash-is k h m
             ∙ ap verifierIn (ap (λ t. t .Response .ts) (sym a) ∙ e ∙ ap (λ t. t .Response .ts) b)
             ∙ sym (hash-is j i w) ∙ ap (λ t. sha256 (t .Response .CC)) (sym b))

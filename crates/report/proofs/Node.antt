@@ -18,11 +18,10 @@ use Rattle.octets.specs.Bytes.{part, be, over, Octets}
 use Rattle.octets.proofs.Laws.{length-part}
 use Rattle.octets.proofs.Meaning.{octets-part, octets-drop}
 use Rattle.terms.proofs.Down as down
-use Rattle.terms.proofs.Rungs as rungs
 use Rattle.terms.proofs.Rungs.{both, clash}
 use Rattle.terms.specs.Ladder.{_and_, None}
 use Rattle.terms.specs.Stamp.{stamp, time}
-use Rattle.terms.specs.Terms.{planOk, recordLength}
+use Rattle.terms.specs.Terms.{recordLength}
 use Rattle.terms.specs.declared.Plan.{Plan}
 use Rattle.terms.specs.declared.Refusal.{Refusal}
 use Rattle.terms.proofs.Small.{strict}
@@ -36,7 +35,7 @@ use Rattle.book.proofs.Laid as laid
 use Rattle.book.proofs.Laws as books
 use Rattle.node.specs.declared.Answer.the-variants.{Refused, Replied}
 use Rattle.node.specs.declared.Answer.{Answer}
-use Rattle.node.specs.Node.{NodeCall, served, answered, sends, replyTo, saidServed, replied, refused, ServedOutcome, servedOutcome, nodeLadder, writes, bookReplyOk, timeFails, hashFails, otherHeld, noRoom}
+use Rattle.node.specs.Node.{NodeCall, served, answered, sends, replyTo, saidServed, replied, refused, ServedOutcome, servedOutcome, nodeLadder, writes, timeFails, hashFails}
 use Rattle.node.specs.declared.Made.the-variants.{Fresh}
 use Rattle.node.specs.Fresh.{FreshCall, FreshOutcome, freshOutcome, made, freshened, freshLadder}
 use Rattle.node.specs.Fresh as fresh

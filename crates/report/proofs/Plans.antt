@@ -1,14 +1,14 @@
 -- Table 2 and equations (2) and (3): a plan is accepted exactly when it is within document 01's ranges and Table 2 holds of it
 -- (accepted-is, accepted-back), and the two thresholds are the report's (equation-2, equation-3). Assumes nothing.
 use Prim.Native.Nat.{ℕ, _≤_, _<_}
-use mathlib.Core.Path.{_≡_, sym}
+use mathlib.Core.Path.{_≡_}
 use mathlib.Core.Bool.{true}
 use native.Mathlib.Omega.{arith}
 use Rattle.terms.specs.Terms.{planOk, COMPLETE, INCOMPLETE}
 use Rattle.terms.specs.declared.Plan.{Plan}
 use Rattle.terms.specs.declared.Member.{Member}
 use Rattle.terms.specs.declared.Member.the-variants.{Repairable, NonRepair}
-use Rattle.terms.proofs.Plans.{Column, column-back, plan-is, plan-back}
+use Rattle.terms.proofs.Plans.{Column, plan-is, plan-back}
 use Rattle.terms.proofs.Facts.{facts}
 use Rattle.report.specs.Table2.{Table2, surely-complete, surely-incomplete, Ranges, Table2-of}
 

@@ -113,7 +113,7 @@ module _ (p : Plan) (s : Session) (d i : List ℕ) (u : Full p s d i) where
     first-round : Decides p s d i (acted p s (close Nobody) d i) (LOOP (family p) set)
     unfolding closeWith actFor
     first-round =
-        subst (Decides p s d i (outcome (neverWritten (s .round)) (endedOf s) d i)) (sym first-decides)
+        subst (Decides p s d i (outcome (neverWritten (s .round .number)) (endedOf s) d i)) (sym first-decides)
         (record { never = λ z. (refl, refl); value = λ z. absurd (omega arith) })
 
   -- ---- a record of node a
@@ -296,8 +296,8 @@ module _ (p : Plan) (s : Session) (d i : List ℕ) (u : Full p s d i) where
         record {
           stamp = stampAt d (a * r);
           number = number-is;
-          next = λ l. rw (lt-leb (p .w) (s .round) l);
-          cut = λ l. rw (le-leb (p .w) (s .round) l);
+          next = λ l. rw (lt-leb (p .w) (s .round .number) l);
+          cut = λ l. rw (le-leb (p .w) (s .round .number) l);
         }
 
     -- ---- the decision, by the class of the set
@@ -315,12 +315,12 @@ module _ (p : Plan) (s : Session) (d i : List ℕ) (u : Full p s d i) where
     whole z = go (sound p (close (Node a)) a d) (valid-is z)
       where
         go : (t : Bool) → valid ≡ t → Decides p s d i
-            (cond t (outcome (done (stampNumber (stampAt d (a * r))) (s .round)) (endedOf s) d (decoded p (close (Node a)) d i)) (failing p s (stampAt d (a * r)) d i))
+            (cond t (outcome (done (stampNumber (stampAt d (a * r))) (s .round .number)) (endedOf s) d (decoded p (close (Node a)) d i)) (failing p s (stampAt d (a * r)) d i))
             (cond valid (returned T (decodedFrom p cs)) (reading (READ-PREVIOUS T)))
         go true v =
             rw v (record {
               never = λ w. absurd (omega (arith, w, low));
-              value = λ w. λ j. outcome (done (number-is j) (s .round)) (endedOf s) d (sym decode-is j);
+              value = λ w. λ j. outcome (done (number-is j) (s .round .number)) (endedOf s) d (sym decode-is j);
             })
         go false v = rw v fails
 

@@ -4,136 +4,173 @@
 --   write-done-so      WRITE, up to done
 -- Assumes nothing.
 use Prim.{tt}
-use Prim.Native.Nat.{ℕ}
 use mathlib.Core.Path.{_≡_, refl, sym, ap, _∙_, subst}
-use mathlib.Core.Bool.{Bool, true, false, cond}
+use mathlib.Core.Bool.{true, false, cond, Bool}
 use mathlib.Core.List.{List, [], _∷_}
 use mathlib.Core.Logic.{inl, inr}
-use native.Mathlib.Omega.{arith}
-use lib.ListN.{getD}
-use Rattle.octets.specs.Bytes.{part, num, numFrom, be, beOnto}
+use borrow.Author.Tests.{eqb-false}
+use lib.Dec.{ltb, eqb}
+use lib.ListN.{length}
+use Rattle.octets.specs.Bytes.{part, num, numFrom, be, beOnto, alike}
 use Rattle.sha256.specs.Sha256.{sha256, after, compressOf, addedOf, roundsOf, roundOf, T1, T2, scheduleOf, words, padding, bigEndian, K}
-use Rattle.terms.specs.Ladder.{Rung, first, all}
+use Rattle.terms.specs.Ladder.{all}
 use Rattle.terms.specs.Stamp.{then, stampAt, stampNumber}
 use Rattle.terms.specs.Terms.{planOk, countsOk, limitsOk, columnOf, recordLength}
 use Rattle.frame.specs.Frame.{shaped, bodyFits, forParty, oneOf, goodFrame, goodReply}
-use Rattle.record.specs.Record.{crossOf}
-use Rattle.record.specs.Desk.{slotOf}
+use Rattle.record.specs.Record.{timeZero}
 use Rattle.rounds.specs.Rounds.{heardCount, every, slotStamp, slotsFit, slotFits, underOf}
-use Rattle.session.specs.declared.Session.{Session}
-use Rattle.session.specs.declared.Operation.the-variants.{Read}
 use Rattle.session.specs.Session.{askNow, kindAwaited}
 use Rattle.session.specs.Ranges.{standingRules, openRules, inRange}
-use Rattle.session.specs.Reply.{lengthsOk, awaited, isHeard, bears, replyLadder, recordLadder}
+use Rattle.session.specs.Reply.{lengthsOk, awaited, bears, readLadder}
 use Rattle.client.specs.Turns.{Turn}
 use Rattle.terms.proofs.Small.{small, small-octets}
 use Rattle.client.proofs.Instances.Read as reads
 use Rattle.client.proofs.Instances.Read.{plan, ask, hash, poor, stamp-bytes, good, desk, desk-poor, desk-good, desk-full, desk-long}
 use Rattle.client.proofs.Instances.Write as writes
-use Rattle.report.specs.Triple.{Message}
-use Rattle.report.specs.Figure1.{initial}
-use Rattle.report.specs.Ours.{bearing, responseOf, responses}
-use Rattle.report.specs.Run.{closing, closedOver, EachTells, AllClose, Apart, AllApart}
-use Rattle.report.specs.WriteRun.{untimed, EachWrites}
-use Rattle.report.proofs.Run.{opened-read}
+use Rattle.report.specs.Triple.{Message, each}
+use Rattle.report.specs.Ours.{family, verifierIn}
+use Rattle.report.specs.Run.{Polled, unpolled, messageOf, polls, polledOver, EachTells, AllFull, Apart, AllApart}
+use Rattle.report.specs.WriteRun.{noneOf, isResponse, untimed, EachWrites}
+use Rattle.report.proofs.Run.{Keeps, opened-run, opened-read}
 use Rattle.report.proofs.Write.{opened-write}
+use Rattle.report.specs.Figure1 as figure1
+use Rattle.report.specs.Figure3.{READ-PREVIOUS, Decision, reading, VALIDATE, in-time, has, with-it, receives, DO-READ, READ, gathered, ResponseSet}
 
 -- ---- the read
 abbrev pub read-calls : List Turn
 read-calls = reads.call-1 ∷ reads.call-2 ∷ reads.call-3 ∷ reads.call-4 ∷ reads.call-5 ∷ reads.call-6 ∷ []
 
--- the response sets of its two rounds: a record of node 0, the first triple of node 1
-abbrev heard-in : List ℕ → List Message
-heard-in d = bearing plan d 0 ∷ record { S = 1; Response = initial } ∷ []
+-- the messages of its two rounds: a record of node 0, the first triple of node 1
+abbrev m1 : Message
+m1 = messageOf plan reads.reply-1
 
--- where a reply that is accepted closes no round, no reply does
-none-closed : (l : List Rung) (before after : List (List Message)) → after ≡ before → first l (λ (k : ℕ). before) after ≡ before
-unfolding first
-none-closed [] before after e = e
-none-closed (x ∷ l) before after e = go (x .applies) (none-closed l before after e)
-  where
-    go : (c : Bool) → first l (λ (k : ℕ). before) after ≡ before → cond c before (first l (λ (k : ℕ). before) after) ≡ before
-    go true more = refl
-    go false more = more
+abbrev m2 : Message
+m2 = messageOf plan reads.reply-2
 
-module _ (before : List (List Message)) where
-  abbrev Stays : Session → List ℕ → List ℕ → Type 0
-  Stays s f d = closing plan s f d 1 before ≡ before
+abbrev m3 : Message
+m3 = messageOf plan reads.reply-3
 
-  closing-1 : Stays reads.start reads.reply-1 desk
-  unfolding closing reads.reply-1 plan bears recordLength heardCount poor hash num numFrom part be beOnto
-  closing-1 = none-closed (replyLadder Read plan reads.start reads.reply-1 desk 1) before _ (none-closed (recordLadder plan reads.start reads.reply-1) before _ refl)
+abbrev m4 : Message
+m4 = messageOf plan reads.reply-4
 
-  closing-2 : closing plan reads.first-heard reads.reply-2 desk-poor 1 before ≡ heard-in desk-poor ∷ before
-  unfolding closing responses responseOf reads.reply-2 plan desk-poor poor hash first planOk countsOk limitsOk columnOf all recordLength lengthsOk inRange standingRules openRules every
-      heardCount slotsFit slotFits slotStamp goodReply goodFrame shaped forParty oneOf bodyFits awaited askNow kindAwaited isHeard bears underOf num numFrom part be beOnto
-  closing-2 = refl
+abbrev first-round : List (List Message)
+first-round = (m2 ∷ m1 ∷ []) ∷ []
 
-  closing-3 : Stays reads.second-round reads.reply-3 desk-poor
-  unfolding closing reads.reply-3 plan bears recordLength heardCount good stamp-bytes hash num numFrom part be beOnto
-  closing-3 = none-closed (replyLadder Read plan reads.second-round reads.reply-3 desk-poor 1) before _ (none-closed (recordLadder plan reads.second-round reads.reply-3) before _ refl)
+abbrev both-rounds : List (List Message)
+both-rounds = (m4 ∷ m3 ∷ []) ∷ first-round
 
-  closing-4 : closing plan reads.second-heard reads.reply-4 desk-good 1 before ≡ heard-in desk-good ∷ before
-  unfolding closing responses responseOf reads.reply-4 plan desk-poor poor desk-good good stamp-bytes hash first planOk countsOk limitsOk columnOf all recordLength lengthsOk inRange
-      standingRules openRules every heardCount slotsFit slotFits slotStamp goodReply goodFrame shaped forParty oneOf bodyFits awaited askNow kindAwaited isHeard bears underOf
-      num numFrom part be beOnto stampAt stampNumber then
-  closing-4 = refl
+-- what DO_READ gathers from them
+module _ where
+  set-1 : ResponseSet (family plan) [] (m1 ∷ []) ≡ m1 ∷ []
+  unfolding READ receives VALIDATE figure1.VALIDATE in-time has with-it verifierIn alike DO-READ bears recordLength plan num numFrom part be beOnto reads.reply-1 poor hash sha256 after compressOf addedOf roundsOf roundOf T1 T2 scheduleOf words padding bigEndian K
+  set-1 = refl
 
-  closing-5 : Stays reads.repair-round reads.reply-5 desk-full
-  unfolding closing
-  closing-5 = none-closed (replyLadder Read plan reads.repair-round reads.reply-5 desk-full 1) before _ (none-closed (recordLadder plan reads.repair-round reads.reply-5) before _ refl)
+  set-2 : ResponseSet (family plan) [] (m2 ∷ m1 ∷ []) ≡ m1 ∷ m2 ∷ []
+  unfolding READ receives VALIDATE figure1.VALIDATE in-time has with-it verifierIn alike DO-READ bears recordLength plan num numFrom part be beOnto reads.reply-1 reads.reply-2 poor hash sha256 after compressOf addedOf roundsOf roundOf T1 T2 scheduleOf words padding bigEndian K
+  set-2 = refl
 
-  closing-6 : Stays reads.once-stored reads.reply-6 desk-full
-  unfolding closing
-  closing-6 = none-closed (replyLadder Read plan reads.once-stored reads.reply-6 desk-full 1) before _ (none-closed (recordLadder plan reads.once-stored reads.reply-6) before _ refl)
+-- what was received after each call: N-t is 2
+abbrev at-rounds : List (List Message) → List Message → Polled
+at-rounds rounds now = record { rounds = rounds; now = now; stored = [] }
 
-closed-so : closedOver plan reads.start desk [] read-calls ≡ heard-in desk-good ∷ heard-in desk-poor ∷ []
-closed-so =
-    closing-6 _ ∙ closing-5 _ ∙ closing-4 _
-    ∙ ap (λ (x : List (List Message)). heard-in desk-good ∷ x) (closing-3 _ ∙ closing-2 _ ∙ ap (λ (x : List (List Message)). heard-in desk-poor ∷ x) (closing-1 []))
-
--- no two cross checksums of a set share a hash: their first bytes differ
-pair-apart : (m k : Message) → (sha256 (m .Response .CC) ≡ sha256 (k .Response .CC) → ⊥) → Apart (m ∷ k ∷ [])
-pair-apart m k unlike x y (inl a) (inl b) e = ap (λ (z : Message). z .Response .CC) (a ∙ sym b)
-pair-apart m k unlike x y (inl a) (inr (inl b)) e =
-    absurd (unlike (ap (λ (z : Message). sha256 (z .Response .CC)) (sym a) ∙ e ∙ ap (λ (z : Message). sha256 (z .Response .CC)) b))
-pair-apart m k unlike x y (inr (inl a)) (inl b) e =
-    absurd (unlike (sym (ap (λ (z : Message). sha256 (z .Response .CC)) (sym a) ∙ e ∙ ap (λ (z : Message). sha256 (z .Response .CC)) b)))
-pair-apart m k unlike x y (inr (inl a)) (inr (inl b)) e = ap (λ (z : Message). z .Response .CC) (a ∙ sym b)
-pair-apart m k unlike x y (inr (inr a)) j e = absurd a
-pair-apart m k unlike x y (inl a) (inr (inr b)) e = absurd b
-pair-apart m k unlike x y (inr (inl a)) (inr (inr b)) e = absurd b
+abbrev then-closed : List (List Message) → List Message → List Message → Polled
+then-closed before now set = cond (ltb (length set) 2) (at-rounds before now) (at-rounds (now ∷ before) [])
 
 module _ where
-  abbrev start-of : List ℕ → ℕ
-  start-of c = getD (sha256 c) 0 0
+  polls-1 : polls plan reads.start reads.reply-1 desk 1 unpolled ≡ at-rounds [] (m1 ∷ [])
+  unfolding polls noneOf reads.reply-1 plan desk poor hash planOk countsOk limitsOk columnOf all recordLength lengthsOk inRange standingRules openRules every heardCount slotsFit slotFits slotStamp goodReply goodFrame shaped forParty oneOf bodyFits awaited askNow kindAwaited bears underOf timeZero num numFrom part be beOnto
+  polls-1 = ap (then-closed [] (m1 ∷ [])) set-1
 
-  poor-starts : start-of (crossOf plan (slotOf plan desk-poor 0)) ≡ 123
-  unfolding plan desk-poor poor hash recordLength part sha256 after compressOf addedOf roundsOf roundOf T1 T2 scheduleOf words padding bigEndian K
-  poor-starts = refl
+  polls-2 : polls plan reads.first-heard reads.reply-2 desk-poor 1 (at-rounds [] (m1 ∷ [])) ≡ at-rounds first-round []
+  unfolding polls noneOf reads.reply-2 plan desk-poor poor hash planOk countsOk limitsOk columnOf all recordLength lengthsOk inRange standingRules openRules every heardCount slotsFit slotFits slotStamp goodReply goodFrame shaped forParty oneOf bodyFits awaited askNow kindAwaited bears underOf timeZero num numFrom part be beOnto
+  polls-2 = ap (then-closed [] (m2 ∷ m1 ∷ [])) set-2
 
-  good-starts : start-of (crossOf plan (slotOf plan desk-good 0)) ≡ 252
-  unfolding plan desk-good good stamp-bytes hash recordLength part sha256 after compressOf addedOf roundsOf roundOf T1 T2 scheduleOf words padding bigEndian K
-  good-starts = refl
+-- two timestamps, so that no two cross checksums stand under one
+pair-apart : (m k : Message) → (m .Response .ts ≡ k .Response .ts → ⊥) → Apart (m ∷ k ∷ [])
+pair-apart m k unlike x y (inl a) (inl b) t e = ap (λ (z : Message). z .Response .CC) (a ∙ sym b)
+pair-apart m k unlike x y (inl a) (inr (inl b)) t e =
+    absurd (unlike (ap (λ (z : Message). z .Response .ts) (sym a) ∙ t ∙ ap (λ (z : Message). z .Response .ts) b))
+pair-apart m k unlike x y (inr (inl a)) (inl b) t e =
+    absurd (unlike (sym (ap (λ (z : Message). z .Response .ts) (sym a) ∙ t ∙ ap (λ (z : Message). z .Response .ts) b)))
+pair-apart m k unlike x y (inr (inl a)) (inr (inl b)) t e = ap (λ (z : Message). z .Response .CC) (a ∙ sym b)
+pair-apart m k unlike x y (inr (inr a)) j t e = absurd a
+pair-apart m k unlike x y (inl a) (inr (inr b)) t e = absurd b
+pair-apart m k unlike x y (inr (inl a)) (inr (inr b)) t e = absurd b
 
-  none-starts : start-of [] ≡ 227
-  unfolding sha256 after compressOf addedOf roundsOf roundOf T1 T2 scheduleOf words padding bigEndian K
-  none-starts = refl
+module _ where
+  poor-later : eqb (m1 .Response .ts) (m2 .Response .ts) ≡ false
+  unfolding reads.reply-1 reads.reply-2 plan bears recordLength poor hash num numFrom part be beOnto
+  poor-later = refl
 
-apart-so : AllApart (heard-in desk-good ∷ heard-in desk-poor ∷ [])
-apart-so = (
-  pair-apart _ _ (λ e. let z : _≡_ {A = ℕ} 252 227 = sym good-starts ∙ ap (λ (l : List ℕ). getD l 0 0) e ∙ none-starts in omega arith),
-  (pair-apart _ _ (λ e. let z : _≡_ {A = ℕ} 123 227 = sym poor-starts ∙ ap (λ (l : List ℕ). getD l 0 0) e ∙ none-starts in omega arith), tt),
-)
+  good-later : eqb (m3 .Response .ts) (m4 .Response .ts) ≡ false
+  unfolding reads.reply-3 reads.reply-4 plan bears recordLength good stamp-bytes hash num numFrom part be beOnto
+  good-later = refl
 
 desk-small : small desk ≡ true
 unfolding small desk
 desk-small = refl
 
+apart-first : Apart (ResponseSet (family plan) [] (m2 ∷ m1 ∷ []))
+apart-first = subst Apart (sym set-2) (pair-apart m1 m2 (eqb-false (m1 .Response .ts) (m2 .Response .ts) poor-later))
+
+-- the theorem at the first two calls: READ is to ask for what is before node 0's record, whose cross checksum is not that of its fragments
+asks-previous : READ (family plan) first-round ≡ reading (READ-PREVIOUS (m1 .Response .ts))
+unfolding reads.reply-1 plan bears recordLength poor hash desk-poor num numFrom part be beOnto stampAt stampNumber then
+asks-previous = kept-two .decision
+  where
+    two-polled : polledOver plan reads.start desk unpolled (reads.call-1 ∷ reads.call-2 ∷ []) ≡ at-rounds first-round []
+    two-polled = ap (polls plan reads.first-heard reads.reply-2 desk-poor 1) polls-1 ∙ polls-2
+
+    kept-two : Keeps plan reads.second-round desk-poor (at-rounds first-round [])
+    kept-two =
+        subst (Keeps plan reads.second-round desk-poor) two-polled
+        (opened-run plan ask reads.opened desk (reads.call-1 ∷ reads.call-2 ∷ []) reads.opened-so refl desk-long (small-octets desk desk-small)
+        (reads.calls .0, (reads.calls .1 .0, tt)) (subst (λ (w : Polled). AllApart plan (w .rounds)) (sym two-polled) (apart-first, tt)) .keeps)
+
+module _ where
+  set-3 : ResponseSet (family plan) first-round (m3 ∷ []) ≡ m3 ∷ []
+  unfolding receives VALIDATE figure1.VALIDATE in-time has with-it verifierIn alike DO-READ bears recordLength plan num numFrom part be beOnto reads.reply-1 reads.reply-3 poor good stamp-bytes hash sha256 after compressOf addedOf roundsOf roundOf T1 T2 scheduleOf words padding bigEndian K
+  set-3 = ap (λ (x : Decision). gathered (family plan) x (m3 ∷ [])) asks-previous
+
+  set-4 : ResponseSet (family plan) first-round (m4 ∷ m3 ∷ []) ≡ m3 ∷ m4 ∷ []
+  unfolding receives VALIDATE figure1.VALIDATE in-time has with-it verifierIn alike DO-READ bears recordLength plan num numFrom part be beOnto reads.reply-1 reads.reply-3 reads.reply-4 poor good stamp-bytes hash sha256 after compressOf addedOf roundsOf roundOf T1 T2 scheduleOf words padding bigEndian K
+  set-4 = ap (λ (x : Decision). gathered (family plan) x (m4 ∷ m3 ∷ [])) asks-previous
+
+  polls-3 : polls plan reads.second-round reads.reply-3 desk-poor 1 (at-rounds first-round []) ≡ at-rounds first-round (m3 ∷ [])
+  unfolding polls noneOf reads.reply-3 plan desk-poor poor good stamp-bytes hash stampAt stampNumber then planOk countsOk limitsOk columnOf all recordLength lengthsOk inRange standingRules openRules every heardCount slotsFit slotFits slotStamp goodReply goodFrame shaped forParty oneOf bodyFits awaited askNow kindAwaited bears underOf timeZero num numFrom part be beOnto
+  polls-3 = ap (then-closed first-round (m3 ∷ [])) set-3
+
+  polls-4 : polls plan reads.second-heard reads.reply-4 desk-good 1 (at-rounds first-round (m3 ∷ [])) ≡ at-rounds both-rounds []
+  unfolding polls noneOf reads.reply-4 plan desk-poor desk-good poor good stamp-bytes hash stampAt stampNumber then planOk countsOk limitsOk columnOf all recordLength lengthsOk inRange standingRules openRules every heardCount slotsFit slotFits slotStamp goodReply goodFrame shaped forParty oneOf bodyFits awaited askNow kindAwaited bears underOf timeZero num numFrom part be beOnto
+  polls-4 = ap (then-closed first-round (m4 ∷ m3 ∷ [])) set-4
+
+  -- a repair round closes no more
+  stays : (t : Bool) (w v : Polled) → v .rounds ≡ w .rounds → cond t v w .rounds ≡ w .rounds
+  stays true w v e = e
+  stays false w v e = refl
+
+  polls-5 : (w : Polled) → polls plan reads.repair-round reads.reply-5 desk-full 1 w .rounds ≡ w .rounds
+  unfolding polls
+  polls-5 w = stays (isResponse (readLadder plan reads.repair-round reads.reply-5 desk-full 1)) w _ refl
+
+  polls-6 : (w : Polled) → polls plan reads.once-stored reads.reply-6 desk-full 1 w .rounds ≡ w .rounds
+  unfolding polls
+  polls-6 w = stays (isResponse (readLadder plan reads.once-stored reads.reply-6 desk-full 1)) w _ refl
+
+polled-so : polledOver plan reads.start desk unpolled read-calls .rounds ≡ both-rounds
+polled-so =
+    polls-6 _ ∙ polls-5 _
+    ∙ ap (λ (w : Polled). polls plan reads.second-heard reads.reply-4 desk-good 1 (polls plan reads.second-round reads.reply-3 desk-poor 1 (polls plan reads.first-heard reads.reply-2 desk-poor 1 w)) .rounds) polls-1
+    ∙ ap (λ (w : Polled). polls plan reads.second-heard reads.reply-4 desk-good 1 (polls plan reads.second-round reads.reply-3 desk-poor 1 w) .rounds) polls-2
+    ∙ ap (λ (w : Polled). polls plan reads.second-heard reads.reply-4 desk-good 1 w .rounds) polls-3 ∙ ap (λ (w : Polled). w .rounds) polls-4
+
+apart-so : AllApart plan both-rounds
+apart-so = (subst Apart (sym set-4) (pair-apart m3 m4 (eqb-false (m3 .Response .ts) (m4 .Response .ts) good-later)), (apart-first, tt))
+
 -- the theorem at this run
-pub read-repairs-so : EachTells plan reads.start desk [] read-calls × AllClose plan (closedOver plan reads.start desk [] read-calls)
+pub read-repairs-so : EachTells plan reads.start desk unpolled read-calls × AllFull plan (polledOver plan reads.start desk unpolled read-calls .rounds)
 read-repairs-so =
-    opened-read plan ask reads.opened desk read-calls reads.opened-so refl desk-long (small-octets desk desk-small) reads.calls (subst AllApart (sym closed-so) apart-so)
+    opened-read plan ask reads.opened desk read-calls reads.opened-so refl desk-long (small-octets desk desk-small) reads.calls (subst (AllApart plan) (sym polled-so) apart-so)
 
 -- ---- the write
 abbrev pub write-calls : List Turn

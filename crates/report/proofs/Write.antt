@@ -1,9 +1,11 @@
--- A WHOLE WRITE IS FIGURE 2'S. Over any calls from opening, the write round sends what WRITE sends for the times of the time round and the
--- item, and done bears WRITE's timestamp (write-run, opened-write). Assumes nothing.
+-- A WHOLE WRITE IS FIGURE 2'S. Over any calls from opening, the write round sends what WRITE sends for the responses of the time round and the
+-- item, done bears WRITE's timestamp, and open says that it has not returned (write-run, opened-write). Each frame that is a response is a turn of
+-- READ_TIMESTAMP's or DO_WRITE's loop, whether the call accepts it or refuses it 11 (response-right). Assumes nothing.
 use Prim.{Unit, tt}
 use Prim.Native.Nat.{ℕ, suc, _+_, _*_, _≤_, _<_}
 use mathlib.Core.Path.{_≡_, refl, sym, ap, _∙_, subst}
 use mathlib.Core.Bool.{Bool, true, false, cond, not}
+use mathlib.Core.Logic.{inl, inr}
 use mathlib.Core.List.{List, [], _∷_, _++_, append-nil, append-assoc}
 use native.Mathlib.Omega.{arith}
 use borrow.Author.Tests.{ltb-true, ltb-false, eqb-true, not-false}
@@ -13,11 +15,13 @@ use Rattle.octets.specs.Bytes.{part, num, be}
 use Rattle.octets.proofs.Laws.{length-be, part-all, part-middle}
 use Rattle.sha256.specs.Sha256.{sha256}
 use Rattle.sha256.proofs.Laws.{sha256-length}
-use Rattle.terms.specs.Ladder.{first, _and_, None}
+use Rattle.terms.specs.Ladder.{Rung, _and_, rung}
 use Rattle.terms.specs.Stamp.{stamp, time, stampNumber, top}
 use Rattle.terms.specs.declared.Plan.{Plan}
 use Rattle.terms.specs.declared.Ask.{Ask}
-use Rattle.terms.proofs.Down.{clear}
+use Rattle.terms.specs.Terms.{planOk}
+use Rattle.terms.proofs.Down.{Down, stop}
+use Rattle.terms.proofs.Ladders.{by-ladder, is-passed}
 use Rattle.terms.proofs.Rungs.{both, clash}
 use Rattle.terms.proofs.Plans.{plan-is}
 use Rattle.terms.proofs.Stamps.{stamp-at-number}
@@ -26,10 +30,11 @@ use Rattle.fragments.proofs.Theorems.{length-fragment}
 use Rattle.record.specs.Record.{crossOf, fragmentOf, fragmentHash}
 use Rattle.record.specs.Desk.{slotOf, crossMade, stampMade}
 use Rattle.record.proofs.Desks.{length-cross}
-use Rattle.frame.specs.Frame.{frameNode, bodyOf}
+use Rattle.frame.specs.Frame.{frameNode, bodyOf, goodReply}
+use Rattle.frame.proofs.Frames.{reply-is}
 use Rattle.rounds.specs.declared.Heard.the-variants.{Unheard, Record}
 use Rattle.rounds.specs.declared.Bound.the-variants.{Free}
-use Rattle.rounds.specs.Rounds.{heardCount, markOf}
+use Rattle.rounds.specs.Rounds.{heardCount, markOf, unheards}
 use Rattle.rounds.proofs.Laws.{not-heard, count-set}
 use Rattle.session.specs.declared.Session.{Session}
 use Rattle.session.specs.declared.Stage.{Stage}
@@ -40,19 +45,21 @@ use Rattle.session.specs.declared.opening.Opening.the-variants.{Accepted}
 use Rattle.session.specs.Opening.{OpenCall, freshOf}
 use Rattle.session.specs.Session.{isRead, isStoring, isEnded, replies, markedOf, endedOf, storingOf, refused, stillOpen, done, clockSpent, saidOf}
 use Rattle.session.specs.Ranges.{inRange}
-use Rattle.session.specs.Reply.{isHeard, replyLadder}
+use Rattle.session.specs.Reply.{lengthsOk, isHeard, replyLadder}
 use Rattle.session.specs.Writer.{timedOf, newTime, crossFor, stampFor, recordsFor, Leaves, leaves, timeEnd, timeTurn, writeTurn, acceptedWrite, writeReply}
-use Rattle.session.proofs.Checks.{none-applies, outcome-all, first-map}
-use Rattle.session.proofs.Made.{in-range-facts}
+use Rattle.session.proofs.Made.{in-range-facts, few-unheards}
+use Rattle.session.proofs.Rules.{Lengths, lengths-are}
 use Rattle.session.proofs.Openings.{accepted-session}
-use Rattle.session.proofs.Writers.{record-is, Taking, taking}
-use Rattle.report.specs.Triple.{Triple, Message, larger, MAX}
-use Rattle.report.specs.Figure2.{READ-TIMESTAMP, MAKE-CROSS-CHECKSUM, MAKE-TIMESTAMP, DO-WRITE, ts-written, WRITE}
+use Rattle.session.proofs.Writers.{record-is}
+use Rattle.report.specs.Triple.{Triple, Message, each, larger, MAX}
+use Rattle.report.specs.Figure2.{in-set, GATHERED, Clock, clocks, Times, acknowledged, READ-TIMESTAMP, MAKE-CROSS-CHECKSUM, MAKE-TIMESTAMP, DO-WRITE, ts-written, WRITE}
 use Rattle.report.specs.Ours.{family, stampedAs, bearing, sending}
 use Rattle.client.specs.Turns as turns
-use Rattle.report.specs.WriteRun.{Timed, untimed, timing, Wrote, Sending, EachWrites}
+use Rattle.report.specs.WriteRun.{Responses, untimed, isResponse, clockOf, timing, timedOver, Wrote, Sending, EachWrites}
+use Rattle.report.proofs.Gathers.{listed, off, all-off, put-in, kept-out, Marked, marked-none, marked-more}
 use Rattle.report.proofs.Lists.{strung-row, listed-same}
 use Rattle.client.specs.Turns.{WriteTurn, Calls}
+use Rattle.client.specs.Sessions.{lastSession, lastDesk}
 
 -- ---- the records of an item at a time are what DO_WRITE sends
 module _ (p : Plan) (t : ℕ) (i : List ℕ) (l : length i ≡ p .m * p .f) where
@@ -116,37 +123,48 @@ module _ (p : Plan) (t : ℕ) (i : List ℕ) (l : length i ≡ p .m * p .f) wher
       listed-same (bearing p (recordsFor p t i)) (λ (k : ℕ). message k (record { ts = ts; D = fragment (p .m) (p .f) i k; CC = CC })) (p .n) sends-one
 
 -- ---- what is known between two calls
-pub record Times (p : Plan) (s : Session) (w : Timed) : Type 0 where
-  pub greatest : s .greatest .0 ≡ MAX (w .Times)
-  pub count : heardCount (s .marks) ≡ length (w .Times)
+-- in the time round: the greatest time and the marks are those of READ_TIMESTAMP's response set
+pub record Asks (p : Plan) (s : Session) (w : Responses) : Type 0 where
+  pub greatest : s .greatest .0 ≡ MAX (Times (clocks (w .times)))
+  pub marked : Marked (λ (x : Clock). x .S) (s .marks) (clocks (w .times))
+  pub size : length (s .marks) ≡ 16
+  pub unstored : w .stored ≡ []
+
+-- in the write round: the desk holds what DO_WRITE sends, and the marks are those of its response set
+pub record Stores (p : Plan) (s : Session) (d : List ℕ) (w : Responses) : Type 0 where
+  pub sends : Sending p s d w
+  pub marked : Marked (λ (S : ℕ). S) (s .marks) (acknowledged (w .stored))
   pub size : length (s .marks) ≡ 16
 
-abbrev pub KeepsAt : Stage → Plan → Session → List ℕ → Timed → Type 0
-KeepsAt Asking p s d w = Times p s w
-KeepsAt Storing p s d w = Sending p s d w × (length (s .marks) ≡ 16)
+abbrev pub KeepsAt : Stage → Plan → Session → List ℕ → Responses → Type 0
+KeepsAt Asking p s d w = Asks p s w
+KeepsAt Storing p s d w = Stores p s d w
 KeepsAt Ended p s d w = Unit {0}
 
-abbrev pub Keeps : Plan → Session → List ℕ → Timed → Type 0
-Keeps p s d w = KeepsAt (s .stage) p s d w
+abbrev pub Keeps : Plan → Session → List ℕ → Responses → Type 0
+Keeps p s d w = KeepsAt (s .round .stage) p s d w
 
-pub record Right (p : Plan) (o : Leaves) (w : Timed) : Type 0 where
+pub record Right (p : Plan) (o : Leaves) (w : Responses) : Type 0 where
   pub keeps : Keeps p (o .session) (o .desk) w
-  pub wrote : Wrote p (o .session) (o .said) w
+  pub wrote : Wrote p (o .said) w
 
--- ---- a time round after a reply; no more than N-t were heard
-module _ (p : Plan) (s : Session) (d i : List ℕ) (ts : List ℕ) (st : s .stage ≡ Asking) (li : length i ≡ p .m * p .f)
-    (few : heardCount (s .marks) ≤ replies p) where
-  abbrev with-item : Timed
-  with-item = record { Times = ts; Data = i }
+-- ---- a time round after a mark; no more than N-t were heard
+module _ (p : Plan) (s : Session) (d i : List ℕ) (ts : List Clock) (sd : List ℕ) (st : s .round .stage ≡ Asking) (ok : planOk p ≡ true)
+    (li : length i ≡ p .m * p .f) (few : heardCount (s .marks) ≤ replies p) where
+  abbrev with-item : Responses
+  with-item = record { times = ts; stored = sd; Data = i }
 
-  module _ (k : Times p s with-item) where
+  module _ (k : Asks p s with-item) where
+    none-stored : Marked (λ (S : ℕ). S) unheards (acknowledged sd)
+    none-stored = subst (λ (l : List ℕ). Marked (λ (S : ℕ). S) unheards (acknowledged l)) (sym (k .unstored)) (marked-none (λ (S : ℕ). S))
+
     sending-so : replies p ≤ heardCount (s .marks)
         → Sending p (storingOf s (stampFor p (newTime (s .greatest .0)) i)) (recordsFor p (newTime (s .greatest .0)) i) with-item
     unfolding ts-written WRITE READ-TIMESTAMP
     sending-so l =
-        let e : newTime (s .greatest .0) ≡ MAX ts + 1 = ap (λ (x : ℕ). x + 1) (k .greatest) in
+        let e : newTime (s .greatest .0) ≡ MAX (Times (clocks ts)) + 1 = ap (λ (x : ℕ). x + 1) (k .greatest) in
         record {
-          times = omega (arith, k .count, few, l);
+          times = omega (arith, k .marked .count, few, l);
           stamp = stamp-is p (newTime (s .greatest .0)) i li ∙ ap (λ (x : ℕ). MAKE-TIMESTAMP (family p) x (CC p (newTime (s .greatest .0)) i li)) e;
           sends = sends-are p (newTime (s .greatest .0)) i li
               ∙ ap (λ (x : ℕ). DO-WRITE (family p) (fragment (p .m) (p .f) i) (MAKE-TIMESTAMP (family p) x (CC p (newTime (s .greatest .0)) i li)) (CC p (newTime (s .greatest .0)) i li)) e;
@@ -159,152 +177,237 @@ module _ (p : Plan) (s : Session) (d i : List ℕ) (ts : List ℕ) (st : s .stag
         go : (t : Bool) → eqb (s .greatest .0) top ≡ t
             → Right p (cond t (leaves clockSpent (endedOf s) d)
             (leaves stillOpen (storingOf s (stampFor p (newTime (s .greatest .0)) i)) (recordsFor p (newTime (s .greatest .0)) i))) with-item
-        go true e = record { keeps = tt; wrote = sym (k .greatest) ∙ eqb-true (s .greatest .0) top e }
-        go false e = record { keeps = (sending-so l, refl); wrote = tt }
+        go true e = record { keeps = tt; wrote = (sym (k .greatest) ∙ eqb-true (s .greatest .0) top e, sending-so l .times) }
+        go false e =
+            record {
+              keeps = record { sends = sending-so l; marked = none-stored; size = refl };
+              wrote = inr (sending-so l .times, omega (arith, none-stored .count, ltb-true (heardCount unheards) (replies p) (few-unheards p ok)));
+            }
 
     times-on : Right p (timeTurn p s d i) with-item
     unfolding timeTurn
     times-on = go (ltb (heardCount (s .marks)) (replies p)) refl
       where
         go : (t : Bool) → ltb (heardCount (s .marks)) (replies p) ≡ t → Right p (cond t (leaves stillOpen s d) (timeEnd p s d i)) with-item
-        go true e = record { keeps = subst (λ (x : Stage). KeepsAt x p s d with-item) (sym st) k; wrote = tt }
+        go true e =
+            record {
+              keeps = subst (λ (x : Stage). KeepsAt x p s d with-item) (sym st) k;
+              wrote = inl (omega (arith, k .marked .count, ltb-true (heardCount (s .marks)) (replies p) e));
+            }
         go false e = time-ends (ltb-false (heardCount (s .marks)) (replies p) e)
 
--- ---- a write round after a reply
-writes-on : (p : Plan) (s : Session) (d : List ℕ) (w : Timed) → s .stage ≡ Storing → Sending p s d w × (length (s .marks) ≡ 16)
+-- ---- a write round after a mark
+writes-on : (p : Plan) (s : Session) (d : List ℕ) (w : Responses) → s .round .stage ≡ Storing → Stores p s d w
     → heardCount (s .marks) ≤ replies p → Right p (writeTurn p s d) w
 unfolding writeTurn
 writes-on p s d w st k most = go (ltb (heardCount (s .marks)) (replies p)) refl
   where
     go : (t : Bool) → ltb (heardCount (s .marks)) (replies p) ≡ t
         → Right p (cond t (leaves stillOpen s d) (leaves (done (stampNumber (s .stamp)) 0) (endedOf s) d)) w
-    go true e = record { keeps = subst (λ (x : Stage). KeepsAt x p s d w) (sym st) k; wrote = tt }
+    go true e =
+        record {
+          keeps = subst (λ (x : Stage). KeepsAt x p s d w) (sym st) k;
+          wrote = inr (k .sends .times, omega (arith, k .marked .count, ltb-true (heardCount (s .marks)) (replies p) e));
+        }
     go false e =
         let l = ltb-false (heardCount (s .marks)) (replies p) e in
-        record { keeps = tt; wrote = (k .0 .stamp, omega (arith, most, l)) }
+        record { keeps = tt; wrote = (k .sends .stamp, omega (arith, k .marked .count, most, l)) }
 
--- ---- a call
-pub record Turn : Type 0 where
-  pub now : Leaves
-  pub timed : Timed
+-- ---- a frame
+module _ (p : Plan) (s : Session) (f d i : List ℕ) (w : Responses) where
+  abbrev ladder : List Rung
+  ladder = replyLadder Write p s f d (length i)
 
-abbrev turn : Leaves → Timed → Turn
-turn o w = record { now = o; timed = w }
+  abbrev refuse : ℕ → Leaves
+  refuse j = leaves (refused j) s d
 
-module _ (p : Plan) (s : Session) (f d i : List ℕ) (w : Timed) where
-  abbrev refuse : ℕ → Turn
-  refuse j = turn (leaves (refused j) s d) w
+  abbrev node : ℕ
+  node = frameNode f
 
-  abbrev heardTime : Timed
-  heardTime = record { Times = time (bodyOf f) ∷ w .Times; Data = i }
+  -- a response to the open round
+  module _ (g : isResponse ladder ≡ true) where
+    c : (k : ℕ) → listed k (1 ∷ 2 ∷ 9 ∷ 14 ∷ 4 ∷ 10 ∷ []) ≡ true → rung k ladder ≡ false
+    c = off (1 ∷ 2 ∷ 9 ∷ 14 ∷ 4 ∷ 10 ∷ []) ladder g
 
-  abbrev taken : Turn
-  taken =
-      cond (isStoring (s .stage)) (turn (writeTurn p (markedOf s (frameNode f) Record) d) w)
-      (turn (timeTurn p (timedOf s (frameNode f) (time (bodyOf f))) d i) heardTime)
+    plan-ok : planOk p ≡ true
+    plan-ok = not-false (planOk p) (c 1 refl)
 
-  abbrev turned : Turn
-  turned = first (replyLadder Write p s f d (length i)) refuse taken
-
-  turned-now : turned .now ≡ writeReply p s f d i
-  unfolding writeReply acceptedWrite
-  turned-now =
-      first-map (λ (t : Turn). t .now) (replyLadder Write p s f d (length i)) refuse taken
-      ∙ ap (first (replyLadder Write p s f d (length i)) (λ (j : ℕ). leaves (refused j) s d)) (go (isStoring (s .stage)))
-    where
-      go : (t : Bool) → cond t (turn (writeTurn p (markedOf s (frameNode f) Record) d) w) (turn (timeTurn p (timedOf s (frameNode f) (time (bodyOf f))) d i) heardTime) .now
-          ≡ cond t (writeTurn p (markedOf s (frameNode f) Record) d) (timeTurn p (timedOf s (frameNode f) (time (bodyOf f))) d i)
-      go true = refl
-      go false = refl
-
-  turned-timed : turned .timed ≡ timing p s f d i w
-  unfolding timing
-  turned-timed =
-      first-map (λ (t : Turn). t .timed) (replyLadder Write p s f d (length i)) refuse taken
-      ∙ ap (first (replyLadder Write p s f d (length i)) (λ (j : ℕ). w)) (go (isStoring (s .stage)))
-    where
-      go : (t : Bool) → cond t (turn (writeTurn p (markedOf s (frameNode f) Record) d) w) (turn (timeTurn p (timedOf s (frameNode f) (time (bodyOf f))) d i) heardTime) .timed
-          ≡ cond t w heardTime
-      go true = refl
-      go false = refl
-
-  module _ (keep : Keeps p s d w) (e : first (replyLadder Write p s f d (length i)) (λ (j : ℕ). j) 0 ≡ 0) where
-    q : Taking p s f d (length i)
-    q = taking p s f d (length i) e
-
-    n : None (replyLadder Write p s f d (length i))
-    n = none-applies (replyLadder Write p s f d (length i)) refl e
+    lengths : Lengths p (length d) (length i)
+    lengths = lengths-are p (length d) (length i) (not-false (lengthsOk p (length d) (length i)) (c 2 refl))
 
     few : heardCount (s .marks) < replies p
     few =
-        let r = both (not (isRead (s .operation))) (inRange p s d) (not-false (not (isRead (s .operation)) and inRange p s d) (clear (replyLadder Write p s f d (length i)) n 9)) in
-        ltb-true (heardCount (s .marks)) (replies p) (in-range-facts p s d (r .1) (clear (replyLadder Write p s f d (length i)) n 14) .1 .few)
+        let r = both (not (isRead (s .operation))) (inRange p s d) (not-false (not (isRead (s .operation)) and inRange p s d) (c 9 refl)) in
+        ltb-true (heardCount (s .marks)) (replies p) (in-range-facts p s d (r .1) (c 14 refl) .1 .few)
 
-    no-mark : markOf (s .marks) (frameNode f) ≡ Unheard
-    unfolding isHeard
-    no-mark = not-heard (markOf (s .marks) (frameNode f)) (clear (replyLadder Write p s f d (length i)) n 11)
+    low : node < 16
+    low = let n16 = plan-is p plan-ok .n-high in omega (arith, reply-is p f (not-false (goodReply p f) (c 4 refl)) .node-low)
 
-    counted : length (s .marks) ≡ 16 → heardCount (set (s .marks) (frameNode f) (record { is = Record })) ≡ suc (heardCount (s .marks))
-    counted l =
-        let n16 = plan-is p (q .plan-ok) .n-high in
-        count-set (s .marks) (frameNode f) (record { is = Record }) (omega (arith, q .reply .node-low, l)) no-mark refl
+    again : isHeard s node ≡ true → refuse 11 ≡ writeReply p s f d i
+    unfolding writeReply
+    again h =
+        let at : Down {S = Unit {0}} (λ (u : Unit {0}). ladder) 11 =
+        record { start = tt; none = (c 1 refl, (c 2 refl, (c 9 refl, (c 14 refl, (c 4 refl, (c 10 refl, tt)))))) } in
+        stop refuse (acceptedWrite p s f d i) at h refl
 
-    module _ (k : Times p s w) where
-      times-after : Times p (timedOf s (frameNode f) (time (bodyOf f))) heardTime
-      unfolding MAX
-      times-after =
+    taken : isHeard s node ≡ false → writeReply p s f d i ≡ acceptedWrite p s f d i
+    unfolding writeReply
+    taken h = is-passed ladder refuse (acceptedWrite p s f d i) (c 1 refl, (c 2 refl, (c 9 refl, (c 14 refl, (c 4 refl, (c 10 refl, (h, tt)))))))
+
+    module _ (h : isHeard s node ≡ false) (l : length (s .marks) ≡ 16) where
+      unmarked : markOf (s .marks) node ≡ Unheard
+      unfolding isHeard
+      unmarked = not-heard (markOf (s .marks) node) h
+
+      most : heardCount (set (s .marks) node (record { is = Record })) ≤ replies p
+      most = omega (arith, few, count-set (s .marks) node (record { is = Record }) (omega (arith, low, l)) unmarked refl)
+
+    -- in the time round
+    module _ (st : s .round .stage ≡ Asking) (k : Asks p s w) where
+      abbrev with-time : Responses
+      with-time =
           record {
-            greatest = ap (λ (x : ℕ). larger x (time (bodyOf f))) (k .greatest);
-            count = counted (k .size) ∙ ap suc (k .count);
-            size = length-set (s .marks) (frameNode f) (record { is = Record }) ∙ k .size;
+            times = clockOf f ∷ w .times;
+            stored = w .stored;
+            Data = cond (in-set (λ (x : Clock). x .S) node (clocks (w .times))) (w .Data) i;
           }
 
-    taken-right : Right p (taken .now) (taken .timed)
-    taken-right = go (s .stage) refl
+      time-again : isHeard s node ≡ true → Right p (refuse 11) with-time
+      unfolding isHeard
+      time-again h =
+          let e = kept-out (λ (x : Clock). x .S) (clockOf f) (w .times) (k .marked .names node ∙ h) in
+          record {
+            keeps = subst (λ (x : Stage). KeepsAt x p s d with-time) (sym st)
+                (record {
+                  greatest = k .greatest ∙ ap (λ (l : List Clock). MAX (Times l)) (sym e);
+                  marked = subst (Marked (λ (x : Clock). x .S) (s .marks)) (sym e) (k .marked);
+                  size = k .size;
+                  unstored = k .unstored;
+                });
+            wrote = tt;
+          }
+
+      time-right : isHeard s node ≡ false → Right p (timeTurn p (timedOf s node (time (bodyOf f))) d i) with-time
+      unfolding isHeard MAX Times each
+      time-right h =
+          let u = k .marked .names node ∙ h in
+          let e = put-in (λ (x : Clock). x .S) (clockOf f) (w .times) u in
+          subst (λ (t : Bool). Right p (timeTurn p (timedOf s node (time (bodyOf f))) d i)
+          (record { times = clockOf f ∷ w .times; stored = w .stored; Data = cond t (w .Data) i })) (sym u)
+          (times-on p (timedOf s node (time (bodyOf f))) d i (clockOf f ∷ w .times) (w .stored) st plan-ok (lengths .item-is) (most h (k .size))
+          (record {
+            greatest = ap (λ (x : ℕ). larger x (time (bodyOf f))) (k .greatest) ∙ ap (λ (l : List Clock). MAX (Times l)) (sym e);
+            marked = subst (Marked (λ (x : Clock). x .S) (set (s .marks) node (record { is = Record }))) (sym e)
+                (marked-more (λ (x : Clock). x .S) (s .marks) (clocks (w .times)) (clockOf f) node refl (omega (arith, low, k .size)) (unmarked h (k .size)) (k .marked));
+            size = length-set (s .marks) node (record { is = Record }) ∙ k .size;
+            unstored = k .unstored;
+          }))
+
+    -- in the write round
+    module _ (st : s .round .stage ≡ Storing) (k : Stores p s d w) where
+      abbrev with-ack : Responses
+      with-ack = record { times = w .times; stored = node ∷ w .stored; Data = w .Data }
+
+      ack-again : isHeard s node ≡ true → Right p (refuse 11) with-ack
+      unfolding isHeard
+      ack-again h =
+          record {
+            keeps = subst (λ (x : Stage). KeepsAt x p s d with-ack) (sym st)
+                (record {
+                  sends = record { times = k .sends .times; stamp = k .sends .stamp; sends = k .sends .sends };
+                  marked = subst (Marked (λ (S : ℕ). S) (s .marks)) (sym (kept-out (λ (S : ℕ). S) node (w .stored) (k .marked .names node ∙ h))) (k .marked);
+                  size = k .size;
+                });
+            wrote = tt;
+          }
+
+      ack-right : isHeard s node ≡ false → Right p (writeTurn p (markedOf s node Record) d) with-ack
+      unfolding isHeard
+      ack-right h =
+          writes-on p (markedOf s node Record) d with-ack st
+          (record {
+            sends = record { times = k .sends .times; stamp = k .sends .stamp; sends = k .sends .sends };
+            marked = subst (Marked (λ (S : ℕ). S) (set (s .marks) node (record { is = Record })))
+                (sym (put-in (λ (S : ℕ). S) node (w .stored) (k .marked .names node ∙ h)))
+                (marked-more (λ (S : ℕ). S) (s .marks) (acknowledged (w .stored)) node node refl (omega (arith, low, k .size)) (unmarked h (k .size)) (k .marked));
+            size = length-set (s .marks) node (record { is = Record }) ∙ k .size;
+          })
+          (most h (k .size))
+
+    response-right : Keeps p s d w
+        → Right p (writeReply p s f d i)
+        (cond (isStoring (s .round .stage)) (record { times = w .times; stored = node ∷ w .stored; Data = w .Data })
+        (record { times = clockOf f ∷ w .times; stored = w .stored; Data = cond (in-set (λ (x : Clock). x .S) node (clocks (w .times))) (w .Data) i }))
+    unfolding acceptedWrite
+    response-right keep = go (s .round .stage) refl (isHeard s node) refl
       where
-        go : (x : Stage) → s .stage ≡ x
-            → Right p (cond (isStoring x) (turn (writeTurn p (markedOf s (frameNode f) Record) d) w) (turn (timeTurn p (timedOf s (frameNode f) (time (bodyOf f))) d i) heardTime) .now)
-            (cond (isStoring x) (turn (writeTurn p (markedOf s (frameNode f) Record) d) w) (turn (timeTurn p (timedOf s (frameNode f) (time (bodyOf f))) d i) heardTime) .timed)
-        go Asking st =
-            let k : Times p s w = subst (λ (x : Stage). KeepsAt x p s d w) st keep in
-            times-on p (timedOf s (frameNode f) (time (bodyOf f))) d i (time (bodyOf f) ∷ w .Times) st (q .lengths .item-is)
-            (omega (arith, counted (k .size), few)) (times-after k)
-        go Storing st =
-            let k : Sending p s d w × (length (s .marks) ≡ 16) = subst (λ (x : Stage). KeepsAt x p s d w) st keep in
-            writes-on p (markedOf s (frameNode f) Record) d w st
-            (record { times = k .0 .times; stamp = k .0 .stamp; sends = k .0 .sends }, length-set (s .marks) (frameNode f) (record { is = Record }) ∙ k .1)
-            (omega (arith, counted (k .1), few))
-        go Ended st = absurd (clash (sym (ap isEnded st) ∙ (clear (replyLadder Write p s f d (length i)) n 14)))
+        go : (x : Stage) → s .round .stage ≡ x → (t : Bool) → isHeard s node ≡ t
+            → Right p (writeReply p s f d i)
+            (cond (isStoring x) (record { times = w .times; stored = node ∷ w .stored; Data = w .Data })
+            (record { times = clockOf f ∷ w .times; stored = w .stored; Data = cond (in-set (λ (x : Clock). x .S) node (clocks (w .times))) (w .Data) i }))
+        go Asking st true h =
+            let k : Asks p s w = subst (λ (x : Stage). KeepsAt x p s d w) st keep in
+            subst (λ (o : Leaves). Right p o (with-time st k)) (again h) (time-again st k h)
+        go Asking st false h =
+            let k : Asks p s w = subst (λ (x : Stage). KeepsAt x p s d w) st keep in
+            subst (λ (o : Leaves). Right p o (with-time st k)) (sym (taken h ∙ rw (ap isStoring st))) (time-right st k h)
+        go Storing st true h =
+            let k : Stores p s d w = subst (λ (x : Stage). KeepsAt x p s d w) st keep in
+            subst (λ (o : Leaves). Right p o (with-ack st k)) (again h) (ack-again st k h)
+        go Storing st false h =
+            let k : Stores p s d w = subst (λ (x : Stage). KeepsAt x p s d w) st keep in
+            subst (λ (o : Leaves). Right p o (with-ack st k)) (sym (taken h ∙ rw (ap isStoring st))) (ack-right st k h)
+        go Ended st t h = absurd (clash (sym (ap isEnded st) ∙ c 14 refl))
+
+  -- any other frame is refused
+  other-right : isResponse ladder ≡ false → Keeps p s d w → Right p (writeReply p s f d i) w
+  unfolding writeReply
+  other-right e keep =
+      by-ladder (λ (o : Leaves). Right p o w) ladder refuse (acceptedWrite p s f d i) (λ j h. record { keeps = keep; wrote = tt })
+      (λ n. absurd (clash (sym (all-off (1 ∷ 2 ∷ 9 ∷ 14 ∷ 4 ∷ 10 ∷ []) ladder n) ∙ e)))
 
   call-right : Keeps p s d w → Right p (writeReply p s f d i) (timing p s f d i w)
-  call-right keep =
-      subst (λ (o : Leaves). Right p o (timing p s f d i w)) turned-now
-      (subst (λ (x : Timed). Right p (turned .now) x) turned-timed
-      (outcome-all (λ (t : Turn). Right p (t .now) (t .timed)) (replyLadder Write p s f d (length i)) refuse taken (λ j. record { keeps = keep; wrote = tt })
-      (λ e. taken-right keep e)))
+  unfolding timing
+  call-right keep = go (isResponse ladder) refl
+    where
+      go : (t : Bool) → isResponse ladder ≡ t
+          → Right p (writeReply p s f d i)
+          (cond t
+          (cond (isStoring (s .round .stage)) (record { times = w .times; stored = node ∷ w .stored; Data = w .Data })
+          (record { times = clockOf f ∷ w .times; stored = w .stored; Data = cond (in-set (λ (x : Clock). x .S) node (clocks (w .times))) (w .Data) i }))
+          w)
+      go true e = response-right e keep
+      go false e = other-right e keep
 
 -- ---- the run
-sent : (p : Plan) (s : Session) (d : List ℕ) (w : Timed) → s .stage ≡ Storing → Keeps p s d w → Sending p s d w
-sent p s d w e k = let q : Sending p s d w × (length (s .marks) ≡ 16) = subst (λ (y : Stage). KeepsAt y p s d w) e k in q .0
+sent : (p : Plan) (s : Session) (d : List ℕ) (w : Responses) → s .round .stage ≡ Storing → Keeps p s d w → Sending p s d w
+sent p s d w e k = let q : Stores p s d w = subst (λ (y : Stage). KeepsAt y p s d w) e k in q .sends
 
--- EACH CALL OF A WRITE SENDS AND TELLS WHAT FIGURE 2'S WRITE DOES
-pub write-run : (p : Plan) (s : Session) (d : List ℕ) (w : Timed) (cs : List turns.Turn) → Keeps p s d w → Calls (WriteTurn p) s d cs → EachWrites p s d w cs
-write-run p s d w [] k r = tt
+-- EACH CALL OF A WRITE SENDS AND TELLS WHAT FIGURE 2'S WRITE DOES; and what is known after them
+pub record Ran (p : Plan) (s : Session) (d : List ℕ) (w : Responses) (cs : List turns.Turn) : Type 0 where
+  pub tells : EachWrites p s d w cs
+  pub keeps : Keeps p (lastSession s cs) (lastDesk d cs) (timedOver p s d w cs)
+
+pub write-run : (p : Plan) (s : Session) (d : List ℕ) (w : Responses) (cs : List turns.Turn) → Keeps p s d w → Calls (WriteTurn p) s d cs → Ran p s d w cs
+write-run p s d w [] k r = record { tells = tt; keeps = k }
 write-run p s d w (c ∷ cs) k r =
-    let q : Right p (leaves (saidOf (c .took .answer)) (c .took .session) (c .deskLeft)) (timing p s (c .reply) d (c .item) w) =
-    subst (λ (o : Leaves). Right p o (timing p s (c .reply) d (c .item) w)) (sym (r .0 .1 .is)) (call-right p s (c .reply) d (c .item) w k) in (
-      q .wrote,
-      (λ e. sent p (c .took .session) (c .deskLeft) (timing p s (c .reply) d (c .item) w) e (q .keeps)),
-      write-run p (c .took .session) (c .deskLeft) (timing p s (c .reply) d (c .item) w) cs (q .keeps) (r .1),
-    )
+    let v : Responses = timing p s (c .reply) d (c .item) w in
+    let q : Right p (leaves (saidOf (c .took .answer)) (c .took .session) (c .deskLeft)) v =
+    subst (λ (o : Leaves). Right p o v) (sym (r .0 .1 .is)) (call-right p s (c .reply) d (c .item) w k) in
+    let t = write-run p (c .took .session) (c .deskLeft) v cs (q .keeps) (r .1) in
+    record { tells = (q .wrote, (λ e. sent p (c .took .session) (c .deskLeft) v e (q .keeps)), t .tells); keeps = t .keeps }
 
--- FROM OPENING: no time is heard yet
-pub opened-write : (p : Plan) (a : Ask) (r : Opened) (d : List ℕ) (cs : List turns.Turn) → OpenCall Write p a r → r .answer ≡ Accepted
-    → Calls (WriteTurn p) (r .session) d cs → EachWrites p (r .session) d untimed cs
-opened-write p a r d cs call e h = write-run p (r .session) d untimed cs start h
+-- FROM OPENING: nothing was received yet
+pub opened-write-run : (p : Plan) (a : Ask) (r : Opened) (d : List ℕ) (cs : List turns.Turn) → OpenCall Write p a r → r .answer ≡ Accepted
+    → Calls (WriteTurn p) (r .session) d cs → Ran p (r .session) d untimed cs
+opened-write-run p a r d cs call e h = write-run p (r .session) d untimed cs start h
   where
     fresh : Keeps p (freshOf Write 1 Free a) d untimed
-    fresh = record { greatest = unfold MAX in refl; count = unfold heardCount in refl; size = refl }
+    fresh = record { greatest = unfold MAX Times each GATHERED in refl; marked = marked-none (λ (x : Clock). x .S); size = refl; unstored = refl }
 
     start : Keeps p (r .session) d untimed
-    start = subst (λ (s : Session). Keeps p s d untimed) (sym (accepted-session Write p a r call e)) fresh
+    start = subst (λ (x : Session). Keeps p x d untimed) (sym (accepted-session Write p a r call e)) fresh
+
+pub opened-write : (p : Plan) (a : Ask) (r : Opened) (d : List ℕ) (cs : List turns.Turn) → OpenCall Write p a r → r .answer ≡ Accepted
+    → Calls (WriteTurn p) (r .session) d cs → EachWrites p (r .session) d untimed cs
+opened-write p a r d cs call e h = opened-write-run p a r d cs call e h .tells

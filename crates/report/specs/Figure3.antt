@@ -1,9 +1,10 @@
--- Figure 3 of CMU-PDL-03-105: client-side read operation pseudo-code. A line's number stands beside it. READ's loop is a recursion over the
--- response sets that DO_READ returned, the last one first.
+-- Figure 3 of CMU-PDL-03-105: client-side read operation pseudo-code. A line's number stands beside it. SEND and POLL are the network's: what
+-- POLL_FOR_RESPONSE gives in each round is given, the last one first, and READ's loop is a recursion over the rounds, the last one first.
 --   VALIDATE receives DO-READ    one turn of DO_READ's loop; DO_READ
 --   ts-candidate CandidateSet    CHOOSE_CANDIDATE
 --   VALIDATE-CANDIDATE-SET
---   Decision LOOP READ    what lines 3 to 24 decide of one response set; the whole read
+--   Decision LOOP         what lines 3 to 24 decide of one response set
+--   ResponseSet READ      the response set of the DO_READ that a read is in; the whole read
 -- Where document 01 closes a hole of the figure, (01) stands beside it. Assumes nothing.
 use Prim.Native.Nat.{ℕ}
 use mathlib.Core.Bool.{Bool, true, false, cond}
@@ -39,8 +40,10 @@ unfoldable pub has : ℕ → List Message → Bool
 has S [] = false
 has S (x ∷ xs) = eqb (x .S) S or has S xs
 
-abbrev pub with-it : Message → List Message → List Message
-with-it x ResponseSet = x ∷ ResponseSet
+-- ResponseSet ∪ ⟨S, Response⟩: the list of a response set goes by storage-node number
+unfoldable pub with-it : Message → List Message → List Message
+with-it x [] = x ∷ []
+with-it x (y ∷ ys) = cond (ltb (y .S) (x .S)) (y ∷ with-it x ys) (x ∷ y ∷ ys)
 
 unfoldable pub receives : Family → Command → List Message → Message → List Message
 receives f command ResponseSet x =
@@ -113,13 +116,24 @@ choose f cs ts =
 unfoldable pub LOOP : Family → List Message → Decision
 LOOP f ResponseSet = choose f (CandidateSet ResponseSet) (ts-candidate ResponseSet)  -- 3 to 24
 
--- a read that has returned goes no further
+-- a read that has returned goes no further, and gathers nothing
 abbrev pub goes-on : Family → Decision → List Message → Decision
-goes-on f (reading command) ResponseSet = LOOP f ResponseSet
-goes-on f (returned ts Data) ResponseSet = returned ts Data
-goes-on f (repaired sent ts Data) ResponseSet = repaired sent ts Data
-goes-on f ABORT ResponseSet = ABORT
+goes-on f (reading command) received = LOOP f (DO-READ f command received)
+goes-on f (returned ts Data) received = returned ts Data
+goes-on f (repaired sent ts Data) received = repaired sent ts Data
+goes-on f ABORT received = ABORT
 
+abbrev pub gathered : Family → Decision → List Message → List Message
+gathered f (reading command) received = DO-READ f command received
+gathered f (returned ts Data) received = []
+gathered f (repaired sent ts Data) received = []
+gathered f ABORT received = []
+
+-- from what was received in each round that has its N - t responses
 unfoldable pub READ : Family → List (List Message) → Decision
 READ f [] = reading READ-LATEST  -- 1
-READ f (ResponseSet ∷ before) = goes-on f (READ f before) ResponseSet  -- 2 to 25
+READ f (received ∷ before) = goes-on f (READ f before) received  -- 2 to 25
+
+-- and the response set of the DO_READ that it is in then
+abbrev pub ResponseSet : Family → List (List Message) → List Message → List Message
+ResponseSet f before received = gathered f (READ f before) received

@@ -145,21 +145,21 @@ module _ (p : Plan) (s : Session) (d : List ℕ) (a : ℕ) where
 
 -- ---- the ways that a closed round can go: four endings, with the desk as it is; the next round opens; a repair round opens
 pub record Ways (P : Outcome → Type 0) (p : Plan) (s : Session) (c : Closed) (d i : List ℕ) : Type 0 where
-  pub finds : (stamp : ℕ) (item : List ℕ) → P (outcome (done stamp (s .round)) (endedOf s) d item)
-  pub never : P (outcome (neverWritten (s .round)) (endedOf s) d i)
-  pub aborts : P (outcome (aborted (s .round)) (endedOf s) d i)
-  pub spends : p .w ≤ s .round → P (outcome (roundsSpent (s .round)) (endedOf s) d i)
-  pub next : (a : ℕ) → c .lead ≡ Node a → s .round < p .w → P (outcome stillOpen (nextOf s (c .stamp)) d i)
+  pub finds : (stamp : ℕ) (item : List ℕ) → P (outcome (done stamp (s .round .number)) (endedOf s) d item)
+  pub never : P (outcome (neverWritten (s .round .number)) (endedOf s) d i)
+  pub aborts : P (outcome (aborted (s .round .number)) (endedOf s) d i)
+  pub spends : p .w ≤ s .round .number → P (outcome (roundsSpent (s .round .number)) (endedOf s) d i)
+  pub next : (a : ℕ) → c .lead ≡ Node a → s .round .number < p .w → P (outcome stillOpen (nextOf s (c .stamp)) d i)
   pub repairs : (a : ℕ) → c .lead ≡ Node a → c .verdict ≡ Repair → P (outcome stillOpen (storingOf s (c .stamp)) (repaired p c a d) i)
 
 module _ (P : Outcome → Type 0) (p : Plan) (s : Session) (c : Closed) (d i : List ℕ) (w : Ways P p s c d i) where
   fails : (a : ℕ) → c .lead ≡ Node a → P (failing p s (c .stamp) d i)
   unfolding failing
-  fails a e = go (leb (p .w) (s .round)) refl
+  fails a e = go (leb (p .w) (s .round .number)) refl
     where
-      go : (t : Bool) → leb (p .w) (s .round) ≡ t → P (cond t (outcome (roundsSpent (s .round)) (endedOf s) d i) (outcome stillOpen (nextOf s (c .stamp)) d i))
-      go true f = w .spends (leb-true (p .w) (s .round) f)
-      go false f = w .next a e (leb-false (p .w) (s .round) f)
+      go : (t : Bool) → leb (p .w) (s .round .number) ≡ t → P (cond t (outcome (roundsSpent (s .round .number)) (endedOf s) d i) (outcome stillOpen (nextOf s (c .stamp)) d i))
+      go true f = w .spends (leb-true (p .w) (s .round .number) f)
+      go false f = w .next a e (leb-false (p .w) (s .round .number) f)
 
   acts : (a : ℕ) → c .lead ≡ Node a → (v : Verdict) → c .verdict ≡ v → P (actOn v p s c a d i)
   unfolding actOn

@@ -43,7 +43,7 @@ pub record Hearing (p : Plan) (s : Session) (f d : List ℕ) : Type 0 where
   pub plan-ok : planOk p ≡ true
   pub desk-is : length d ≡ p .n * recordLength p
   pub reads : isRead (s .operation) ≡ true
-  pub going : isEnded (s .stage) ≡ false
+  pub going : isEnded (s .round .stage) ≡ false
   pub reply : ReplyIs p f
   pub stands : StandingIs p s
   pub opens : OpenIs p s d
@@ -66,12 +66,12 @@ hearing p s f d item e =
 -- of a record: 5 and 12 do not apply
 record Fresh (p : Plan) (s : Session) (f : List ℕ) : Type 0 where
   timed : timeZero (bodyOf f) ≡ false
-  under : underOf (s .bound) (stamp (bodyOf f)) ≡ true
+  under : underOf (s .round .bound) (stamp (bodyOf f)) ≡ true
 
 fresh : (p : Plan) (s : Session) (f : List ℕ) → first (recordLadder p s f) (λ (j : ℕ). j) 0 ≡ 0 → bears p f ≡ true → Fresh p s f
 fresh p s f e b =
     let n = none-applies (recordLadder p s f) refl e in
-    record { timed = rw b at (n .0); under = not-false (underOf (s .bound) (stamp (bodyOf f))) (rw b at (n .1 .1 .0)) }
+    record { timed = rw b at (n .0); under = not-false (underOf (s .round .bound) (stamp (bodyOf f))) (rw b at (n .1 .1 .0)) }
 
 pub asking : (x : Stage) → isStoring x ≡ false → isEnded x ≡ false → isAsking x ≡ true
 asking Asking a b = refl
@@ -101,7 +101,7 @@ module _ (p : Plan) (s : Session) (f d i : List ℕ) (k : Kept p s d) where
         ended : Kept p (endedOf u) e
         ended = record { range = ended-in-range p (endedOf u) e (end-stands p u stood) refl; desk-is = long; clock = k .clock }
 
-        module _ (ask : isAsking (s .stage) ≡ true) (fits : slotsFit (u .marks) e (recordLength p) (s .bound) (p .n) ≡ true) where
+        module _ (ask : isAsking (s .round .stage) ≡ true) (fits : slotsFit (u .marks) e (recordLength p) (s .round .bound) (p .n) ≡ true) where
           still : ltb (heardCount (u .marks)) (replies p) ≡ true → Kept p u e
           still c =
               record {
@@ -114,18 +114,18 @@ module _ (p : Plan) (s : Session) (f d i : List ℕ) (k : Kept p s d) where
           stamped a l =
               let g : Led p u e a = led p u e a l in
               let best = candidate (u .marks) e (recordLength p) (p .n) a (g .leads) in
-              rw (g .stamp-is) (lead-time (u .marks) e (recordLength p) (s .bound) (p .n) a fits (lead-low p u e a g) (best .marked))
+              rw (g .stamp-is) (lead-time (u .marks) e (recordLength p) (s .round .bound) (p .n) a fits (lead-low p u e a g) (best .marked))
 
-          next : (a : ℕ) → closed p u e .lead ≡ Node a → u .round < p .w → Kept p (nextOf u (closed p u e .stamp)) e
+          next : (a : ℕ) → closed p u e .lead ≡ Node a → u .round .number < p .w → Kept p (nextOf u (closed p u e .stamp)) e
           next a l h =
               record {
                 range =
                     open-in-range p (nextOf u (closed p u e .stamp)) e
                     (record {
-                      low = le-leb 1 (u .round + 1) (omega arith);
-                      high = le-leb (u .round + 1) (p .w) (omega arith);
+                      low = le-leb 1 (u .round .number + 1) (omega arith);
+                      high = le-leb (u .round .number + 1) (p .w) (omega arith);
                       counted = rw (q .reads);
-                      bounded = rw (lt-ltb 1 (u .round + 1) (omega (arith, leb-true 1 (s .round) (q .stands .low)))) (le-leb 1 (closed p u e .stamp .time .0) (stamped a l));
+                      bounded = rw (lt-ltb 1 (u .round .number + 1) (omega (arith, leb-true 1 (s .round .number) (q .stands .low)))) (le-leb 1 (closed p u e .stamp .time .0) (stamped a l));
                       rest = rest-unheards (p .n);
                       opening = q .stands .opening;
                     })
@@ -162,7 +162,7 @@ module _ (p : Plan) (s : Session) (f d i : List ℕ) (k : Kept p s d) where
                         };
                   })
 
-    in-repair : isStoring (s .stage) ≡ true → Good (stored p s f d i)
+    in-repair : isStoring (s .round .stage) ≡ true → Good (stored p s f d i)
     unfolding stored
     in-repair t = go (ltb (heardCount (u Record .marks)) (replies p)) refl
       where
@@ -172,25 +172,25 @@ module _ (p : Plan) (s : Session) (f d i : List ℕ) (k : Kept p s d) where
         no-read Ended e = rw (q .reads)
 
         go : (c : Bool) → ltb (heardCount (u Record .marks)) (replies p) ≡ c
-            → Good (cond c (outcome stillOpen (u Record) d i) (outcome (done (stampNumber (s .stamp)) (s .round)) (endedOf (u Record)) d (collected p d i)))
+            → Good (cond c (outcome stillOpen (u Record) d i) (outcome (done (stampNumber (s .stamp)) (s .round .number)) (endedOf (u Record)) d (collected p d i)))
         go true c =
             record {
-              range = open-in-range p (u Record) d (stood Record) (heard-open p s (frameNode f) (s .greatest) d (no-read (s .stage) t) (q .opens) c);
+              range = open-in-range p (u Record) d (stood Record) (heard-open p s (frameNode f) (s .greatest) d (no-read (s .round .stage) t) (q .opens) c);
               desk-is = k .desk-is;
               clock = k .clock;
             }
         go false c = ended Record d (k .desk-is)
 
-    in-read : isStoring (s .stage) ≡ false → (bears p f ≡ true → Fresh p s f) → Good (heard p s f d i)
+    in-read : isStoring (s .round .stage) ≡ false → (bears p f ≡ true → Fresh p s f) → Good (heard p s f d i)
     unfolding heard
     in-read t w = go (bears p f) refl
       where
-        ask : isAsking (s .stage) ≡ true
-        ask = asking (s .stage) t (q .going)
+        ask : isAsking (s .round .stage) ≡ true
+        ask = asking (s .round .stage) t (q .going)
 
         fits : (b : Bool) → bears p f ≡ b
-            → slotsFit (u (cond b Record First) .marks) (cond b (put d (frameNode f * recordLength p) (bodyOf f)) d) (recordLength p) (s .bound) (p .n) ≡ true
-        fits = slots-after p f d (q .reply .node-low) (q .desk-is) (s .marks) (s .bound) (λ c. w c .timed) (λ c. w c .under) (rw (q .reads, ask) at (q .opens .slots))
+            → slotsFit (u (cond b Record First) .marks) (cond b (put d (frameNode f * recordLength p) (bodyOf f)) d) (recordLength p) (s .round .bound) (p .n) ≡ true
+        fits = slots-after p f d (q .reply .node-low) (q .desk-is) (s .marks) (s .round .bound) (λ c. w c .timed) (λ c. w c .under) (rw (q .reads, ask) at (q .opens .slots))
 
         go : (b : Bool) → bears p f ≡ b
             → Good (cond b (settled p (u Record) (put d (frameNode f * recordLength p) (bodyOf f)) i) (settled p (u First) d i))
@@ -200,9 +200,9 @@ module _ (p : Plan) (s : Session) (f d i : List ℕ) (k : Kept p s d) where
 
   accepts : first (replyLadder Read p s f d (length i)) (λ (j : ℕ). j) 0 ≡ 0 → first (recordLadder p s f) (λ (j : ℕ). j) 0 ≡ 0 → Good (accepted p s f d i)
   unfolding accepted
-  accepts e g = go (isStoring (s .stage)) refl
+  accepts e g = go (isStoring (s .round .stage)) refl
     where
-      go : (c : Bool) → isStoring (s .stage) ≡ c → Good (cond c (stored p s f d i) (heard p s f d i))
+      go : (c : Bool) → isStoring (s .round .stage) ≡ c → Good (cond c (stored p s f d i) (heard p s f d i))
       go true c = in-repair (hearing p s f d (length i) e) c
       go false c = in-read (hearing p s f d (length i) e) c (fresh p s f g)
 
@@ -214,5 +214,5 @@ module _ (p : Plan) (s : Session) (f d i : List ℕ) (k : Kept p s d) where
       (λ e. outcome-all Good (recordLadder p s f) (λ (j : ℕ). outcome (refused j) s d i) (accepted p s f d i) (λ j. k) (accepts e)))
 
 -- the round of every such session is 1 to W
-pub round-kept : (p : Plan) (s : Session) (d : List ℕ) → Kept p s d → (1 ≤ s .round) × (s .round ≤ p .w)
+pub round-kept : (p : Plan) (s : Session) (d : List ℕ) → Kept p s d → (1 ≤ s .round .number) × (s .round .number ≤ p .w)
 round-kept p s d k = let q = in-range-is p s d (inRange p s d) refl (k .range) in (q .round-low, q .round-high)

@@ -108,17 +108,17 @@ collected-is p d i x v = v ∙ rw (record-length p)
 
 -- ---- each way that a closed round can go
 module _ (p : Plan) (s : Session) (t : Timestamp) (d i : List ℕ) where
-  pub spent : (e : Session) → p .w ≤ s .round → e ≡ endedOf s → outcome (roundsSpent (s .round)) e d i ≡ failing p s t d i
+  pub spent : (e : Session) → p .w ≤ s .round .number → e ≡ endedOf s → outcome (roundsSpent (s .round .number)) e d i ≡ failing p s t d i
   unfolding failing
-  spent e h q = rw (le-leb (p .w) (s .round) h, q)
+  spent e h q = rw (le-leb (p .w) (s .round .number) h, q)
 
-  pub goes-on : (e : Session) → s .round < p .w → e ≡ nextOf s t → outcome stillOpen e d i ≡ failing p s t d i
+  pub goes-on : (e : Session) → s .round .number < p .w → e ≡ nextOf s t → outcome stillOpen e d i ≡ failing p s t d i
   unfolding failing
-  goes-on e h q = rw (lt-leb (p .w) (s .round) h, q)
+  goes-on e h q = rw (lt-leb (p .w) (s .round .number) h, q)
 
 module _ (p : Plan) (s : Session) (c : Closed) (a : ℕ) (d i : List ℕ) (v : Verdict) where
   pub act-done : (x : Bool) (e : Session) (y : List ℕ) → v ≡ Complete → x ≡ sound p c a d → x ≡ true → e ≡ endedOf s → y ≡ decoded p c d i
-      → outcome (done (stampNumber (c .stamp)) (s .round)) e d y ≡ actOn v p s c a d i
+      → outcome (done (stampNumber (c .stamp)) (s .round .number)) e d y ≡ actOn v p s c a d i
   unfolding actOn
   act-done x e y k f t q r = rw (k, ← f, t, q, r)
 
@@ -135,7 +135,7 @@ module _ (p : Plan) (s : Session) (c : Closed) (a : ℕ) (d i : List ℕ) (v : V
   unfolding actOn
   act-unsound x o k f t q = q ∙ rw (k, ← f, t)
 
-  pub act-aborted : (e : Session) → v ≡ Aborted → e ≡ endedOf s → outcome (aborted (s .round)) e d i ≡ actOn v p s c a d i
+  pub act-aborted : (e : Session) → v ≡ Aborted → e ≡ endedOf s → outcome (aborted (s .round .number)) e d i ≡ actOn v p s c a d i
   unfolding actOn
   act-aborted e k q = rw (k, q)
 
@@ -144,7 +144,7 @@ module _ (p : Plan) (s : Session) (c : Closed) (a : ℕ) (d i : List ℕ) (v : V
   act-incomplete o k q = q ∙ rw k
 
 module _ (p : Plan) (s : Session) (c : Closed) (d i : List ℕ) where
-  pub act-never : (e : Session) → c .lead ≡ Nobody → e ≡ endedOf s → outcome (neverWritten (s .round)) e d i ≡ acted p s c d i
+  pub act-never : (e : Session) → c .lead ≡ Nobody → e ≡ endedOf s → outcome (neverWritten (s .round .number)) e d i ≡ acted p s c d i
   unfolding actFor
   act-never e k q = rw (k, q)
 
@@ -227,15 +227,15 @@ module _ (p : Plan) (s m : Session) (f d i : List ℕ) (k n : ℕ) (e : k ≡ fr
   stored-open h = rw (lt-ltb (heardCount (markedOf s (frameNode f) Record .marks)) (replies p) (omega (arith, marks-are)), g, e)
 
   pub stored-done : (o : Session) (y : List ℕ) → p .n - p .t ≤ n → o ≡ endedOf m → y ≡ collected p d i
-      → outcome (done (stampNumber (s .stamp)) (s .round)) o d y ≡ stored p s f d i
+      → outcome (done (stampNumber (s .stamp)) (s .round .number)) o d y ≡ stored p s f d i
   unfolding stored
   stored-done o y h q r = rw (le-ltb (heardCount (markedOf s (frameNode f) Record .marks)) (replies p) (omega (arith, marks-are)), q, g, e, r)
 
-pub accept-stored : (p : Plan) (s : Session) (f d i : List ℕ) (x : Bool) (o : Outcome) → x ≡ isStoring (s .stage) → x ≡ true → o ≡ stored p s f d i → o ≡ accepted p s f d i
+pub accept-stored : (p : Plan) (s : Session) (f d i : List ℕ) (x : Bool) (o : Outcome) → x ≡ isStoring (s .round .stage) → x ≡ true → o ≡ stored p s f d i → o ≡ accepted p s f d i
 unfolding accepted
 accept-stored p s f d i x o e t q = q ∙ rw (← e, t)
 
-pub accept-heard : (p : Plan) (s : Session) (f d i : List ℕ) (x : Bool) (o : Outcome) → x ≡ isStoring (s .stage) → x ≡ false → o ≡ heard p s f d i → o ≡ accepted p s f d i
+pub accept-heard : (p : Plan) (s : Session) (f d i : List ℕ) (x : Bool) (o : Outcome) → x ≡ isStoring (s .round .stage) → x ≡ false → o ≡ heard p s f d i → o ≡ accepted p s f d i
 unfolding accepted
 accept-heard p s f d i x o e t q = q ∙ rw (← e, t)
 
@@ -289,37 +289,20 @@ closed-is p s d x high low e f q =
     ∙ ap (λ (r : ℕ). closeOf (s .marks) d (p .n) (headLength p) r (p .member) (COMPLETE p) (INCOMPLETE p)) (sym (record-length p))
 
 -- ---- rungs 5, 6, 12
-module _ (p : Plan) (s : Session) (f : List ℕ) (x : Bool) (b : x ≡ bears p f) where
-  pub no-record : x ≡ false → 0 ≡ first (recordLadder p s f) (λ (n : ℕ). n) 0
-  unfolding first
-  no-record t = rw (← b, t)
-
-  module _ (t : x ≡ true) (y : Bool) (z : y ≡ timeZero (bodyOf f)) where
-    pub zero-time : y ≡ true → 5 ≡ first (recordLadder p s f) (λ (n : ℕ). n) 0
-    unfolding first
-    zero-time e = rw (← b, t, ← z, e)
-
-    module _ (u : y ≡ false) (v : Bool) (w : v ≡ hashesOk p (frameNode f) (bodyOf f)) where
-      pub ill-hash : v ≡ false → 6 ≡ first (recordLadder p s f) (λ (n : ℕ). n) 0
-      unfolding first
-      ill-hash e = rw (← b, t, ← z, u, ← w, e)
-
-      module _ (g : v ≡ true) (o : Bool) (q : o ≡ underOf (s .bound) (stamp (bodyOf f))) where
-        pub too-high : o ≡ false → 12 ≡ first (recordLadder p s f) (λ (n : ℕ). n) 0
-        unfolding first
-        too-high e = rw (← b, t, ← z, u, ← w, g, ← q, e)
-
-        pub all-well : o ≡ true → 0 ≡ first (recordLadder p s f) (λ (n : ℕ). n) 0
-        unfolding first
-        all-well e = rw (← b, t, ← z, u, ← w, g, ← q, e)
+pub no-record : (p : Plan) (s : Session) (f : List ℕ) → bears p f ≡ false → 0 ≡ first (recordLadder p s f) (λ (n : ℕ). n) 0
+unfolding first
+no-record p s f t = rw t
 
 pub record-long : (p : Plan) → 40 ≤ recordLength p
 unfolding recordLength
 record-long p = omega arith
 
-pub hashes-at : (p : Plan) (f : List ℕ) (k : ℕ) (x : Bool) → x ≡ bears p f → x ≡ true → k ≡ frameNode f → (y : Bool)
-    → y ≡ hashesOk p k (part f 15 (recordLength p)) → y ≡ hashesOk p (frameNode f) (bodyOf f)
-hashes-at p f k x b t e y q = q ∙ ap₂ (hashesOk p) e (body-at p f (recordLength p) refl (bears-is p f x b t .1))
+pub bears-length : (p : Plan) (f : List ℕ) → bears p f ≡ true → length f ≡ 15 + recordLength p
+bears-length p f t = bears-is p f (bears p f) refl t .1
+
+pub hashes-at : (p : Plan) (f : List ℕ) (k : ℕ) → bears p f ≡ true → k ≡ frameNode f → (y : Bool) → y ≡ hashesOk p k (part f 15 (recordLength p))
+    → y ≡ hashesOk p (frameNode f) (bodyOf f)
+hashes-at p f k t e y q = q ∙ ap₂ (hashesOk p) e (body-at p f (recordLength p) refl (bears-length p f t))
 
 -- ---- a record in its slot
 pub slot-fits-desk : (p : Plan) (f d : List ℕ) (k r : ℕ) → goodReply p f ≡ true → k ≡ frameNode f → r ≡ recordLength p → length d ≡ p .n * recordLength p

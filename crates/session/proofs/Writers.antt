@@ -33,7 +33,7 @@ use Rattle.session.specs.declared.Session.{Session}
 use Rattle.session.specs.declared.Check.{Check}
 use Rattle.session.specs.declared.Check.the-variants.{Failed}
 use Rattle.session.specs.declared.Operation.the-variants.{Write}
-use Rattle.session.specs.Session.{isRead, isStoring, replies, askNow, kindAwaited, markedOf, endedOf, storingOf, refused, stillOpen, done, clockSpent}
+use Rattle.session.specs.Session.{withGreatest, withMarks, isRead, isStoring, replies, askNow, kindAwaited, markedOf, endedOf, storingOf, refused, stillOpen, done, clockSpent}
 use Rattle.session.specs.Ranges.{inRange}
 use Rattle.session.specs.Reply.{lengthsOk, awaited, replyLadder, checkNumber}
 use Rattle.session.specs.Writer.{laterOf, timedOf, newTime, crossFor, stampFor, recordsFor, leaves, timeEnd, timeTurn, writeTurn, acceptedWrite, writeReply}
@@ -42,29 +42,8 @@ use Rattle.session.proofs.Rules.{Lengths, lengths-are}
 
 -- the session after a time reply
 pub timed-is : (s : Session) (i t : ℕ) (g : Time) → g .0 ≡ laterOf (s .greatest .0) t
-    → _≡_ {A = Session}
-    (record {
-      operation = s .operation;
-      stage = s .stage;
-      round = s .round;
-      bound = s .bound;
-      opening = s .opening;
-      greatest = g;
-      stamp = s .stamp;
-      marks = set (s .marks) i (record { is = Record });
-    })
-    (timedOf s i t)
-timed-is s i t g e =
-    λ j. record {
-      operation = s .operation;
-      stage = s .stage;
-      round = s .round;
-      bound = s .bound;
-      opening = s .opening;
-      greatest = record { 0 = e j };
-      stamp = s .stamp;
-      marks = set (s .marks) i (record { is = Record });
-    }
+    → withMarks (withGreatest s g) (set (s .marks) i (record { is = Record })) ≡ timedOf s i t
+timed-is s i t g e = λ j. withMarks (withGreatest s (record { 0 = e j })) (set (s .marks) i (record { is = Record }))
 
 -- ---- the N records of an item, from its fragments in the slots
 module _ (p : Plan) (i d₀ d₁ c₀ c₁ : List ℕ) (r : ℕ) (er : r ≡ recordLength p) (li : length i ≡ p .m * p .f) (ld : length d₀ ≡ p .n * recordLength p)
@@ -161,7 +140,7 @@ taking p s f d item e =
     }
 
 -- a time round takes a time reply
-pub time-there : (p : Plan) (s : Session) (f d : List ℕ) (item : ℕ) → Taking p s f d item → isStoring (s .stage) ≡ false → length f ≡ 23
+pub time-there : (p : Plan) (s : Session) (f d : List ℕ) (item : ℕ) → Taking p s f d item → isStoring (s .round .stage) ≡ false → length f ≡ 23
 unfolding awaited kindAwaited
 time-there p s f d item q g =
     let a = both (answersTo f (askNow s) (kindAwaited s)) _ (q .awaits) in
@@ -171,7 +150,7 @@ time-there p s f d item q g =
 
 -- ---- the outcome
 module _ (p : Plan) (s : Session) (f d i : List ℕ) where
-  module _ (x : Bool) (g : x ≡ isStoring (s .stage)) (n : ℕ) (m : n ≡ frameNode f) where
+  module _ (x : Bool) (g : x ≡ isStoring (s .round .stage)) (n : ℕ) (m : n ≡ frameNode f) where
     pub in-write : x ≡ true → (u : Session) → u ≡ markedOf s n Record → writeTurn p u d ≡ acceptedWrite p s f d i
     unfolding acceptedWrite
     in-write e u v = rw (← g, e, v, m)

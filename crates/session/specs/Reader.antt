@@ -77,19 +77,19 @@ repaired p c a d = refilled d (headLength p) (recordLength p) (p .f) (lowest p c
 
 -- "Incomplete, or validation failed: the desk stays; the next round opens, or after round W the end is rounds spent"
 unfoldable pub failing : Plan → Session → Timestamp → List ℕ → List ℕ → Outcome
-failing p s t d i = cond (leb (p .w) (s .round)) (outcome (roundsSpent (s .round)) (endedOf s) d i) (outcome stillOpen (nextOf s t) d i)
+failing p s t d i = cond (leb (p .w) (s .round .number)) (outcome (roundsSpent (s .round .number)) (endedOf s) d i) (outcome stillOpen (nextOf s t) d i)
 
 unfoldable pub actOn : Verdict → Plan → Session → Closed → ℕ → List ℕ → List ℕ → Outcome
 actOn Complete p s c a d i =
-    cond (sound p c a d) (outcome (done (stampNumber (c .stamp)) (s .round)) (endedOf s) d (decoded p c d i)) (failing p s (c .stamp) d i)
+    cond (sound p c a d) (outcome (done (stampNumber (c .stamp)) (s .round .number)) (endedOf s) d (decoded p c d i)) (failing p s (c .stamp) d i)
 actOn Repair p s c a d i =
     cond (sound p c a d) (outcome stillOpen (storingOf s (c .stamp)) (repaired p c a d) i) (failing p s (c .stamp) d i)
-actOn Aborted p s c a d i = outcome (aborted (s .round)) (endedOf s) d i
+actOn Aborted p s c a d i = outcome (aborted (s .round .number)) (endedOf s) d i
 actOn Incomplete p s c a d i = failing p s (c .stamp) d i
 
 -- "First triple: never written"
 unfoldable pub actFor : Lead → Plan → Session → Closed → List ℕ → List ℕ → Outcome
-actFor Nobody p s c d i = outcome (neverWritten (s .round)) (endedOf s) d i
+actFor Nobody p s c d i = outcome (neverWritten (s .round .number)) (endedOf s) d i
 actFor (Node a) p s c d i = actOn (c .verdict) p s c a d i
 
 abbrev pub acted : Plan → Session → Closed → List ℕ → List ℕ → Outcome
@@ -111,10 +111,10 @@ heard p s f d i =
 unfoldable pub stored : Plan → Session → List ℕ → List ℕ → List ℕ → Outcome
 stored p s f d i =
     cond (ltb (heardCount (markedOf s (frameNode f) Record .marks)) (replies p)) (outcome stillOpen (markedOf s (frameNode f) Record) d i)
-    (outcome (done (stampNumber (s .stamp)) (s .round)) (endedOf (markedOf s (frameNode f) Record)) d (collected p d i))
+    (outcome (done (stampNumber (s .stamp)) (s .round .number)) (endedOf (markedOf s (frameNode f) Record)) d (collected p d i))
 
 unfoldable pub accepted : Plan → Session → List ℕ → List ℕ → List ℕ → Outcome
-accepted p s f d i = cond (isStoring (s .stage)) (stored p s f d i) (heard p s f d i)
+accepted p s f d i = cond (isStoring (s .round .stage)) (stored p s f d i) (heard p s f d i)
 
 -- one reply: the first refusal that applies hands back everything as it came; where none does, it is accepted
 unfoldable pub readReply : Plan → Session → List ℕ → List ℕ → List ℕ → Outcome

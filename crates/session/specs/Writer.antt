@@ -28,7 +28,7 @@ use Rattle.rounds.specs.Rounds.{heardCount}
 use Rattle.session.specs.declared.Session.{Session}
 use Rattle.session.specs.declared.Took.{Took}
 use Rattle.session.specs.declared.Operation.the-variants.{Write}
-use Rattle.session.specs.Session.{isStoring, replies, sessionWith, markedOf, endedOf, storingOf, Said, refused, stillOpen, done, clockSpent, saidOf}
+use Rattle.session.specs.Session.{isStoring, replies, withGreatest, withMarks, markedOf, endedOf, storingOf, Said, refused, stillOpen, done, clockSpent, saidOf}
 use Rattle.session.specs.Reply.{replyLadder}
 
 -- ---- times
@@ -37,9 +37,7 @@ laterOf a b = cond (ltb a b) b a
 
 -- "In a time or write round a heard node is marked 'record'"
 abbrev pub timedOf : Session → ℕ → ℕ → Session
-timedOf s i t =
-    sessionWith (s .operation) (s .stage) (s .round) (s .bound) (s .opening) (record { 0 = laterOf (s .greatest .0) t }) (s .stamp)
-    (set (s .marks) i (record { is = Record }))
+timedOf s i t = withMarks (withGreatest s (record { 0 = laterOf (s .greatest .0) t })) (set (s .marks) i (record { is = Record }))
 
 -- "the new time is the greatest reply plus 1"
 abbrev pub newTime : ℕ → ℕ
@@ -79,7 +77,7 @@ writeTurn p s d = cond (ltb (heardCount (s .marks)) (replies p)) (leaves stillOp
 
 unfoldable pub acceptedWrite : Plan → Session → List ℕ → List ℕ → List ℕ → Leaves
 acceptedWrite p s f d i =
-    cond (isStoring (s .stage)) (writeTurn p (markedOf s (frameNode f) Record) d) (timeTurn p (timedOf s (frameNode f) (time (bodyOf f))) d i)
+    cond (isStoring (s .round .stage)) (writeTurn p (markedOf s (frameNode f) Record) d) (timeTurn p (timedOf s (frameNode f) (time (bodyOf f))) d i)
 
 -- one reply: the first refusal that applies hands back everything as it came; where none does, it is accepted
 unfoldable pub writeReply : Plan → Session → List ℕ → List ℕ → List ℕ → Leaves

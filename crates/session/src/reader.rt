@@ -5,7 +5,6 @@ use crate::Check;
 use crate::Operation;
 use crate::Session;
 use crate::Took;
-use crate::storing;
 use rounds::Close;
 use rounds::Heard;
 use rounds::Lead;
@@ -113,7 +112,8 @@ impl Session {
         if !record::hashes_ok(p, frame::node_of(frame), frame, 15) {
             return Check::Failed(Refusal::HashFails);
         }
-        let b = self.bound;
+        let now = self.round;
+        let b = now.bound;
         if !rounds::under(b, frame, 15) {
             return Check::Failed(Refusal::NotBelow);
         }
@@ -125,7 +125,7 @@ impl Session {
         requires { ⌜ planOk p ≡ true ⌝ }
         ensures { λ r. ⌜ outcome (saidOf (r .answer)) (r .session) (now (desk .entry)) (now (item .entry)) ≡ failing p self t (now (desk .entry)) (now (item .entry)) ⌝ }
     {
-        let round = self.round;
+        let round = self.round.number;
         if round >= p.w {
             let s = self.over();
             return Took {
@@ -147,7 +147,7 @@ impl Session {
     {
         let v = c.verdict;
         let t = c.stamp;
-        let round = self.round;
+        let round = self.round.number;
         match v {
             Verdict::Complete => {
                 if !validate(p, c, a, &desk[..]) {
@@ -188,7 +188,7 @@ impl Session {
         ensures { λ r. ⌜ outcome (saidOf (r .answer)) (r .session) (now (desk .exit)) (now (item .exit)) ≡ acted p self (told c) (now (desk .entry)) (now (item .entry)) ⌝ }
     {
         let l = c.lead;
-        let round = self.round;
+        let round = self.round.number;
         match l {
             Lead::Nobody => {
                 let s = self.over();
@@ -246,7 +246,7 @@ impl Session {
     {
         let i = frame::node_of(frame) as usize;
         let t = self.stamp;
-        let round = self.round;
+        let round = self.round.number;
         let s = self.marked(i, Heard::Record);
         let marks = s.marks;
         if rounds::count(marks) < p.n - p.t {
@@ -268,8 +268,7 @@ impl Session {
         requires { ⌜ (planOk p ≡ true) × (goodReply p (now frame) ≡ true) × (length (now desk) ≡ p .n * recordLength p) × (length (now item) ≡ p .m * p .f) ⌝ }
         ensures { λ r. ⌜ outcome (saidOf (r .answer)) (r .session) (now (desk .exit)) (now (item .exit)) ≡ accepted p self (now (frame .entry)) (now (desk .entry)) (now (item .entry)) ⌝ }
     {
-        let s = self.stage;
-        if storing(s) {
+        if self.storing() {
             return self.keep(p, frame, &desk[..], item);
         }
         self.hear(p, frame, desk, item)

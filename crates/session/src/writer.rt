@@ -5,7 +5,6 @@ use crate::Check;
 use crate::Operation;
 use crate::Session;
 use crate::Took;
-use crate::storing;
 use rounds::Heard;
 use rounds::Mark;
 use terms::Plan;
@@ -59,28 +58,14 @@ fn write_records(p: Plan, at: Time, item: &[u8], desk: &mut [u8], cross: &mut [u
 
 impl Session {
     // Node i heard, with a time.
-    fn timed(self, i: usize, t: Time) -> Session
+    fn timed(mut self, i: usize, t: Time) -> Session
         requires { ⌜ i < 16 ⌝ }
         ensures { λ r. ⌜ r ≡ timedOf self i (t .0) ⌝ }
     {
-        let operation = self.operation;
-        let stage = self.stage;
-        let bound = self.bound;
-        let opening = self.opening;
         let greatest = later(self.greatest, t);
-        let stamp = self.stamp;
-        let mut marks = self.marks;
-        marks[i] = Mark { is: Heard::Record };
-        Session {
-            operation: operation,
-            stage: stage,
-            round: self.round,
-            bound: bound,
-            opening: opening,
-            greatest: greatest,
-            stamp: stamp,
-            marks: marks,
-        }
+        self.greatest = greatest;
+        self.marks[i] = Mark { is: Heard::Record };
+        self
     }
 
     // The time round, after a reply: open, or at N-t replies the write round opens, with all records made.
@@ -145,8 +130,7 @@ impl Session {
             ≡ acceptedWrite p self (now (reply .entry)) (now (desk .entry)) (now (item .entry)) ⌝ }
     {
         let i = frame::node_of(reply) as usize;
-        let stage = self.stage;
-        if storing(stage) {
+        if self.storing() {
             let s = self.marked(i, Heard::Record);
             return s.write_turn(p);
         }

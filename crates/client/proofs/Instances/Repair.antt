@@ -58,9 +58,7 @@ pub session : Session
 session =
     record {
       operation = Read;
-      stage = Asking;
-      round = 1;
-      bound = Free;
+      round = record { stage = Asking; number = 1; bound = Free };
       opening = record { 0 = 5 };
       greatest = record { 0 = 0 };
       stamp = zeroStamp;

@@ -116,7 +116,7 @@ module _ (node : ℕ) (body : List ℕ) (low : node < 2) (fits : bodyFits plan 7
         eq-eqb (kindOf (reply node body)) 7 (built.kind-frame 7 node 5 body (omega arith)),
       )
 
-  below : (t : Bool) → (t and not (underOf (session .bound) (stamp (bodyOf (reply node body))))) ≡ false
+  below : (t : Bool) → (t and not (underOf (session .round .bound) (stamp (bodyOf (reply node body))))) ≡ false
   unfolding underOf session
   below true = refl
   below false = refl

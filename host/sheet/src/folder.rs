@@ -1,4 +1,5 @@
-//! The folder of a sheet: `plan`, `ask` (the next unused ask number) and the books `book-0` to `book-(N-1)`.
+//! The folder of a sheet: `plan`, `plan.made` (the plan that it was made with), `ask` (the next unused ask number) and the books `book-0` to
+//! `book-(N-1)`.
 
 use crate::code::{fault, Code, Fault};
 use crate::files;
@@ -12,6 +13,8 @@ use std::path::{Path, PathBuf};
 pub struct Folder {
     pub path: PathBuf,
     pub plan: Plan,
+    /// What every command says of this folder.
+    pub note: Option<String>,
     /// Held until the command ends, so that no other command of this folder runs beside it.
     _lock: File,
 }
@@ -66,6 +69,32 @@ pub fn read_plan(path: &OsStr, code: Code) -> Result<Plan, Fault> {
     }
 }
 
+/// The plan that a sheet was made with.
+const MADE: &str = "plan.made";
+
+/// Whether the plan is the one that the sheet was made with, but for W, which is the reader's alone: an item laid out by one plan and read by
+/// another would be another item. A note where none is remembered.
+fn compared(made: &Path, file: &Path, plan: &Plan) -> Result<Option<String>, Fault> {
+    let bytes = match files::read_file(made, 4096) {
+        Ok(bytes) => bytes,
+        Err(error) if missing(&error) => {
+            let why = "is not there, so that an edit of the plan would not be seen; a copy of the plan in its place ends this";
+            return Ok(Some(format!("{}: {why}", made.display())));
+        }
+        Err(error) => return Err(failed(made)(error)),
+    };
+    let before = plan_text::read(&bytes).or_else(|why| fault(Code::Damaged, format!("{}: {why}", made.display())))?;
+    let edits: Vec<String> = std::iter::zip(plan_text::values(&before), plan_text::values(plan))
+        .filter(|((name, was), (_, is))| was != is && *name != "W")
+        .map(|((name, was), (_, is))| format!("{name} {was}, now {name} {is}"))
+        .collect();
+    if edits.is_empty() {
+        return Ok(None);
+    }
+    let edits = edits.join("; ");
+    fault(Code::Damaged, format!("{}: this is not the plan that the sheet was made with: {edits}", file.display()))
+}
+
 /// Lies in a folder whose sheet is being made.
 const MAKING: &str = "making";
 
@@ -75,7 +104,10 @@ fn clear(folder: &Path) -> io::Result<bool> {
     let ours = |path: &PathBuf| {
         let name = path.file_name().unwrap_or_default().to_string_lossy().into_owned();
         let name = name.strip_suffix(files::OURS).unwrap_or(&name);
-        name == MAKING || name == "ask" || name.strip_prefix("book-").is_some_and(|node| node.parse::<u8>().is_ok())
+        name == MAKING
+            || name == MADE
+            || name == "ask"
+            || name.strip_prefix("book-").is_some_and(|node| node.parse::<u8>().is_ok())
     };
     if !paths.is_empty() && !(paths.contains(&folder.join(MAKING)) && paths.iter().all(ours)) {
         return Ok(false);
@@ -92,7 +124,8 @@ impl Folder {
         let file = path.join("plan");
         let lock = lock(&file)?;
         let plan = read_plan(file.as_os_str(), Code::Damaged)?;
-        Ok(Folder { path: path.to_path_buf(), plan, _lock: lock })
+        let note = compared(&path.join(MADE), &file, &plan)?;
+        Ok(Folder { path: path.to_path_buf(), plan, note, _lock: lock })
     }
 
     /// A new sheet, made while the folder is ours. The plan is written last: a folder without a plan is no sheet. As long as the file `making`
@@ -117,7 +150,9 @@ impl Folder {
             files::keep(&path.join(format!("book-{node}")), &book).map_err(&failed)?;
         }
         files::keep(&path.join("ask"), b"1\n").map_err(&failed)?;
-        files::keep(&path.join("plan"), plan_text::write(plan).as_bytes()).map_err(&failed)?;
+        for name in [MADE, "plan"] {
+            files::keep(&path.join(name), plan_text::write(plan).as_bytes()).map_err(&failed)?;
+        }
         fs::remove_file(&making).and_then(|()| files::sync_names(&making)).map_err(failed)
     }
 

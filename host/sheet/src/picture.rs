@@ -121,6 +121,7 @@ pub fn show(folder: &Path, down: &[usize], all: bool) -> Result<Report, Fault> {
     let run = drive::run(plan, &mut nodes, session, Block::Open(&mut vec![0; plan.item_size()]), None);
 
     let mut report = Report::new(Code::Done);
+    report.notes.extend(folder.note.clone());
     head(&mut report, plan);
     table(&mut report, &rows, &stamps, all);
     if let Some(newest) = stamps.last() {

@@ -129,7 +129,9 @@ pub fn save(folder: &Path, file: &OsStr, down: &[usize], stop_after: Option<usiz
         }
         _ => (Code::InPart, format!("{}; {stamp} is stored at {at}", no_end(plan, &run, "write"))),
     };
-    Ok(told(code, line, &run))
+    let mut report = told(code, line, &run);
+    report.notes.extend(folder.note.clone());
+    Ok(report)
 }
 
 /// Where an opened block goes.
@@ -182,7 +184,7 @@ pub fn open(folder: &Path, file: &OsStr, down: &[usize]) -> Result<Report, Fault
     let mut item = vec![0; plan.item_size()];
     let mut nodes = Nodes::of(&folder, down, true);
     let mut run = drive::run(plan, &mut nodes, session, Block::Open(&mut item), None);
-    run.notes.extend(note);
+    run.notes.extend(note.into_iter().chain(folder.note.clone()));
     if let Answer::Done { timestamp, .. } = run.answer {
         run.stamp = Some(timestamp);
         give(file, &item)?;
@@ -237,6 +239,7 @@ pub fn check(folder: &Path) -> Result<Report, Fault> {
     let lying = books.iter().filter(|(standing, _)| *standing == Standing::Lying).count();
     let within = bad <= usize::from(plan.t) && lying <= usize::from(plan.b);
     let mut report = Report::new(if bad == 0 { Code::Done } else { Code::Damaged });
+    report.notes.extend(folder.note.clone());
     for (node, (_, words)) in books.iter().enumerate() {
         report.line(format!("book-{node}: {words}"));
     }

@@ -580,3 +580,26 @@ fn a_result_that_cannot_be_written() {
     let err = String::from_utf8_lossy(&output.stderr);
     assert!(output.status.code() == Some(9) && err.starts_with("sheet: done, but "), "{err}");
 }
+
+/// A plan that was edited is told by every verb, and nothing is given by it; W may change. A sheet that remembers no plan is told and served.
+#[test]
+fn a_folder_knows_its_plan() {
+    let place = five("knows");
+    assert_eq!(place.code("save s one"), 0);
+    let plan = String::from_utf8(place.get("s/plan")).expect("a text");
+    for (from, to) in [("m 2", "m 1"), ("clients crash", "clients byzantine"), ("b 1", "b 0")] {
+        place.put("s/plan", plan.replace(from, to));
+        for words in ["save s one", "open s out", "show s", "check s"] {
+            let (code, out, err) = place.sheet(words);
+            assert!(code == 8 && out.is_empty() && one_line(&err), "{words}: {out}{err}");
+            assert!(err.contains(&format!("{from}, now {to}")), "{err}");
+        }
+    }
+    place.put("s/plan", format!("# ours\n{}", plan.replace("W 3", "W 9")));
+    assert_eq!(place.code("open s out"), 0);
+    fs::remove_file(place.file("s/plan.made")).expect("what it was made with");
+    for words in ["save s one", "open s out", "show s", "check s"] {
+        let (code, _, err) = place.sheet(words);
+        assert!(code == 0 && one_line(&err) && err.contains("plan.made"), "{words}: {err}");
+    }
+}

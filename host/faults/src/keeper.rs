@@ -32,11 +32,12 @@ pub struct Keeper {
 }
 
 impl Keeper {
-    /// `command` and then PLAN and BOOK.
+    /// `command` and then PLAN, BOOK and the word that no other keeper has this book.
     pub fn start(command: &[String], plan: &Path, book: &Path) -> io::Result<Keeper> {
         let mut child = Command::new(&command[0])
             .args(&command[1..])
             .args([plan, book])
+            .arg("locked")
             .stdin(Stdio::piped())
             .stdout(Stdio::piped())
             .stderr(Stdio::piped())

@@ -55,13 +55,10 @@ impl Nodes {
         Ok(nodes)
     }
 
-    /// Starts the keeper of a node anew. What a killed one left beside its book is of no use.
+    /// Starts the keeper of a node anew. What a killed one left beside its book is its own to write over: it is the only one.
     pub fn restart(&mut self, i: usize) -> io::Result<()> {
         let node = &mut self.nodes[i];
         if node.keeper.is_none() {
-            let mut left = node.book.clone().into_os_string();
-            left.push(".new");
-            let _ = fs::remove_file(left);
             node.keeper = Some(Keeper::start(&self.command, &self.text, &node.book)?);
         }
         Ok(())

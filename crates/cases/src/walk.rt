@@ -330,19 +330,10 @@ pub fn owe(w: World, i: u64) -> World {
     says(laid(w, REQUEST, &request), a)
 }
 
-fn hearing(
-    op: u64,
-    plan: &[u8],
-    session: &mut [u8],
-    reply: &[u8],
-    desk: &mut [u8],
-    item: &mut [u8],
-    ending: &mut [u8],
-) -> u32 {
-    if op == 0 {
-        return client::pasis_write_reply(plan, session, reply, desk, item, ending);
-    }
-    client::pasis_read_reply(plan, session, reply, desk, item, ending)
+// The world with what a call of the client leaves.
+fn left(w: World, session: &[u8], desk: &[u8], item: &[u8], ending: &[u8]) -> World {
+    let v = laid(laid(w, SESSION, session), DESK, desk);
+    laid(laid(v, ITEM, item), ENDING, ending)
 }
 
 // The reply, heard by a writer (0) or a reader.
@@ -356,8 +347,18 @@ pub fn hear(w: World, op: u64) -> World {
     take(s, DESK, &mut desk);
     take(s, ITEM, &mut item);
     take(s, ENDING, &mut ending);
-    let a = hearing(
-        op,
+    if op == 0 {
+        let a = client::pasis_write_reply(
+            part(s, PLAN, 11),
+            &mut session,
+            frame_at(s, REPLY),
+            &mut desk,
+            &item,
+            &mut ending,
+        );
+        return says(left(w, &session, &desk, &item, &ending), a);
+    }
+    let a = client::pasis_read_reply(
         part(s, PLAN, 11),
         &mut session,
         frame_at(s, REPLY),
@@ -365,8 +366,7 @@ pub fn hear(w: World, op: u64) -> World {
         &mut item,
         &mut ending,
     );
-    let v = laid(laid(w, SESSION, &session), DESK, &desk);
-    says(laid(laid(v, ITEM, &item), ENDING, &ending), a)
+    says(left(w, &session, &desk, &item, &ending), a)
 }
 
 // ---- walks

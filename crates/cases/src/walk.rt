@@ -330,19 +330,10 @@ pub fn owe(w: World, i: u64) -> World {
     says(laid(w, REQUEST, &request), a)
 }
 
-fn hearing(
-    op: u64,
-    plan: &[u8],
-    session: &mut [u8],
-    reply: &[u8],
-    desk: &mut [u8],
-    item: &mut [u8],
-    ending: &mut [u8],
-) -> u32 {
-    if op == 0 {
-        return client::pasis_write_reply(plan, session, reply, desk, item, ending);
-    }
-    client::pasis_read_reply(plan, session, reply, desk, item, ending)
+// The world with what a call of the client leaves.
+fn left(w: World, session: &[u8], desk: &[u8], item: &[u8], ending: &[u8]) -> World {
+    let v = laid(laid(w, SESSION, session), DESK, desk);
+    laid(laid(v, ITEM, item), ENDING, ending)
 }
 
 // The reply, heard by a writer (0) or a reader.
@@ -356,8 +347,18 @@ pub fn hear(w: World, op: u64) -> World {
     take(s, DESK, &mut desk);
     take(s, ITEM, &mut item);
     take(s, ENDING, &mut ending);
-    let a = hearing(
-        op,
+    if op == 0 {
+        let a = client::pasis_write_reply(
+            part(s, PLAN, 11),
+            &mut session,
+            frame_at(s, REPLY),
+            &mut desk,
+            &item,
+            &mut ending,
+        );
+        return says(left(w, &session, &desk, &item, &ending), a);
+    }
+    let a = client::pasis_read_reply(
         part(s, PLAN, 11),
         &mut session,
         frame_at(s, REPLY),
@@ -365,8 +366,7 @@ pub fn hear(w: World, op: u64) -> World {
         &mut item,
         &mut ending,
     );
-    let v = laid(laid(w, SESSION, &session), DESK, &desk);
-    says(laid(laid(v, ITEM, &item), ENDING, &ending), a)
+    says(left(w, &session, &desk, &item, &ending), a)
 }
 
 // ---- walks
@@ -384,22 +384,25 @@ pub fn carry(w: World, i: u64) -> World {
     hear(served, operation(&served))
 }
 
-// A plan of N 5, t 1 and m 2, with F in the second of its two bytes, and so W.
-fn five(w: World, b: u8, q: u8, f: u8, member: u8, clients: u8, rounds: u8) -> World {
-    let plan = [5, 1, b, q, 2, 0, f, member, clients, 0, rounds];
-    laid(w, PLAN, &plan)
+// The plans of the cases, by their numbers, as host/pasis.h has them: five nodes, t 1 and m 2. The `ensures` gives only the length, which lending
+// it needs.
+fn plan_bytes(x: u64) -> [u8; 11]
+    ensures { λ r. ⌜ 11 ≡ length r ⌝ }
+{
+    match x {
+        1 => [5, 1, 1, 3, 2, 0, 4, 0, 1, 0, 1],
+        2 => [5, 1, 1, 3, 2, 0, 4, 0, 1, 0, 2],
+        3 => [5, 1, 1, 3, 2, 0, 4, 0, 0, 0, 2],
+        4 => [5, 1, 0, 2, 2, 0, 4, 1, 1, 0, 2],
+        5 => [5, 1, 1, 3, 2, 0, 5, 0, 1, 0, 2],
+        _ => [5, 1, 2, 3, 2, 0, 4, 0, 1, 0, 2],
+    }
 }
 
-// The plans of the cases, by their numbers.
+// The plan of this number.
 pub fn under(w: World, x: u64) -> World {
-    match x {
-        1 => five(w, 1, 3, 4, 0, 1, 1),
-        2 => five(w, 1, 3, 4, 0, 1, 2),
-        3 => five(w, 1, 3, 4, 0, 0, 2),
-        4 => five(w, 0, 2, 4, 1, 1, 2),
-        5 => five(w, 1, 3, 5, 0, 1, 2),
-        _ => five(w, 2, 3, 4, 0, 1, 2),
-    }
+    let plan = plan_bytes(x);
+    laid(w, PLAN, &plan)
 }
 
 // A client with no session, and books that are not made.

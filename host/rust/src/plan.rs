@@ -80,12 +80,12 @@ impl Plan {
 
     /// A book with room for so many records.
     pub fn book_size(&self, records: usize) -> usize {
-        11 + records * self.record_size()
+        records.saturating_mul(self.record_size()).saturating_add(11)
     }
 
     /// N-t, the replies that end a round; of an accepted plan.
     pub fn replies(&self) -> usize {
-        usize::from(self.n - self.t)
+        usize::from(self.n.saturating_sub(self.t))
     }
 
     /// Q+b: a set of so many or more is complete.
@@ -95,6 +95,6 @@ impl Plan {
 
     /// Q-t: a set below this is incomplete; of an accepted plan.
     pub fn incomplete(&self) -> usize {
-        usize::from(self.q - self.t)
+        usize::from(self.q.saturating_sub(self.t))
     }
 }

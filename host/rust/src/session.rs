@@ -65,7 +65,7 @@ impl Session {
     }
 
     pub fn mark(&self, node: usize) -> Option<Mark> {
-        let byte = *self.0.get(101 + node)?;
+        let byte = *self.0.get(node.checked_add(101)?)?;
         [Mark::Unheard, Mark::FirstTriple, Mark::Record].get(usize::from(byte)).copied()
     }
 

@@ -231,3 +231,14 @@ fn every_refusal_has_its_number_and_words() {
     assert_eq!(Refusal::Hash.to_string(), "refusal 6: a hash check fails");
     assert_eq!(Refusal::Other(20).to_string(), "refusal 20: not a number of this interface");
 }
+
+/// Sizes of what no plan has are large, not wrong, and nothing panics.
+#[test]
+fn sizes_of_huge_values() {
+    let plan = Plan { n: 255, t: 0, q: 0, f: u16::MAX, ..Plan::default() };
+    assert_eq!(plan.book_size(usize::MAX), usize::MAX);
+    let plan = Plan { n: 1, t: 255, q: 1, ..plan };
+    assert_eq!((plan.replies(), plan.incomplete()), (0, 0));
+    let session = pasis::open_read(&small(), 1).expect("a session");
+    assert_eq!((session.mark(16), session.mark(usize::MAX)), (None, None));
+}

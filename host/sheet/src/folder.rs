@@ -1,4 +1,5 @@
-//! The folder of a sheet: `plan`, `ask` (the next unused ask number) and the books `book-0` to `book-(N-1)`.
+//! The folder of a sheet: `plan`, `plan.made` (the plan that it was made with), `ask` (the next unused ask number) and the books `book-0` to
+//! `book-(N-1)`.
 
 use crate::code::{fault, Code, Fault};
 use crate::files;
@@ -12,6 +13,8 @@ use std::path::{Path, PathBuf};
 pub struct Folder {
     pub path: PathBuf,
     pub plan: Plan,
+    /// What every command says of this folder.
+    pub note: Option<String>,
     /// Held until the command ends, so that no other command of this folder runs beside it.
     _lock: File,
 }
@@ -23,14 +26,19 @@ pub fn missing(error: &io::Error) -> bool {
     [io::ErrorKind::NotFound, io::ErrorKind::NotADirectory].contains(&error.kind())
 }
 
-/// Waits until the folder is ours.
+/// A fault of the system with this file.
+fn failed(path: &Path) -> impl Fn(io::Error) -> Fault + '_ {
+    move |error| Fault { code: Code::System, line: format!("{}: {error}", path.display()) }
+}
+
+/// Waits until what this file or folder stands for is ours.
 fn lock(path: &Path) -> Result<File, Fault> {
-    let failed = |error: io::Error| Fault { code: Code::System, line: format!("{}: {error}", path.display()) };
+    let failed = failed(path);
     let file = match File::open(path) {
         Err(error) if missing(&error) => {
             return fault(Code::WrongUse, format!("{}: there is no sheet here (sheet new makes one)", path.display()))
         }
-        other => other.map_err(failed)?,
+        other => other.map_err(&failed)?,
     };
     match file.try_lock() {
         Ok(()) => return Ok(file),
@@ -51,14 +59,64 @@ pub fn read_plan(path: &OsStr, code: Code) -> Result<Plan, Fault> {
         Err(error) if missing(&error) => return fault(Code::WrongUse, format!("{shown}: no such file")),
         Err(error) => return fault(Code::System, format!("{shown}: {error}")),
     };
-    let Some(text) = String::from_utf8(bytes).ok().filter(|text| text.len() <= 4096) else {
+    if bytes.len() > 4096 {
         return fault(code, format!("{shown}: this is not a plan's nine lines of text"));
-    };
-    let plan = plan_text::read(&text).or_else(|why| fault(code, format!("{shown}: {why}")))?;
+    }
+    let plan = plan_text::read(&bytes).or_else(|why| fault(code, format!("{shown}: {why}")))?;
     match plan.check() {
         Ok(()) => Ok(plan),
         Err(refusal) => fault(code, format!("{shown}: {refusal}; sheet new --help has the rules")),
     }
+}
+
+/// The plan that a sheet was made with.
+const MADE: &str = "plan.made";
+
+/// Whether the plan is the one that the sheet was made with, but for W, which is the reader's alone: an item laid out by one plan and read by
+/// another would be another item. A note where none is remembered.
+fn compared(made: &Path, file: &Path, plan: &Plan) -> Result<Option<String>, Fault> {
+    let bytes = match files::read_file(made, 4096) {
+        Ok(bytes) => bytes,
+        Err(error) if missing(&error) => {
+            let why = "is not there, so that an edit of the plan would not be seen; a copy of the plan in its place ends this";
+            return Ok(Some(format!("{}: {why}", made.display())));
+        }
+        Err(error) => return Err(failed(made)(error)),
+    };
+    let before = plan_text::read(&bytes).or_else(|why| fault(Code::Damaged, format!("{}: {why}", made.display())))?;
+    let edits: Vec<String> = std::iter::zip(plan_text::values(&before), plan_text::values(plan))
+        .filter(|((name, was), (_, is))| was != is && *name != "W")
+        .map(|((name, was), (_, is))| format!("{name} {was}, now {name} {is}"))
+        .collect();
+    if edits.is_empty() {
+        return Ok(None);
+    }
+    let edits = edits.join("; ");
+    fault(Code::Damaged, format!("{}: this is not the plan that the sheet was made with: {edits}", file.display()))
+}
+
+/// Lies in a folder whose sheet is being made.
+const MAKING: &str = "making";
+
+/// Whether a folder is empty, once what a `new` that was cut off left there is taken away.
+fn clear(folder: &Path) -> io::Result<bool> {
+    let paths = fs::read_dir(folder)?.map(|entry| entry.map(|entry| entry.path())).collect::<io::Result<Vec<_>>>()?;
+    let ours = |path: &PathBuf| {
+        let name = path.file_name().unwrap_or_default().to_string_lossy().into_owned();
+        let name = name.strip_suffix(files::OURS).unwrap_or(&name);
+        name == MAKING
+            || name == MADE
+            || name == "ask"
+            || name.strip_prefix("book-").is_some_and(|node| node.parse::<u8>().is_ok())
+    };
+    if !paths.is_empty() && !(paths.contains(&folder.join(MAKING)) && paths.iter().all(ours)) {
+        return Ok(false);
+    }
+    // The sign goes last, so that a second cut leaves it.
+    for path in paths.iter().filter(|path| !path.ends_with(MAKING)) {
+        fs::remove_file(path)?;
+    }
+    Ok(true)
 }
 
 impl Folder {
@@ -66,28 +124,36 @@ impl Folder {
         let file = path.join("plan");
         let lock = lock(&file)?;
         let plan = read_plan(file.as_os_str(), Code::Damaged)?;
-        Ok(Folder { path: path.to_path_buf(), plan, _lock: lock })
+        let note = compared(&path.join(MADE), &file, &plan)?;
+        Ok(Folder { path: path.to_path_buf(), plan, note, _lock: lock })
     }
 
-    /// A new sheet. The plan is written last: a folder without a plan is no sheet.
+    /// A new sheet, made while the folder is ours. The plan is written last: a folder without a plan is no sheet. As long as the file `making`
+    /// lies beside no plan, what is there was never finished, and is made anew.
     pub fn make(path: &Path, plan: &Plan, room: usize) -> Result<(), Fault> {
-        let failed = |error: io::Error| Fault { code: Code::System, line: format!("{}: {error}", path.display()) };
+        let failed = failed(path);
         if fs::metadata(path).is_ok_and(|is| !is.is_dir()) {
             return fault(Code::WrongUse, format!("{}: this is not a folder", path.display()));
         }
-        fs::create_dir_all(path).map_err(failed)?;
-        if fs::read_dir(path).map_err(failed)?.next().is_some() {
+        fs::create_dir_all(path).map_err(&failed)?;
+        let _lock = lock(path)?;
+        let making = path.join(MAKING);
+        if !clear(path).map_err(&failed)? {
             return fault(Code::WrongUse, format!("{}: the folder is not empty; nothing was written", path.display()));
         }
+        files::keep(&making, b"").map_err(&failed)?;
         for node in 0..u64::from(plan.n) {
             let mut book = vec![0; room];
             if let Err(refusal) = pasis::fresh_book(plan, node, &mut book) {
                 return fault(Code::WrongUse, format!("book-{node}: {refusal}"));
             }
-            files::keep(&path.join(format!("book-{node}")), &book).map_err(failed)?;
+            files::keep(&path.join(format!("book-{node}")), &book).map_err(&failed)?;
         }
-        files::keep(&path.join("ask"), b"1\n").map_err(failed)?;
-        files::keep(&path.join("plan"), plan_text::write(plan).as_bytes()).map_err(failed)
+        files::keep(&path.join("ask"), b"1\n").map_err(&failed)?;
+        for name in [MADE, "plan"] {
+            files::keep(&path.join(name), plan_text::write(plan).as_bytes()).map_err(&failed)?;
+        }
+        fs::remove_file(&making).and_then(|()| files::sync_names(&making)).map_err(failed)
     }
 
     pub fn book_path(&self, node: usize) -> PathBuf {
@@ -96,7 +162,7 @@ impl Folder {
 
     /// A node's book, or why it cannot be had. A missing book is not made anew: an empty book in its place would be a lie.
     pub fn book(&self, node: usize) -> Result<Vec<u8>, Silence> {
-        match files::read(self.book_path(node).as_os_str(), BOOK_MOST) {
+        match files::read_file(&self.book_path(node), BOOK_MOST) {
             Ok(bytes) => Ok(bytes),
             Err(error) if missing(&error) => Err("missing".to_string()),
             Err(error) => Err(format!("cannot be read: {error}")),
@@ -123,13 +189,27 @@ impl Folder {
     /// The first of W+1 ask numbers for an operation. That they are used stands in the file before this comes back.
     pub fn take_ask(&self) -> Result<u64, Fault> {
         let ask = self.next_ask()?;
+        self.set_down(ask).map(|()| ask)
+    }
+
+    /// The same for an open. Nothing of it leaves this process, and no reply can come later: where the folder may not be written, as in a
+    /// snapshot, it goes on with a note.
+    pub fn take_ask_to_read(&self) -> Result<(u64, Option<String>), Fault> {
+        let ask = self.next_ask()?;
+        match self.set_down(ask) {
+            Err(Fault { code: Code::System, line }) => {
+                Ok((ask, Some(format!("{line}; the block is opened all the same"))))
+            }
+            other => other.map(|()| (ask, None)),
+        }
+    }
+
+    /// Writes down that the W+1 ask numbers from `ask` on are used.
+    fn set_down(&self, ask: u64) -> Result<(), Fault> {
         let path = self.path.join("ask");
         let Some(next) = ask.checked_add(u64::from(self.plan.w) + 1) else {
             return fault(Code::Damaged, format!("{}: the ask numbers are used up", path.display()));
         };
-        match files::keep(&path, format!("{next}\n").as_bytes()) {
-            Ok(()) => Ok(ask),
-            Err(error) => fault(Code::System, format!("{}: {error}", path.display())),
-        }
+        files::keep(&path, format!("{next}\n").as_bytes()).map_err(failed(&path))
     }
 }

@@ -14,8 +14,8 @@ Exit codes:
   9  system: a file could not be read or written
 ";
 
-const COMMON: &str = "\
-  --json        say it as one JSON object on standard output
+// A backslash at the end of a line would take the blanks before the next word away.
+const COMMON: &str = "  --json        say it as one JSON object on standard output
   --help        this text
 ";
 
@@ -71,8 +71,7 @@ A plan is nine lines; without --plan it is these, for blocks of 2,048 bytes:
   W 16                  most rounds of an open, 1 to 65,535
 ";
 
-const NEW_OPTIONS: &str = "\
-  --plan FILE   take the plan from this file, or from standard input (-)
+const NEW_OPTIONS: &str = "  --plan FILE   take the plan from this file, or from standard input (-)
   --room BYTES  bytes of each book, at most 65,536, which is what it is without this
 ";
 

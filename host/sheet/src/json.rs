@@ -13,6 +13,12 @@ pub enum Json {
 }
 
 impl Json {
+    /// A timestamp whole: its time and all 32 bytes of its verifier.
+    pub fn stamp(stamp: pasis::Timestamp) -> Json {
+        let verifier: String = stamp.0[8..].iter().map(|byte| format!("{byte:02x}")).collect();
+        Json::Text(format!("{}:{verifier}", stamp.time()))
+    }
+
     pub fn text(text: impl fmt::Display) -> Json {
         Json::Text(text.to_string())
     }

@@ -3,6 +3,7 @@
 //! end, `verbs` are the five commands, `picture` is what `show` prints.
 
 mod book;
+mod claim;
 mod code;
 mod drive;
 mod files;
@@ -54,7 +55,8 @@ fn main() -> ExitCode {
         Ok(()) => ExitCode::from(code),
         // Nobody reads any more: what was to be done is done, but it cannot be said.
         Err(error) => {
-            let _ = writeln!(io::stderr(), "sheet: what happened cannot be said: {error}");
+            let came = report.code.name();
+            let _ = writeln!(io::stderr(), "sheet: {came}, but the result cannot be written: {error}");
             ExitCode::from(code::Code::System as u8)
         }
     }

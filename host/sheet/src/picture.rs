@@ -79,9 +79,9 @@ fn round_line(number: usize, round: &Round) -> String {
 
 fn round_json(round: &Round) -> Json {
     Json::Object(vec![
-        ("bound", Json::or_null(round.bound.map(Json::text))),
+        ("bound", Json::or_null(round.bound.map(Json::stamp))),
         ("heard", Json::numbers(&round.heard)),
-        ("candidate", Json::or_null(round.candidate.map(Json::text))),
+        ("candidate", Json::or_null(round.candidate.map(Json::stamp))),
         ("set", Json::numbers(&round.set)),
         ("verdict", Json::text(round.verdict)),
     ])
@@ -100,9 +100,9 @@ fn row_json((node, row): (usize, &Row), stamps: &[Timestamp]) -> Json {
 
 fn object(report: &mut Report, plan: &Plan, rows: &[Row], stamps: &[Timestamp], run: &Run) {
     report.say("plan", plan_json(plan));
-    report.say("saves", Json::List(stamps.iter().map(Json::text).collect()));
+    report.say("saves", Json::List(stamps.iter().copied().map(Json::stamp).collect()));
     report.say("rows", Json::List(rows.iter().enumerate().map(|row| row_json(row, stamps)).collect()));
-    report.say("eye", Json::or_null(stamps.last().map(Json::text)));
+    report.say("eye", Json::or_null(stamps.last().copied().map(Json::stamp)));
     report.say("rounds", Json::List(run.rounds.iter().map(round_json).collect()));
     let (code, words) = ending(plan, run);
     report.say("verdict", Json::Object(vec![("outcome", Json::text(code.name())), ("words", Json::text(words))]));
@@ -121,6 +121,7 @@ pub fn show(folder: &Path, down: &[usize], all: bool) -> Result<Report, Fault> {
     let run = drive::run(plan, &mut nodes, session, Block::Open(&mut vec![0; plan.item_size()]), None);
 
     let mut report = Report::new(Code::Done);
+    report.notes.extend(folder.note.clone());
     head(&mut report, plan);
     table(&mut report, &rows, &stamps, all);
     if let Some(newest) = stamps.last() {

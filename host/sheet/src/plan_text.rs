@@ -1,5 +1,6 @@
 //! A plan as a text: nine lines in document 01's order, each a name and a value. What follows a `#` is a comment; blank lines, and blanks
-//! around a name and a value, are nothing. Whether the plan is within its rules is the library's question.
+//! around a name and a value, are nothing: spaces, tabs, carriage returns. As keeper reads it (crates/plan_text/specs/Lines.antt). Whether the
+//! plan is within its rules is the library's question.
 
 use pasis::{Clients, Member, Plan};
 
@@ -15,30 +16,35 @@ fn choices(name: &str) -> Option<[&'static str; 2]> {
 }
 
 /// A value as a number: a word's place among its choices, else what it writes in decimal, up to the most that its bytes hold.
-fn value(name: &str, word: &str) -> Result<u16, String> {
+fn value(name: &str, word: &[u8]) -> Result<u16, String> {
     if let Some(words) = choices(name) {
-        let place = words.iter().position(|choice| *choice == word);
+        let place = words.iter().position(|choice| choice.as_bytes() == word);
         return place.map(|place| place as u16).ok_or(format!("{name} is {} or {}", words[0], words[1]));
     }
     let most = if ["F", "W"].contains(&name) { 65_535 } else { 255 };
-    let digits = !word.is_empty() && word.len() <= 9 && word.bytes().all(|byte| byte.is_ascii_digit());
-    let number = if digits { word.parse::<u32>().ok() } else { None };
-    number
+    // Digits alone, of at most 999,999,999; zeros before them count for nothing.
+    let digit = |number: u32, byte: &u8| match byte {
+        b'0'..=b'9' if number <= 99_999_999 => Some(10 * number + u32::from(byte - b'0')),
+        _ => None,
+    };
+    word.iter()
+        .try_fold(0, digit)
         .filter(|number| *number <= most)
         .map(|number| number as u16)
         .ok_or(format!("{name} is a number, at most {most}"))
 }
 
 /// The plan of a text, or the line that is wrong and why.
-pub fn read(text: &str) -> Result<Plan, String> {
+pub fn read(text: &[u8]) -> Result<Plan, String> {
     let mut values = Vec::new();
-    for (number, line) in text.lines().enumerate() {
-        let words: Vec<&str> = line.split('#').next().unwrap_or("").split_whitespace().collect();
+    for (number, line) in text.split(|byte| *byte == b'\n').enumerate() {
+        let line = line.split(|byte| *byte == b'#').next().unwrap_or_default();
+        let words: Vec<&[u8]> = line.split(|byte| b" \t\r".contains(byte)).filter(|word| !word.is_empty()).collect();
         let wrong = |why: String| format!("line {}: {why}", number + 1);
         match (words.as_slice(), NAMES.get(values.len())) {
             ([], _) => {}
             (_, None) => return Err(wrong("nothing more belongs here".to_string())),
-            ([name, word], Some(next)) if name == next => values.push(value(name, word).map_err(wrong)?),
+            ([name, word], Some(next)) if *name == next.as_bytes() => values.push(value(next, word).map_err(wrong)?),
             (_, Some(next)) => return Err(wrong(format!("here belongs {next} and its value"))),
         }
     }

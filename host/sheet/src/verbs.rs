@@ -2,7 +2,7 @@
 
 use crate::book;
 use crate::code::{fault, Code, Fault, Report};
-use crate::drive::{self, Block, Nodes, Run, NOT_CLOSED};
+use crate::drive::{self, Block, Nodes, Run, FULL, NOT_CLOSED};
 use crate::files;
 use crate::folder::{missing, read_plan, Folder};
 use crate::json::Json;
@@ -86,7 +86,7 @@ fn told(code: Code, line: String, run: &Run) -> Report {
     let mut report = Report::new(code);
     report.line(line);
     report.notes.clone_from(&run.notes);
-    report.say("timestamp", Json::or_null(run.stamp.map(Json::text)));
+    report.say("timestamp", Json::or_null(run.stamp.map(Json::stamp)));
     report.say("stored", Json::numbers(&run.stored));
     report
 }
@@ -95,7 +95,12 @@ fn told(code: Code, line: String, run: &Run) -> Report {
 fn no_end(plan: &Plan, run: &Run, round: &str) -> String {
     let heard = (0..usize::from(plan.n)).filter(|node| run.session.mark(*node) != Some(pasis::Mark::Unheard));
     let (heard, needed) = (list(&heard.collect::<Vec<_>>()), plan.replies());
-    format!("no end: the {round} round heard {heard}, and {needed} replies end it")
+    let full = match run.notes.iter().filter(|note| note.contains(FULL)).count() {
+        0 => String::new(),
+        1 => "; 1 book is full".to_string(),
+        full => format!("; {full} books are full"),
+    };
+    format!("no end: the {round} round heard {heard}, and {needed} replies end it{full}")
 }
 
 pub fn save(folder: &Path, file: &OsStr, down: &[usize], stop_after: Option<usize>) -> Result<Report, Fault> {
@@ -114,6 +119,9 @@ pub fn save(folder: &Path, file: &OsStr, down: &[usize], stop_after: Option<usiz
     let (code, line) = match run.answer {
         Answer::Done { timestamp, .. } => (Code::Done, format!("saved: {timestamp}, stored at {at}")),
         Answer::ClockSpent => (Code::ClockSpent, "clock spent: a node says that the last time is reached".to_string()),
+        _ if run.cut_off && run.stored.is_empty() => {
+            (Code::NoEnd, "cut off before any node stored it; nothing was stored".to_string())
+        }
         _ if run.cut_off => (Code::InPart, format!("cut off: {stamp}, stored at {at}")),
         _ if run.stored.is_empty() => {
             let round = if run.stamp.is_some() { "write" } else { "time" };
@@ -121,7 +129,9 @@ pub fn save(folder: &Path, file: &OsStr, down: &[usize], stop_after: Option<usiz
         }
         _ => (Code::InPart, format!("{}; {stamp} is stored at {at}", no_end(plan, &run, "write"))),
     };
-    Ok(told(code, line, &run))
+    let mut report = told(code, line, &run);
+    report.notes.extend(folder.note.clone());
+    Ok(report)
 }
 
 /// Where an opened block goes.
@@ -169,10 +179,12 @@ pub fn open(folder: &Path, file: &OsStr, down: &[usize]) -> Result<Report, Fault
     if file != "-" && files::lies_in(Path::new(file), &folder.path) {
         return fault(Code::WrongUse, format!("{}: the sheet's own folder is no place for a block", file.display()));
     }
-    let session = pasis::open_read(plan, folder.take_ask()?).or_else(|refusal| fault(Code::Damaged, refusal))?;
+    let (ask, note) = folder.take_ask_to_read()?;
+    let session = pasis::open_read(plan, ask).or_else(|refusal| fault(Code::Damaged, refusal))?;
     let mut item = vec![0; plan.item_size()];
     let mut nodes = Nodes::of(&folder, down, true);
     let mut run = drive::run(plan, &mut nodes, session, Block::Open(&mut item), None);
+    run.notes.extend(note.into_iter().chain(folder.note.clone()));
     if let Answer::Done { timestamp, .. } = run.answer {
         run.stamp = Some(timestamp);
         give(file, &item)?;
@@ -208,6 +220,16 @@ fn judged(folder: &Folder, node: usize) -> (Standing, String) {
     (Standing::Good, format!("good, {} held, room for {more} more", held.len()))
 }
 
+/// How many good books have room for a record more.
+fn roomy(folder: &Folder, books: &[(Standing, String)]) -> usize {
+    let plan = &folder.plan;
+    let room = |node: usize| {
+        let book = folder.book(node).unwrap_or_default();
+        book::records(plan, node, &book).is_ok_and(|held| plan.book_size(held.len() + 1) <= book.len())
+    };
+    (0..books.len()).filter(|node| books[*node].0 == Standing::Good && room(*node)).count()
+}
+
 pub fn check(folder: &Path) -> Result<Report, Fault> {
     let folder = Folder::enter(folder)?;
     let plan = &folder.plan;
@@ -217,10 +239,15 @@ pub fn check(folder: &Path) -> Result<Report, Fault> {
     let lying = books.iter().filter(|(standing, _)| *standing == Standing::Lying).count();
     let within = bad <= usize::from(plan.t) && lying <= usize::from(plan.b);
     let mut report = Report::new(if bad == 0 { Code::Done } else { Code::Damaged });
+    report.notes.extend(folder.note.clone());
     for (node, (_, words)) in books.iter().enumerate() {
         report.line(format!("book-{node}: {words}"));
     }
     let (how, n, t, b) = (if within { "within" } else { "MORE than" }, plan.n, plan.t, plan.b);
+    let (room, needed) = (roomy(&folder, &books), plan.replies());
+    if room < needed {
+        report.line(format!("full: {room} of {n} books have room for another save, which needs {needed}"));
+    }
     report.line(format!(
         "{bad} of {n} books not good, {lying} of them serving: {how} what the plan allows (t {t}, b {b})"
     ));

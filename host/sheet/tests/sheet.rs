@@ -264,9 +264,9 @@ fn a_damaged_folder_and_a_failing_system() {
 fn what_a_crash_left_behind_is_not_read() {
     let place = five("crash");
     assert_eq!(place.code("save s one"), 0);
-    place.put("s/book-0.new", "half a b");
+    place.put("s/book-0.sheet", "half a b");
     assert_eq!(place.code("save s two"), 0);
-    assert!(!place.file("s/book-0.new").exists());
+    assert!(!place.file("s/book-0.sheet").exists());
     assert_eq!(place.code("open s out"), 0);
     assert_eq!(place.get("out"), b"two leaf");
 }
@@ -300,7 +300,7 @@ fn a_book_that_cannot_be_written() {
     let place = five("disk");
     assert_eq!(place.code("save s one"), 0);
     for node in 0..5 {
-        fs::create_dir(place.file(&format!("s/book-{node}.new"))).expect("in the way of the new file");
+        fs::create_dir(place.file(&format!("s/book-{node}.sheet"))).expect("in the way of the new file");
     }
     let books = |place: &Place| (0..5).map(|node| place.get(&format!("s/book-{node}"))).collect::<Vec<_>>();
     let before = books(&place);
@@ -348,4 +348,258 @@ fn help_at_each_verb() {
     }
     assert_eq!(place.sheet("--version").1, "sheet 1.0.0, interface 1 of libpasis\n");
     assert!(Path::new(env!("CARGO_BIN_EXE_sheet")).is_file());
+}
+
+// ---- beside others
+
+/// A write request of node 0 under time 1, by another client that asks nobody else.
+fn request_of_another(number: u64) -> Vec<u8> {
+    let plan = pasis::Plan { f: 4, w: 3, ..pasis::Plan::default() };
+    let mut desk = vec![0; plan.desk_size()];
+    let (mut request, mut reply) = (vec![0; plan.frame_size()], vec![0; plan.frame_size()]);
+    let mut session = pasis::open_write(&plan, 1_000_000 + 10 * number).expect("a write");
+    for node in 0..plan.replies() as u64 {
+        let mut book = vec![0; 11];
+        pasis::fresh_book(&plan, node, &mut book).expect("a book");
+        let asked = pasis::owed(&plan, &session, node, &desk, &mut request).expect("a request");
+        let told = pasis::node(&plan, &request[..asked], &mut book, &mut reply).expect("a reply");
+        session = pasis::write_reply(&plan, session, &reply[..told], &mut desk, &number.to_be_bytes()).0;
+    }
+    let asked = pasis::owed(&plan, &session, 0, &desk, &mut request).expect("a request");
+    request.truncate(asked);
+    request
+}
+
+/// Stores as a keeper does: one that has the lock writes over BOOK.new, one that has none makes it where it is not there.
+fn store_as_a_keeper(book: &Path, request: &[u8], locked: bool) -> Vec<u8> {
+    let beside = |ending: &str| PathBuf::from(format!("{}{ending}", book.display()));
+    let lock = fs::File::create(beside(".lock")).expect("a lock");
+    let mut options = fs::OpenOptions::new();
+    options.write(true);
+    let mut new = if locked {
+        lock.lock().expect("the lock");
+        options.create(true).truncate(true).open(beside(".new")).expect("BOOK.new")
+    } else {
+        loop {
+            match options.create_new(true).open(beside(".new")) {
+                Ok(new) => break new,
+                Err(_) => std::thread::yield_now(),
+            }
+        }
+    };
+    let plan = pasis::Plan { f: 4, w: 3, ..pasis::Plan::default() };
+    let (mut bytes, mut reply) = (fs::read(book).expect("a book"), vec![0; plan.frame_size()]);
+    pasis::node(&plan, request, &mut bytes, &mut reply).expect("a reply");
+    std::thread::sleep(std::time::Duration::from_millis(2));
+    new.write_all(&bytes).expect("written");
+    fs::rename(beside(".new"), book).expect("renamed");
+    reply[15..55].to_vec()
+}
+
+/// What a keeper has acknowledged stays, whatever is saved beside it.
+#[test]
+fn loses_no_record_of_a_keeper() {
+    for locked in [true, false] {
+        let place = five(if locked { "beside-locked" } else { "beside" });
+        let book = place.file("s/book-0");
+        let keeper = std::thread::spawn(move || {
+            (0..30).map(|i| store_as_a_keeper(&book, &request_of_another(i), locked)).collect::<Vec<_>>()
+        });
+        let mut saves = 0;
+        while !keeper.is_finished() {
+            assert_eq!(place.code(if saves % 2 == 0 { "save s one" } else { "save s two" }), 0);
+            saves += 1;
+        }
+        let acknowledged = keeper.join().expect("a keeper");
+        let bytes = place.get("s/book-0");
+        let held: Vec<&[u8]> = bytes[11..].chunks(204).map(|record| &record[..40]).collect();
+        let lost = acknowledged.iter().filter(|stamp| !held.contains(&stamp.as_slice())).count();
+        assert_eq!(lost, 0, "of 30 records beside {saves} saves, by the lock: {locked}");
+        assert_eq!(place.code("check s"), 0);
+    }
+}
+
+/// What a keeper without the lock left is not touched; what our own crash left is.
+#[test]
+fn knows_its_own_from_a_keepers() {
+    let place = five("own");
+    place.put("s/book-0.sheet", "half");
+    fs::hard_link(place.file("s/book-0.sheet"), place.file("s/book-0.new")).expect("a second name");
+    assert_eq!(place.code("save s one"), 0);
+    assert!(!place.file("s/book-0.new").exists() && !place.file("s/book-0.sheet").exists());
+    place.put("s/book-1.new", "a keeper's");
+    let (code, _, errors) = place.sheet("save s two");
+    assert!(code == 0 && errors.contains("book-1.new: a keeper is writing"), "{errors}");
+    assert_eq!(place.get("s/book-1.new"), b"a keeper's");
+}
+
+#[test]
+fn follows_linked_books() {
+    let place = five("linked");
+    fs::create_dir(place.file("disk")).expect("a folder");
+    fs::rename(place.file("s/book-2"), place.file("disk/b")).expect("moved");
+    std::os::unix::fs::symlink("../disk/b", place.file("s/book-2")).expect("a link");
+    let before = place.get("disk/b");
+    assert_eq!(place.code("save s one"), 0);
+    assert!(fs::symlink_metadata(place.file("s/book-2")).expect("a link").is_symlink());
+    assert_ne!(place.get("disk/b"), before);
+}
+
+/// Cut off, `new` leaves a folder that `new` takes; one with books and no sign of that it leaves alone.
+#[test]
+fn makes_anew_what_was_cut_off() {
+    let place = five("anew");
+    fs::create_dir(place.file("cut")).expect("a folder");
+    for name in ["making", "book-0", "book-1", "book-2.sheet"] {
+        place.put(&format!("cut/{name}"), "half");
+    }
+    assert_eq!(place.code("new cut --plan p"), 0);
+    assert_eq!(place.code("save cut one"), 0);
+    assert!(!place.file("cut/making").exists());
+    fs::remove_file(place.file("cut/plan")).expect("a plan");
+    let before = place.get("cut/book-0");
+    assert_eq!(place.code("new cut --plan p"), 2);
+    assert_eq!(place.get("cut/book-0"), before);
+}
+
+/// Of two at once one makes the sheet, and a save beside them stays.
+#[test]
+fn makes_one_sheet_at_a_time() {
+    let place = five("at-once");
+    for i in 0..10 {
+        let name = format!("t{i}");
+        let new = || place.code(&format!("new {name} --plan p"));
+        let codes = std::thread::scope(|scope| {
+            let both = [scope.spawn(new), scope.spawn(new)];
+            both.map(|one| one.join().expect("a code"))
+        });
+        assert_eq!(codes.iter().filter(|code| **code == 0).count(), 1, "{codes:?}");
+        assert_eq!(place.code(&format!("save {name} one")), 0);
+    }
+}
+
+// ---- small things
+
+/// A plan's text says the same here as to keeper: blanks are spaces, tabs and carriage returns alone, zeros before a number count for nothing,
+/// and a comment may hold any bytes.
+#[test]
+fn reads_a_plan_as_keeper_does() {
+    let place = Place::new("text");
+    let text = |n: &[u8]| [n, b"\nt 1\nb 1\nQ 3\nm 2\nF 4\nmember repairable\nclients crash\nW 3\n"].concat();
+    for (name, line, code) in [
+        ("plain", b"N 5".as_slice(), 0),
+        ("blanks", b" \tN\t 5 \r", 0),
+        ("zeros", b"N 00000000000000000005", 0),
+        ("comment", b"N 5 # \xff\xfe caf\xe9", 0),
+        ("space", b"N\xc2\xa05", 2),
+        ("behind", b"N 5\xc2\xa0", 2),
+        ("long", b"N 1000000005", 2),
+        ("sign", b"N +5", 2),
+    ] {
+        place.put("p", text(line));
+        assert_eq!(place.code(&format!("new {name} --plan p")), code, "{name}");
+    }
+}
+
+#[test]
+fn a_save_cut_off_before_any_node_holds_it() {
+    let place = five("none");
+    let before = place.get("s/book-0");
+    let (code, out, _) = place.sheet("save s one --stop-after 0");
+    assert!(code == 7 && out.ends_with("nothing was stored\n"), "{out}");
+    assert_eq!(place.get("s/book-0"), before);
+}
+
+/// A book that is no file is a silent node, and nothing waits for it.
+#[test]
+fn a_pipe_is_no_book() {
+    let place = five("pipe");
+    assert_eq!(place.code("save s one"), 0);
+    fs::remove_file(place.file("s/book-3")).expect("a book");
+    assert!(Command::new("mkfifo").arg(place.file("s/book-3")).status().expect("mkfifo").success());
+    let (code, _, err) = place.sheet("open s out");
+    assert!(code == 0 && err.contains("book-3: cannot be read: "), "{err}");
+    assert_eq!(place.get("out"), b"one leaf");
+}
+
+/// A snapshot that cannot be written is read all the same.
+#[test]
+fn opens_from_a_folder_that_may_not_be_written() {
+    let place = five("snapshot");
+    assert_eq!(place.code("save s one"), 0);
+    let before = place.bytes();
+    // The superuser writes everywhere, but not over a folder that is in the way.
+    fs::create_dir(place.file("s/ask.sheet")).expect("in the way of the new ask number");
+    let (code, _, err) = place.sheet("open s out");
+    assert!(code == 0 && err.contains("ask: "), "{err}");
+    assert_eq!(place.get("out"), b"one leaf");
+    fs::remove_dir(place.file("s/ask.sheet")).expect("out of the way");
+    assert_eq!(place.bytes(), before);
+}
+
+/// Full books are told by `check`, and by the save that does not end.
+#[test]
+fn full_books_are_told() {
+    let place = five("full");
+    assert_eq!(place.code("new f --plan p --room 215"), 0);
+    assert_eq!(place.code("save f one"), 0);
+    let (code, out, _) = place.sheet("check f");
+    assert!(code == 0 && out.contains("full: 0 of 5 books have room for another save, which needs 4"), "{out}");
+    let (code, out, _) = place.sheet("save f two");
+    assert!(code == 7 && out.contains("; 5 books are full"), "{out}");
+}
+
+#[test]
+fn json_has_whole_timestamps() {
+    let place = five("whole");
+    let (_, out, _) = place.sheet("save s one --json");
+    let stamp = out.split("\"timestamp\":\"1:").nth(1).expect("a timestamp");
+    assert_eq!(stamp.find('"'), Some(64), "{out}");
+    let stamp = format!("1:{}", &stamp[..64]);
+    let (_, out, _) = place.sheet("show s --json");
+    assert_eq!(out.matches(&stamp).count(), 3, "saves, eye and candidate: {out}");
+}
+
+#[test]
+fn options_are_indented() {
+    let place = Place::new("indent");
+    for verb in ["new", "save", "open", "show", "check"] {
+        let (_, out, _) = place.sheet(&format!("{verb} --help"));
+        let options = out.split("Options:\n").nth(1).and_then(|rest| rest.split("\n\n").next()).expect("options");
+        assert!(options.lines().all(|line| line.starts_with("  --")), "{options}");
+    }
+}
+
+/// A save whose result cannot be written says on standard error what came of it.
+#[test]
+fn a_result_that_cannot_be_written() {
+    let place = five("result");
+    let full = fs::OpenOptions::new().write(true).open("/dev/full").expect("/dev/full");
+    let mut command = Command::new(env!("CARGO_BIN_EXE_sheet"));
+    let output = command.args(["save", "s", "one"]).current_dir(&place.0).stdout(full).output().expect("it ends");
+    let err = String::from_utf8_lossy(&output.stderr);
+    assert!(output.status.code() == Some(9) && err.starts_with("sheet: done, but "), "{err}");
+}
+
+/// A plan that was edited is told by every verb, and nothing is given by it; W may change. A sheet that remembers no plan is told and served.
+#[test]
+fn a_folder_knows_its_plan() {
+    let place = five("knows");
+    assert_eq!(place.code("save s one"), 0);
+    let plan = String::from_utf8(place.get("s/plan")).expect("a text");
+    for (from, to) in [("m 2", "m 1"), ("clients crash", "clients byzantine"), ("b 1", "b 0")] {
+        place.put("s/plan", plan.replace(from, to));
+        for words in ["save s one", "open s out", "show s", "check s"] {
+            let (code, out, err) = place.sheet(words);
+            assert!(code == 8 && out.is_empty() && one_line(&err), "{words}: {out}{err}");
+            assert!(err.contains(&format!("{from}, now {to}")), "{err}");
+        }
+    }
+    place.put("s/plan", format!("# ours\n{}", plan.replace("W 3", "W 9")));
+    assert_eq!(place.code("open s out"), 0);
+    fs::remove_file(place.file("s/plan.made")).expect("what it was made with");
+    for words in ["save s one", "open s out", "show s", "check s"] {
+        let (code, _, err) = place.sheet(words);
+        assert!(code == 0 && one_line(&err) && err.contains("plan.made"), "{words}: {err}");
+    }
 }

@@ -1,0 +1,108 @@
+//! One keeper as a process: frames into its standard input, replies and lines out of it, SIGKILL.
+
+use crate::library::frame_length;
+use std::io::{self, BufRead, BufReader, Read, Write};
+use std::path::Path;
+use std::process::{Child, ChildStdin, Command, Stdio};
+use std::sync::mpsc::{channel, Receiver, Sender};
+use std::thread;
+use std::time::Duration;
+
+/// No request takes a keeper so long, on a busy machine either.
+const PATIENCE: Duration = Duration::from_secs(60);
+
+enum Heard {
+    Frame(Vec<u8>),
+    Line(String),
+    End,
+}
+
+/// What became of one request.
+pub enum Answer {
+    Reply(Vec<u8>),
+    Refused,
+    /// The keeper has ended: its book or its plan is not one.
+    Gone,
+}
+
+pub struct Keeper {
+    child: Child,
+    input: ChildStdin,
+    heard: Receiver<Heard>,
+}
+
+impl Keeper {
+    /// `command` and then PLAN, BOOK and the word that no other keeper has this book.
+    pub fn start(command: &[String], plan: &Path, book: &Path) -> io::Result<Keeper> {
+        let mut child = Command::new(&command[0])
+            .args(&command[1..])
+            .args([plan, book])
+            .arg("locked")
+            .stdin(Stdio::piped())
+            .stdout(Stdio::piped())
+            .stderr(Stdio::piped())
+            .spawn()?;
+        let (send, heard) = channel();
+        let input = child.stdin.take().expect("piped");
+        let (output, errors) = (child.stdout.take().expect("piped"), child.stderr.take().expect("piped"));
+        let lines = send.clone();
+        thread::spawn(move || frames(BufReader::new(output), &send));
+        thread::spawn(move || {
+            for line in BufReader::new(errors).lines().map_while(Result::ok) {
+                let _ = lines.send(Heard::Line(line));
+            }
+        });
+        Ok(Keeper { child, input, heard })
+    }
+
+    pub fn send(&mut self, frame: &[u8]) {
+        // A keeper that has ended takes no bytes; `answer` will say so.
+        let _ = self.input.write_all(frame).and_then(|()| self.input.flush());
+    }
+
+    /// Waits for what becomes of the one request that was sent. Refusals 4 to 8 are the request's, and the keeper goes on; any other
+    /// line comes before its end.
+    pub fn answer(&mut self) -> Result<Answer, String> {
+        loop {
+            match self.heard.recv_timeout(PATIENCE) {
+                Ok(Heard::Frame(frame)) => return Ok(Answer::Reply(frame)),
+                Ok(Heard::Line(line)) if (4..=8).any(|k| line.starts_with(&format!("refused {k}:"))) => {
+                    return Ok(Answer::Refused)
+                }
+                Ok(Heard::Line(_)) => {}
+                Ok(Heard::End) => return Ok(Answer::Gone),
+                Err(_) => return Err("a keeper neither replied nor refused nor ended".into()),
+            }
+        }
+    }
+
+    /// SIGKILL. Gives the reply that it may have sent before.
+    pub fn kill(mut self) -> Option<Vec<u8>> {
+        let _ = self.child.kill();
+        let _ = self.child.wait();
+        let mut reply = None;
+        while let Ok(heard) = self.heard.recv() {
+            match heard {
+                Heard::Frame(frame) => reply = Some(frame),
+                Heard::Line(_) => {}
+                Heard::End => break,
+            }
+        }
+        reply
+    }
+}
+
+/// Whole frames until the stream ends; a frame cut off by a kill is dropped.
+fn frames(mut output: impl Read, to: &Sender<Heard>) {
+    loop {
+        let mut frame = vec![0; 4];
+        if output.read_exact(&mut frame).is_err() {
+            break;
+        }
+        frame.resize(frame_length(&frame), 0);
+        if output.read_exact(&mut frame[4..]).is_err() || to.send(Heard::Frame(frame)).is_err() {
+            break;
+        }
+    }
+    let _ = to.send(Heard::End);
+}

@@ -118,6 +118,9 @@ module _ (p : Plan) (b : List ℕ) (k : Book) (o : Octets b) (e : k ≡ bookIn p
   pub all-good : {h f : Bool} → h ≡ headed 1 (bookHead 1) p b → h ≡ true → f ≡ filled (bookHead 1) p b → f ≡ true → Checked p b (Good k)
   all-good eh h ef f = record { is = rw (sym (good-from p b eh h ef) ∙ f) (ap Good e); laid = laid-if; small = small }
 
+pub checked-as : (p : Plan) (b : List ℕ) (s t : Shape) → s ≡ t → Checked p b s → Checked p b t
+checked-as p b s t e c = record { is = sym e ∙ c .is; laid = c .laid; small = c .small }
+
 -- what it said
 book-or : Book → Shape → Book
 book-or k Bad = k

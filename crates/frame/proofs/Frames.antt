@@ -74,6 +74,11 @@ pub suits-last : (party : Party) (p : Plan) (h : Header) (n : ℕ) (r : Bool) �
 unfolding suits
 suits-last party p h n r k e = rw k e
 
+pub suits-is : (party : Party) (p : Plan) (h : Header) (n : ℕ) → suits party p h n ≡ true
+    → (forParty party (h .kind) ≡ true) × (bodyFits p (h .kind) (n - headBytes (h .version)) ≡ true)
+unfolding suits
+suits-is party p h n e = both (forParty party (h .kind)) _ e
+
 pub suits-stray : (party : Party) (p : Plan) (h : Header) (n : ℕ) → forParty party (h .kind) ≡ false → false ≡ suits party p h n
 unfolding suits
 suits-stray party p h n e = rw e
@@ -250,29 +255,41 @@ pub last-request : (kind : ℕ) → forParty Node kind ≡ true → (kind ≡ 1 
 last-request kind e a b c =
     ⊎-elim (λ h. absurd (a h)) (⊎-elim (λ h. absurd (b h)) (⊎-elim (λ h. absurd (c h)) (⊎-elim (λ h. h) (λ h. absurd h)))) (party-is Node kind e)
 
--- ---- the length of a frame, by its kind
-module _ {party : Party} {p : Plan} {f : List ℕ} (q : FrameIs party p f) where
+-- ---- the length of a body, by its kind
+module _ (p : Plan) (kind m : ℕ) (q : bodyFits p kind m ≡ true) where
   -- where the table gives kind k exactly n bytes
-  length-by : (k n : ℕ) → bodyFits p k (length f - headBytes 1) ≡ eqb (length f - headBytes 1) n → kindOf f ≡ k → length f ≡ framed 1 n
-  length-by k n h e =
-      let low = q .low in
-      omega (arith, eqb-true (length f - headBytes 1) n (sym h ∙ ap (λ (x : ℕ). bodyFits p x (length f - headBytes 1)) (sym e) ∙ q .fits))
+  bytes-by : (k n : ℕ) → bodyFits p k m ≡ eqb m n → kind ≡ k → m ≡ n
+  bytes-by k n h e = eqb-true m n (sym h ∙ ap (λ (x : ℕ). bodyFits p x m) (sym e) ∙ q)
+
+  pub bytes-2 : kind ≡ timeReply → m ≡ 8
+  unfolding bodyFits
+  bytes-2 = bytes-by timeReply 8 refl
+
+  pub bytes-3 : kind ≡ writeRequest → m ≡ recordLength p
+  unfolding bodyFits
+  bytes-3 = bytes-by writeRequest (recordLength p) refl
+
+  pub bytes-4 : kind ≡ writeReply → m ≡ 40
+  unfolding bodyFits
+  bytes-4 = bytes-by writeReply 40 refl
+
+  pub bytes-6 : kind ≡ readPrevious → m ≡ 40
+  unfolding bodyFits
+  bytes-6 = bytes-by readPrevious 40 refl
+
+-- and of the frame
+module _ {party : Party} {p : Plan} {f : List ℕ} (q : FrameIs party p f) where
+  length-by : (n : ℕ) → length f - headBytes 1 ≡ n → length f ≡ framed 1 n
+  length-by n e = let low = q .low in omega arith
 
   pub length-2 : kindOf f ≡ timeReply → length f ≡ framed 1 8
-  unfolding bodyFits
-  length-2 = length-by 2 8 refl
+  length-2 e = length-by 8 (bytes-2 p (kindOf f) (length f - headBytes 1) (q .fits) e)
 
   pub length-3 : kindOf f ≡ writeRequest → length f ≡ framed 1 (recordLength p)
-  unfolding bodyFits
-  length-3 = length-by 3 (recordLength p) refl
+  length-3 e = length-by (recordLength p) (bytes-3 p (kindOf f) (length f - headBytes 1) (q .fits) e)
 
   pub length-4 : kindOf f ≡ writeReply → length f ≡ framed 1 40
-  unfolding bodyFits
-  length-4 = length-by 4 40 refl
-
-  pub length-6 : kindOf f ≡ readPrevious → length f ≡ framed 1 40
-  unfolding bodyFits
-  length-6 = length-by 6 40 refl
+  length-4 e = length-by 40 (bytes-4 p (kindOf f) (length f - headBytes 1) (q .fits) e)
 
 -- ---- a body, after a head of h bytes
 pub body-part : (h : ℕ) (f : List ℕ) (at n : ℕ) → part (drop h f) at n ≡ part f (h + at) n

@@ -3,7 +3,7 @@
 -- One theorem a call, for whatever it was lent: it is refused k, where k is the first refusal of the call's order that applies, and
 -- everything is as it came; or no refusal applies, and it is answered as document 01 says. That a call ends at all is part of its being
 -- proved. Demand 2's "Each refusal is given exactly when document 01 says" is the other way round: the theorems with -refuses, so-write
--- and so-read of conduct. Assumes nothing.
+-- and so-read of client. Assumes nothing.
 --   node-ends fresh-ends opening-ends owed-ends write-ends read-ends
 use Prim.Native.Nat.{ℕ}
 use mathlib.Core.Path.{_≡_, refl, sym, ap, _∙_, subst}
@@ -38,11 +38,11 @@ use Rattle.session.specs.Owed.{OwedCall, Dues, dues, dueOf, owedTo, owedLadder,
 use Rattle.session.specs.Reader.{ReadReplyCall, Outcome, outcome, accepted, stored}
 use Rattle.session.specs.Writer.{WriteReplyCall, Leaves, leaves, acceptedWrite}
 use Rattle.session.proofs.Closings.{pick}
-use Rattle.conduct.specs.Endings.{readLadder, writeLadder, afterReply, deskAfter}
+use Rattle.client.specs.Endings.{readLadder, writeLadder, afterReply, deskAfter}
 use Rattle.terms.proofs.Ladders as ladders
-use Rattle.conduct.proofs.Reading as reading
-use Rattle.conduct.proofs.Writing as writing
-use Rattle.conduct.proofs.RoundReply.{settled-taken}
+use Rattle.client.proofs.Reading as reading
+use Rattle.client.proofs.Writing as writing
+use Rattle.client.proofs.Round.Reply.{settled-taken}
 use Rattle.demands.specs.Ends.{Ends, refuses, accepts}
 
 -- ---- the node: order 1 to 8; a reply frame of some length, or nothing but the refusal
@@ -103,7 +103,7 @@ owed-ends p s n d q r q₂ c =
     (λ m h. accepts m (ap (λ (o : Dues). o .due) h, ap (λ (o : Dues). o .request) h))
     (c .is)
 
--- ---- a reply to a writer: order 1, 2, 9, 14, 4, 10, 11; open, done or clock spent (write-open, write-done and clock-spent of conduct)
+-- ---- a reply to a writer: order 1, 2, 9, 14, 4, 10, 11; open, done or clock spent (write-open, write-done and clock-spent of client)
 pub write-ends : (p : Plan) (s : Session) (f d i : List ℕ) (t : Took) (d₂ : List ℕ) → WriteReplyCall p s f d i t d₂
     → Ends (writeLadder p s f d (length i)) (λ (k : ℕ). (saidOf (t .answer) ≡ session.refused k) × (t .session ≡ s) × (d₂ ≡ d))
     (leaves (saidOf (t .answer)) (t .session) d₂ ≡ acceptedWrite p s f d i)
@@ -118,7 +118,7 @@ write-ends p s f d i t d₂ c =
     (c .is ∙ writing.one-ladder p s f d i)
 
 -- ---- a reply to a reader: order 1, 2, 9, 14, 4, 10, 11, 5, 6, 12; open, or one of a read's endings (read-open, read-done, never-written,
--- is-aborted and rounds-spent of conduct), and no refusal
+-- is-aborted and rounds-spent of client), and no refusal
 pub accepted-taken : (p : Plan) (s : Session) (f d i : List ℕ) → isRefused (accepted p s f d i .said) ≡ false
 unfolding accepted stored
 accepted-taken p s f d i =

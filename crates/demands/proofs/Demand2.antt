@@ -7,7 +7,7 @@
 --   comes-back written-comes-back   an encoded block comes back from any m of its N fragments; so does what our writer writes
 -- The figures are in report/specs, with (01) beside what document 01 adds or closes. That the hash and the field are those of the papers is
 -- said by the contracts of `digest`, `product` and `quotient`, over sha256/specs and field/specs. Each refusal exactly: Demand1, with
--- is-refused, fresh-is-refused, opening-refuses, owed-refuses, so-write and so-read of conduct. Assumes nothing.
+-- is-refused, fresh-is-refused, opening-refuses, owed-refuses, so-write and so-read of client. Assumes nothing.
 use Prim.Native.Nat.{ℕ, _+_, _*_, _≤_, _<_}
 use mathlib.Core.Path.{_≡_}
 use mathlib.Core.Bool.{true}
@@ -31,18 +31,20 @@ use Rattle.session.specs.declared.Operation.the-variants.{Write, Read}
 use Rattle.session.specs.Opening.{OpenCall}
 use Rattle.session.specs.Reader.{headLength}
 use Rattle.session.specs.Writer.{recordsFor}
-use Rattle.conduct.specs.History.{Call, History, lastBook}
-use Rattle.conduct.specs.Turns.{Turn}
+use Rattle.store.specs.History.{Call, History, lastBook}
+use Rattle.client.specs.Turns.{Turn, ReadTurn, WriteTurn, Calls}
 use Rattle.report.specs.Triple.{Same}
-use Rattle.conduct.proofs.ComesBack.{block-comes-back}
+use Rattle.client.proofs.ComesBack.{block-comes-back}
 use Rattle.report.specs.Figure1.{INITIALIZE, RECEIVE-TIME-REQUEST, RECEIVE-READ-LATEST, RECEIVE-READ-PREVIOUS}
 use Rattle.report.specs.Ours.{history, timeIn}
-use Rattle.report.specs.Run.{OfPlan, received, ReadCalls, AllApart, AllClose, closedOver, EachTells}
-use Rattle.report.specs.WriteRun.{WriteCalls, untimed, EachWrites}
-use Rattle.report.proofs.Plans.{Ranges, Table2-of, accepted-is, accepted-back}
-use Rattle.report.proofs.Node.{Sends, Executes, time-acts, latest-acts, previous-acts, write-acts, fresh-run}
+use Rattle.report.specs.Run.{OfPlan, received, AllApart, AllClose, closedOver, EachTells}
+use Rattle.report.specs.WriteRun.{untimed, EachWrites}
+use Rattle.report.proofs.Plans.{accepted-is, accepted-back}
+use Rattle.report.proofs.Node.{time-acts, latest-acts, previous-acts, write-acts, fresh-run}
 use Rattle.report.proofs.Run.{opened-read}
 use Rattle.report.proofs.Write.{opened-write}
+use Rattle.report.specs.Table2.{Ranges, Table2-of}
+use Rattle.report.specs.Acts.{AsFigure1}
 
 -- A plan is accepted exactly when it is within document 01's ranges and Table 2 holds of it.
 pub plan-as-the-report : (p : Plan) → planOk p ≡ true → Ranges p × Table2-of p
@@ -50,13 +52,6 @@ plan-as-the-report = accepted-is
 
 pub plan-by-the-report : (p : Plan) → Ranges p → Table2-of p → planOk p ≡ true
 plan-by-the-report = accepted-back
-
--- Figure 1, by the kind of the request: what is sent, and the History after it.
-pub record AsFigure1 (p : Plan) (f b y b₂ y₂ : List ℕ) : Type 0 where
-  pub time : kindOf f ≡ 1 → (y₂ ≡ over (frame 2 (frameNode f) (askOf f) (be 8 (timeIn (RECEIVE-TIME-REQUEST (history p b))))) y) × (b₂ ≡ b)
-  pub latest : kindOf f ≡ 5 → Sends p f y y₂ (RECEIVE-READ-LATEST (history p b)) × (b₂ ≡ b)
-  pub previous : kindOf f ≡ 6 → Sends p f y y₂ (RECEIVE-READ-PREVIOUS (history p b) (stamp (bodyOf f))) × (b₂ ≡ b)
-  pub write : kindOf f ≡ 3 → Executes p f b y b₂ y₂
 
 pub node-as-the-report : (p : Plan) (f b y : List ℕ) → Octets f → Octets b → (n : ℕ) (b₂ y₂ : List ℕ) → NodeCall p f b y (Replied n) b₂ y₂
     → AsFigure1 p f b y b₂ y₂
@@ -76,14 +71,14 @@ node-over-time = fresh-run
 -- Over any replies from an accepted opening on: the write round sends what Figure 2's WRITE sends for the times heard and the item, and
 -- "done" bears its timestamp.
 pub write-as-the-report : (p : Plan) (a : Ask) (r : Opened) (d : List ℕ) (cs : List Turn) → OpenCall Write p a r → r .answer ≡ Accepted
-    → WriteCalls p (r .session) d cs → EachWrites p (r .session) d untimed cs
+    → Calls (WriteTurn p) (r .session) d cs → EachWrites p (r .session) d untimed cs
 write-as-the-report = opened-write
 
 -- Over any replies from an accepted opening on: each answer is what Figure 3's READ says of the response sets of the rounds closed so far,
 -- each of which is one that DO_READ gathered for the command that READ was to send, of N-t responses; where no two cross checksums of one
 -- response set share a hash.
 pub read-as-the-report : (p : Plan) (a : Ask) (r : Opened) (d : List ℕ) (cs : List Turn) → OpenCall Read p a r → r .answer ≡ Accepted
-    → length d ≡ p .n * recordLength p → Octets d → ReadCalls p (r .session) d cs → AllApart (closedOver p (r .session) d [] cs)
+    → length d ≡ p .n * recordLength p → Octets d → Calls (ReadTurn p) (r .session) d cs → AllApart (closedOver p (r .session) d [] cs)
     → EachTells p (r .session) d [] cs × AllClose p (closedOver p (r .session) d [] cs)
 read-as-the-report = opened-read
 
@@ -94,7 +89,7 @@ pub comes-back : (m F : ℕ) (item : List ℕ) → m ≤ 256 → Octets item →
 comes-back = any-m-of-n
 
 -- The N records that our writer makes of an item at a time, in its desk, give the item to our reader's decoding from any m of its N slots.
--- For a reply that is answered done: read-comes-back and repair-comes-back of conduct.
+-- For a reply that is answered done: read-comes-back and repair-comes-back of client.
 pub written-comes-back : (p : Plan) (time : ℕ) (item : List ℕ) → planOk p ≡ true → Octets item → length item ≡ p .m * p .f → (out : List ℕ)
     → length out ≡ p .m * p .f → (nodes : List ℕ) → Distinct nodes → All (λ (z : ℕ). z < p .n) nodes → length nodes ≡ p .m
     → laid (recordsFor p time item) (headLength p) (recordLength p) (p .f) nodes 0 (p .f) (p .m) out ≡ item

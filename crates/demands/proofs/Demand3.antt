@@ -7,11 +7,11 @@ use lib.ListN.{length}
 use Rattle.terms.specs.declared.Plan.{Plan}
 use Rattle.session.specs.declared.Session.{Session}
 use Rattle.session.specs.Session.{replies}
-use Rattle.conduct.specs.Deliver.{Delivery, delivered, finalBook, Contents}
-use Rattle.conduct.specs.Turns.{Turn, Turns}
-use Rattle.conduct.specs.Round.{roundAt, RoundOpens, Accepted, SameReplies, Lent, repliesOf, answersOf, leftBy}
-use Rattle.conduct.proofs.Books.{Setting, every-book, what-is-left, any-order}
-use Rattle.conduct.proofs.RoundCalls.{any-order-calls}
+use Rattle.store.specs.Deliver.{Delivery, Setting, delivered, finalBook, Contents}
+use Rattle.client.specs.Turns.{Turn, ReadTurn, Calls}
+use Rattle.client.specs.Round.{roundAt, RoundOpens, Accepted, SameReplies, Lent, repliesOf, answersOf, leftBy}
+use Rattle.store.proofs.Books.{every-book, what-is-left, any-order}
+use Rattle.client.proofs.Round.Calls.{any-order-calls}
 
 -- "Take good books and a set of write requests. Each book and reply buffer has room, and at one node no two requests that pass the checks,
 -- and no such request and held record, share a timestamp but not the record (Setting). Then delivering all of them, in any order and with
@@ -25,7 +25,7 @@ books-in-any-order p books requests one other g h i l =
 -- "From one session, desk and sheet buffer, a read round that opens there and hears the same N - t acceptable replies, one a node, ends alike
 -- in whichever order they come": the same answers in turn, and at the end the same session, desk and item. Acceptability is asked of one
 -- order only: none of its calls was refused. At most N-t replies: those beyond meet the next round, or an ended session.
-pub replies-in-any-order : (p : Plan) (s : Session) (desk item : List ℕ) (one other : List Turn) → RoundOpens s → Turns p s desk one → Lent item one
-    → Turns p s desk other → Lent item other → length (repliesOf one) ≤ replies p → Accepted (answersOf one) → SameReplies (repliesOf one) (repliesOf other)
+pub replies-in-any-order : (p : Plan) (s : Session) (desk item : List ℕ) (one other : List Turn) → RoundOpens s → Calls (ReadTurn p) s desk one → Lent item one
+    → Calls (ReadTurn p) s desk other → Lent item other → length (repliesOf one) ≤ replies p → Accepted (answersOf one) → SameReplies (repliesOf one) (repliesOf other)
     → (leftBy (roundAt s desk item) other ≡ leftBy (roundAt s desk item) one) × (answersOf other ≡ answersOf one)
 replies-in-any-order = any-order-calls

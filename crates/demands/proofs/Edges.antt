@@ -1,18 +1,19 @@
 -- Every case of the table of edges holds. Assumes nothing.
 use Prim.{tt}
 use Prim.Native.Nat.{ℕ}
-use mathlib.Core.Path.{_≡_, refl, _∙_}
+use mathlib.Core.Path.{_≡_, refl, sym, _∙_}
 use mathlib.Core.Bool.{Bool, true, false}
 use mathlib.Core.List.{List, [], _∷_}
 use lib.Dec.{leb}
 use borrow.Author.Tests.{le-leb}
 use Rattle.fragments.proofs.Examples.{product-57-83, product-57-13, column-00-80, column-57-57}
 use Rattle.terms.specs.Ladder.{first, all}
-use Rattle.terms.specs.Terms.{planOk, countsOk, limitsOk, tableOk, columnOf, COMPLETE, INCOMPLETE, classOf, decided}
+use Rattle.terms.specs.Terms.{planOk, countsOk, limitsOk, columnOf, COMPLETE, INCOMPLETE, classOf, decided}
 use Rattle.terms.specs.declared.Plan.{Plan}
 use Rattle.terms.specs.declared.Member.{Member}
 use Rattle.terms.specs.declared.Member.the-variants.{Repairable, NonRepair}
 use Rattle.terms.specs.declared.Class.the-variants.{Unclassifiable}
+use Rattle.terms.proofs.Picks.{itself}
 use Rattle.terms.proofs.Facts.{none-unclassifiable}
 use Rattle.node.specs.Node.{served}
 use Rattle.node.specs.Fresh.{freshened}
@@ -20,19 +21,18 @@ use Rattle.session.specs.Opening.{openWith}
 use Rattle.session.specs.Owed.{owedTo}
 use Rattle.session.specs.Writer.{writeReply}
 use Rattle.session.specs.Reader.{readReply}
-use Rattle.demands.specs.Edges.{Sheet, sheet, planWith, Every, RefusedOne, CasesHold, firstPlan, secondPlan, table}
+use Rattle.demands.specs.Edges.{Counts, countsOf, planWith, Every, RefusedOne, CasesHold, firstPlan, secondPlan, table}
 
 -- the rules of a plan that F and W have no part in
-sheetOk : Sheet → Bool
-sheetOk s =
-    all (leb 1 (s .n) ∷ leb (s .n) 16 ∷ leb (s .b) (s .t) ∷ all (columnOf (s .member) (s .n) (s .t) (s .b) (s .q) (s .m)) ∷ [])
+abbrev rulesOk : Counts → Bool
+rulesOk s = countsOk (s .member) (s .n) (s .t) (s .b) (s .q) (s .m)
 
 -- with F and W in range, they decide
-in-range : (s : Sheet) → Every s (λ (p : Plan). planOk p ≡ sheetOk s)
-unfolding planOk countsOk limitsOk tableOk sheetOk all
-in-range s F W c f₁ f₂ w₁ w₂ = rw (le-leb 1 F f₁, le-leb F 1024 f₂, le-leb 1 W w₁, le-leb W 65535 w₂)
+in-range : (s : Counts) → Every s (λ (p : Plan). planOk p ≡ rulesOk s)
+unfolding planOk limitsOk all
+in-range s F W c f₁ f₂ w₁ w₂ = rw (le-leb 1 F f₁, le-leb F 1024 f₂, le-leb 1 W w₁, le-leb W 65535 w₂) (sym (itself (rulesOk s)))
 
-accepts : (s : Sheet) → sheetOk s ≡ true → Every s (λ (p : Plan). planOk p ≡ true)
+accepts : (s : Counts) → rulesOk s ≡ true → Every s (λ (p : Plan). planOk p ≡ true)
 accepts s e F W c f₁ f₂ w₁ w₂ = in-range s F W c f₁ f₂ w₁ w₂ ∙ e
 
 refused-one : (p : Plan) → planOk p ≡ false → RefusedOne p
@@ -48,7 +48,7 @@ refused-one p e =
       read = λ s f d i. rw e;
     }
 
-refuses : (s : Sheet) → sheetOk s ≡ false → Every s RefusedOne
+refuses : (s : Counts) → rulesOk s ≡ false → Every s RefusedOne
 refuses s e F W c f₁ f₂ w₁ w₂ = refused-one (planWith s F W c) (in-range s F W c f₁ f₂ w₁ w₂ ∙ e)
 
 -- b above t, whatever the rest is
@@ -58,39 +58,38 @@ too-many false d rest = refl
 too-many true false rest = refl
 too-many true true rest = refl
 
-exclude-all : (k : Member) (n t b q m : ℕ) → leb b t ≡ false → Every (sheet k n t b q m) RefusedOne
-unfolding planOk countsOk
-exclude-all k n t b q m e F W c f₁ f₂ w₁ w₂ = refused-one (planWith (sheet k n t b q m) F W c) (rw e (too-many (leb 1 n) (leb n 16) _))
+exclude-all : (k : Member) (n t b q m : ℕ) → leb b t ≡ false → Every (countsOf k n t b q m) RefusedOne
+exclude-all k n t b q m e = refuses (countsOf k n t b q m) (unfold countsOk in rw e (too-many (leb 1 n) (leb n 16) _))
 
-certain-all : (s : Sheet) → sheetOk s ≡ true → s .t ≡ 0
+certain-all : (s : Counts) → rulesOk s ≡ true → s .t ≡ 0
     → Every s (λ (p : Plan). (size : ℕ) → classOf (COMPLETE p) (INCOMPLETE p) size ≡ Unclassifiable → ⊥)
 certain-all s e z F W c f₁ f₂ w₁ w₂ = none-unclassifiable (planWith s F W c) (accepts s e F W c f₁ f₂ w₁ w₂) z
 
 -- EVERY STARRED CASE OF DOCUMENT 01'S TABLE HOLDS
 pub edges : CasesHold table
-unfolding sheetOk columnOf all decided classOf
+unfolding countsOk columnOf all decided classOf
 edges = (
   accepts firstPlan refl,
   (
-    refuses (sheet Repairable 5 1 1 3 3) refl,
+    refuses (countsOf Repairable 5 1 1 3 3) refl,
     (
-      refuses (sheet Repairable 4 1 1 3 2) refl,
+      refuses (countsOf Repairable 4 1 1 3 2) refl,
       (
-        refuses (sheet Repairable 5 1 1 4 2) refl,
+        refuses (countsOf Repairable 5 1 1 4 2) refl,
         (
           accepts secondPlan refl,
           (
-            refuses (sheet NonRepair 7 1 1 3 5) refl,
+            refuses (countsOf NonRepair 7 1 1 3 5) refl,
             (
-              refuses (sheet NonRepair 6 1 1 3 4) refl,
+              refuses (countsOf NonRepair 6 1 1 3 4) refl,
               (
-                accepts (sheet Repairable 1 0 0 1 1) refl,
+                accepts (countsOf Repairable 1 0 0 1 1) refl,
                 (
-                  accepts (sheet NonRepair 1 0 0 1 1) refl,
+                  accepts (countsOf NonRepair 1 0 0 1 1) refl,
                   (
-                    certain-all (sheet Repairable 1 0 0 1 1) refl refl,
+                    certain-all (countsOf Repairable 1 0 0 1 1) refl refl,
                     (
-                      certain-all (sheet NonRepair 1 0 0 1 1) refl refl,
+                      certain-all (countsOf NonRepair 1 0 0 1 1) refl refl,
                       (
                         λ k n q m. exclude-all k n 1 2 q m refl,
                         (

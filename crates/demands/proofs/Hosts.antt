@@ -33,8 +33,8 @@ use Rattle.session.specs.Reply.{replyLadder}
 use Rattle.session.specs.Writer.{Leaves, leaves, timedOf, writeTurn, timeTurn, timeEnd, acceptedWrite, writeReply}
 use Rattle.session.specs.Reader.{Outcome, outcome, readReply}
 use Rattle.session.proofs.Checks.{outcome-all}
-use Rattle.conduct.specs.Endings.{readLadder}
-use Rattle.conduct.proofs.Reading as reading
+use Rattle.client.specs.Endings.{readLadder}
+use Rattle.client.proofs.Reading as reading
 use Rattle.packing.specs.PlanBytes.{planOf}
 use Rattle.packing.specs.SessionBytes.{sessionBytes, sessionOf}
 use Rattle.answers.specs.Answers.{lentLadder, bothFit, madeNumber, servedNumber, dueNumber, answerNumber, endingAfter}

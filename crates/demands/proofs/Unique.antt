@@ -24,8 +24,8 @@ use Rattle.session.specs.Reader.{ReadReplyCall, Outcome}
 use Rattle.session.specs.Writer.{WriteReplyCall, Leaves}
 use Rattle.session.proofs.Openings.{opening-one}
 use Rattle.session.proofs.Oweds.{due-one}
-use Rattle.conduct.proofs.Node as nodes
-use Rattle.conduct.proofs.Client as client
+use Rattle.store.proofs.Node as nodes
+use Rattle.client.proofs.Client as client
 
 -- ---- the node
 -- Any two outcomes that the contract of the node's call allows at the same plan, request, book and reply buffer are equal: the answer, every

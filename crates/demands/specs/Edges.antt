@@ -1,7 +1,7 @@
 -- Document 01, "Both sides of each edge": the cases marked *, as one table. The one theorem over it is `edges` of proofs/Edges.antt.
---   Sheet, planWith     a plan without F, W and its clients; the plan of a sheet with these three
+--   Counts, planWith     a plan without F, W and its clients; its plan with these three
 --   RefusedOne          refused 1, by every call
---   Every               a sheet's plans for every F and W in their ranges, and both client models
+--   Every               its plans for every F and W in their ranges, and both client models
 --   Case, table         the document's cases and what it says of each, in its order
 --   CaseHolds CasesHold          that what is said of a case is so, and of each case of a list
 -- Assumes nothing.
@@ -35,7 +35,7 @@ use Rattle.session.specs.Writer.{leaves, writeReply}
 use Rattle.session.specs.Reader as reader
 use Rattle.session.specs.Reader.{readReply}
 
-pub record Sheet : Type 0 where
+pub record Counts : Type 0 where
   pub member : Member
   pub n : ℕ
   pub t : ℕ
@@ -43,13 +43,13 @@ pub record Sheet : Type 0 where
   pub q : ℕ
   pub m : ℕ
 
-abbrev pub sheet : Member → (n t b q m : ℕ) → Sheet
-sheet k n t b q m = record { member = k; n = n; t = t; b = b; q = q; m = m }
+abbrev pub countsOf : Member → (n t b q m : ℕ) → Counts
+countsOf k n t b q m = record { member = k; n = n; t = t; b = b; q = q; m = m }
 
-abbrev pub planWith : Sheet → (F W : ℕ) → Clients → Plan
+abbrev pub planWith : Counts → (F W : ℕ) → Clients → Plan
 planWith s F W c = record { n = s .n; t = s .t; b = s .b; q = s .q; m = s .m; f = F; member = s .member; clients = c; w = W }
 
-abbrev pub Every : Sheet → (Plan → Type 0) → Type 0
+abbrev pub Every : Counts → (Plan → Type 0) → Type 0
 Every s P = (F W : ℕ) (c : Clients) → 1 ≤ F → F ≤ 1024 → 1 ≤ W → W ≤ 65535 → P (planWith s F W c)
 
 -- refused 1: outside the plan's rules, and every call answers 1 whatever it is lent, and leaves it
@@ -65,39 +65,39 @@ pub record RefusedOne (p : Plan) : Type 0 where
 -- ---- the table
 pub data Case : Type 0 where
   -- a plan: accepted; refused 1; and t and b that no plan has
-  accept : Sheet → Case
-  refuse : Sheet → Case
+  accept : Counts → Case
+  refuse : Counts → Case
   exclude : (t b : ℕ) → Case
   -- no size of a candidate set is unclassifiable; what a set of a size decides
-  certain : Sheet → Case
-  decide : Sheet → ℕ → Verdict → Case
+  certain : Counts → Case
+  decide : Counts → ℕ → Verdict → Case
   -- a product; fragment k of a column with m = 2; every fragment of one
   multiply : (x y product : ℕ) → Case
   column : (x y k byte : ℕ) → Case
   constant : (x y byte : ℕ) → Case
 
-abbrev pub firstPlan : Sheet
-firstPlan = sheet Repairable 5 1 1 3 2
+abbrev pub firstPlan : Counts
+firstPlan = countsOf Repairable 5 1 1 3 2
 
-abbrev pub secondPlan : Sheet
-secondPlan = sheet NonRepair 7 1 1 3 4
+abbrev pub secondPlan : Counts
+secondPlan = countsOf NonRepair 7 1 1 3 4
 
 abbrev pub table : List Case
 table =
     -- N5 t1 b1 Q3 m2 repairable; same, m3 / N4 / Q4
     accept firstPlan ∷
-    refuse (sheet Repairable 5 1 1 3 3) ∷
-    refuse (sheet Repairable 4 1 1 3 2) ∷
-    refuse (sheet Repairable 5 1 1 4 2) ∷
+    refuse (countsOf Repairable 5 1 1 3 3) ∷
+    refuse (countsOf Repairable 4 1 1 3 2) ∷
+    refuse (countsOf Repairable 5 1 1 4 2) ∷
     -- N7 t1 b1 Q3 m4 non-repair; m5 or N6
     accept secondPlan ∷
-    refuse (sheet NonRepair 7 1 1 3 5) ∷
-    refuse (sheet NonRepair 6 1 1 3 4) ∷
+    refuse (countsOf NonRepair 7 1 1 3 5) ∷
+    refuse (countsOf NonRepair 6 1 1 3 4) ∷
     -- N1 t0 b0 Q1 m1, either member
-    accept (sheet Repairable 1 0 0 1 1) ∷
-    accept (sheet NonRepair 1 0 0 1 1) ∷
-    certain (sheet Repairable 1 0 0 1 1) ∷
-    certain (sheet NonRepair 1 0 0 1 1) ∷
+    accept (countsOf Repairable 1 0 0 1 1) ∷
+    accept (countsOf NonRepair 1 0 0 1 1) ∷
+    certain (countsOf Repairable 1 0 0 1 1) ∷
+    certain (countsOf NonRepair 1 0 0 1 1) ∷
     -- t1 b2
     exclude 1 2 ∷
     -- first plan, set of 4 / 3 / 2 / 1; second plan, set of 3
@@ -119,7 +119,7 @@ table =
 abbrev pub CaseHolds : Case → Type 0
 CaseHolds (accept s) = Every s (λ (p : Plan). planOk p ≡ true)
 CaseHolds (refuse s) = Every s RefusedOne
-CaseHolds (exclude t b) = (k : Member) (n q m : ℕ) → Every (sheet k n t b q m) RefusedOne
+CaseHolds (exclude t b) = (k : Member) (n q m : ℕ) → Every (countsOf k n t b q m) RefusedOne
 CaseHolds (certain s) = Every s (λ (p : Plan). (size : ℕ) → classOf (COMPLETE p) (INCOMPLETE p) size ≡ Unclassifiable → ⊥)
 CaseHolds (decide s size v) = Every s (λ (p : Plan). decided (p .member) (COMPLETE p) (INCOMPLETE p) size ≡ v)
 CaseHolds (multiply x y product) = mul x y ≡ product

@@ -12,7 +12,7 @@ use Rattle.octets.specs.Bytes.{part, put, over, num, numFrom, be, beOnto, alike
 use Rattle.sha256.specs.Sha256.{sha256, after, compressOf, addedOf, roundsOf, roundOf, T1, T2, scheduleOf, words, padding, bigEndian, K}
 use Rattle.terms.specs.Ladder.{first, all}
 use Rattle.terms.specs.Stamp.{stampAt, stampNumber, then}
-use Rattle.terms.specs.Terms.{planOk, countsOk, limitsOk, tableOk, columnOf, recordLength, classOf, decided}
+use Rattle.terms.specs.Terms.{planOk, countsOk, limitsOk, columnOf, recordLength, classOf, decided}
 use Rattle.terms.specs.declared.Ask.{Ask}
 use Rattle.terms.specs.declared.Plan.{Plan}
 use Rattle.terms.specs.declared.Member.the-variants.{Repairable}
@@ -43,18 +43,20 @@ use Rattle.node.specs.Node as node
 use Rattle.node.specs.Node.{NodeCall, served, answered, sends, replyTo, replied, timeFails, hashFails, otherHeld, noRoom}
 use Rattle.node.specs.declared.Made.the-variants.{Fresh}
 use Rattle.node.specs.Fresh.{FreshCall, freshened}
-use Rattle.conduct.specs.History.{Call}
-use Rattle.conduct.proofs.Node as theorems
+use Rattle.store.specs.History.{Call}
+use Rattle.store.proofs.Node as theorems
 use Rattle.report.specs.Triple.{Message, Same}
 use Rattle.report.specs.Figure1.{INITIALIZE}
 use Rattle.report.specs.Ours.{history, bearing, responseOf, responses}
-use Rattle.conduct.specs.Turns as turns
-use Rattle.conduct.proofs.Instances.{small, small-octets}
-use Rattle.report.specs.Run.{received, ReadCalls, closing, closedOver, EachTells, AllClose, Apart, AllApart}
-use Rattle.report.specs.WriteRun.{WriteCalls, untimed, EachWrites}
-use Rattle.report.proofs.Node.{Executes, write-acts, Added, fresh-run}
+use Rattle.client.specs.Turns as turns
+use Rattle.terms.proofs.Small.{small, small-octets}
+use Rattle.report.specs.Run.{received, closing, closedOver, EachTells, AllClose, Apart, AllApart}
+use Rattle.report.specs.WriteRun.{untimed, EachWrites}
+use Rattle.report.proofs.Node.{write-acts, fresh-run}
 use Rattle.report.proofs.Run.{opened-read}
 use Rattle.report.proofs.Write.{opened-write}
+use Rattle.client.specs.Turns.{ReadTurn, WriteTurn, Calls}
+use Rattle.report.specs.Acts.{Executes, Added}
 
 abbrev plan : Plan
 plan = record { n = 1; t = 0; b = 0; q = 1; m = 1; f = 1; member = Repairable; clients = Byzantine; w = 1 }
@@ -78,7 +80,7 @@ abbrev start : Session
 start = freshOf Read 1 Free ask
 
 opens : OpenCall Read plan ask opened
-unfolding opened openWith first planOk countsOk limitsOk tableOk columnOf all
+unfolding opened openWith first planOk countsOk limitsOk columnOf all
 opens = record { is = refl }
 
 reply : List ℕ
@@ -99,7 +101,7 @@ left : Outcome
 left = readReply plan start reply desk (0 ∷ [])
 
 said-is : left .said ≡ done (stampNumber (stampAt rec 0)) 1
-unfolding left reply desk rec readReply first planOk countsOk limitsOk tableOk columnOf all recordLength lengthsOk inRange standingRules openRules every heardCount slotsFit slotFits goodReply goodFrame shaped forParty oneOf bodyFits awaited askNow kindAwaited isHeard bears accepted heard settled closeWith leadOf stepOf aheadOf slotStamp joinsOf setOf actFor actOn sound validates decided classOf among regenerated fragmentHash row crossMade hashesOk underOf num numFrom part put be beOnto alike timeZero stampAt stampNumber then sha256 after compressOf addedOf roundsOf roundOf T1 T2 scheduleOf words padding bigEndian K
+unfolding left reply desk rec readReply first planOk countsOk limitsOk columnOf all recordLength lengthsOk inRange standingRules openRules every heardCount slotsFit slotFits goodReply goodFrame shaped forParty oneOf bodyFits awaited askNow kindAwaited isHeard bears accepted heard settled closeWith leadOf stepOf aheadOf slotStamp joinsOf setOf actFor actOn sound validates decided classOf among regenerated fragmentHash row crossMade hashesOk underOf num numFrom part put be beOnto alike timeZero stampAt stampNumber then sha256 after compressOf addedOf roundsOf roundOf T1 T2 scheduleOf words padding bigEndian K
 said-is = refl
 
 pub call : turns.Turn
@@ -109,16 +111,16 @@ met : ReadReplyCall plan start reply desk (0 ∷ []) (record { answer = Done (st
 unfolding left
 met = record { is = λ j. outcome (sym said-is j) (left .session) (left .desk) (left .item) }
 
-calls : ReadCalls plan start desk (call ∷ [])
+calls : Calls (ReadTurn plan) start desk (call ∷ [])
 unfolding call
-calls = (small-octets reply reply-small, met, tt)
+calls = ((small-octets reply reply-small, met), tt)
 
 -- one round is closed, by one response
 heard-one : Message
 heard-one = bearing plan (put desk 0 rec) 0
 
 closed-one : closing plan start reply desk 1 [] ≡ (heard-one ∷ []) ∷ []
-unfolding heard-one closing responses responseOf reply desk rec first planOk countsOk limitsOk tableOk columnOf all recordLength lengthsOk inRange standingRules openRules every heardCount slotsFit slotFits goodReply goodFrame shaped forParty oneOf bodyFits awaited askNow kindAwaited isHeard bears fragmentHash hashesOk underOf num numFrom part put be beOnto alike timeZero sha256 after compressOf addedOf roundsOf roundOf T1 T2 scheduleOf words padding bigEndian K
+unfolding heard-one closing responses responseOf reply desk rec first planOk countsOk limitsOk columnOf all recordLength lengthsOk inRange standingRules openRules every heardCount slotsFit slotFits goodReply goodFrame shaped forParty oneOf bodyFits awaited askNow kindAwaited isHeard bears fragmentHash hashesOk underOf num numFrom part put be beOnto alike timeZero sha256 after compressOf addedOf roundsOf roundOf T1 T2 scheduleOf words padding bigEndian K
 closed-one = refl
 
 one-apart : (m : Message) → Apart (m ∷ [])
@@ -140,7 +142,7 @@ opened-to-write : Opened
 opened-to-write = record { answer = Accepted; session = start-to-write }
 
 opens-to-write : OpenCall Write plan ask opened-to-write
-unfolding opened-to-write openWith first planOk countsOk limitsOk tableOk columnOf all
+unfolding opened-to-write openWith first planOk countsOk limitsOk columnOf all
 opens-to-write = record { is = refl }
 
 time-reply : List ℕ
@@ -154,7 +156,7 @@ pub after-time : Leaves
 after-time = writeReply plan start-to-write time-reply desk (7 ∷ [])
 
 still-is : after-time .said ≡ stillOpen
-unfolding after-time time-reply desk writeReply acceptedWrite timeTurn timeEnd first planOk countsOk limitsOk tableOk columnOf all recordLength lengthsOk inRange standingRules openRules every heardCount slotsFit slotFits goodReply goodFrame shaped forParty oneOf bodyFits awaited askNow kindAwaited isHeard num numFrom part be beOnto
+unfolding after-time time-reply desk writeReply acceptedWrite timeTurn timeEnd first planOk countsOk limitsOk columnOf all recordLength lengthsOk inRange standingRules openRules every heardCount slotsFit slotFits goodReply goodFrame shaped forParty oneOf bodyFits awaited askNow kindAwaited isHeard num numFrom part be beOnto
 still-is = refl
 
 pub write-call : turns.Turn
@@ -165,9 +167,9 @@ write-met : WriteReplyCall plan start-to-write time-reply desk (7 ∷ []) (recor
 unfolding after-time
 write-met = record { is = λ j. leaves (sym still-is j) (after-time .session) (after-time .desk) }
 
-write-calls : WriteCalls plan start-to-write desk (write-call ∷ [])
+write-calls : Calls (WriteTurn plan) start-to-write desk (write-call ∷ [])
 unfolding write-call
-write-calls = (small-octets time-reply time-small, write-met, tt)
+write-calls = ((small-octets time-reply time-small, write-met), tt)
 
 -- the theorem at this run
 pub write-so : EachWrites plan start-to-write desk untimed (write-call ∷ [])
@@ -176,7 +178,7 @@ write-so = opened-write plan ask opened-to-write desk (write-call ∷ []) opens-
 
 -- and its write round is open
 storing-is : after-time .session .stage ≡ Storing
-unfolding after-time time-reply desk writeReply acceptedWrite timeTurn timeEnd first planOk countsOk limitsOk tableOk columnOf all recordLength lengthsOk inRange standingRules openRules every heardCount slotsFit slotFits goodReply goodFrame shaped forParty oneOf bodyFits awaited askNow kindAwaited isHeard num numFrom part be beOnto
+unfolding after-time time-reply desk writeReply acceptedWrite timeTurn timeEnd first planOk countsOk limitsOk columnOf all recordLength lengthsOk inRange standingRules openRules every heardCount slotsFit slotFits goodReply goodFrame shaped forParty oneOf bodyFits awaited askNow kindAwaited isHeard num numFrom part be beOnto
 storing-is = refl
 
 -- ---- a node
@@ -198,7 +200,7 @@ pub taken : node.ServedOutcome
 taken = served plan request book (replicate 88 0)
 
 replied-is : taken .answer ≡ replied 55
-unfolding taken request book rec served first planOk countsOk limitsOk tableOk columnOf all recordLength node.bookReplyOk goodBook headed filled rising timed recordsFrom goodRequest goodFrame shaped forParty oneOf bodyFits timeFails hashFails otherHeld noRoom some fragmentHash hashesOk timeZero answered sends replyTo over laidAs header joined num numFrom part be beOnto alike sha256 after compressOf addedOf roundsOf roundOf T1 T2 scheduleOf words padding bigEndian K
+unfolding taken request book rec served first planOk countsOk limitsOk columnOf all recordLength node.bookReplyOk goodBook headed filled rising timed recordsFrom goodRequest goodFrame shaped forParty oneOf bodyFits timeFails hashFails otherHeld noRoom some fragmentHash hashesOk timeZero answered sends replyTo over laidAs header joined num numFrom part be beOnto alike sha256 after compressOf addedOf roundsOf roundOf T1 T2 scheduleOf words padding bigEndian K
 replied-is = refl
 
 node-met : NodeCall plan request book (replicate 88 0) (Replied 55) (taken .book) (taken .reply)
@@ -214,7 +216,7 @@ pub executed : Executes plan request book (replicate 88 0) (taken .book) (taken 
 executed = write-acts plan request book (replicate 88 0) (small-octets book book-small) (small-octets request request-small) 55 (taken .book) (taken .reply) node-met kind-is
 
 -- and none of the conditions that document 01 adds stands against it
-added : Added plan request book (replicate 88 0) (small-octets book book-small) (small-octets request request-small)
+added : Added plan request book (replicate 88 0)
 added =
     let c = theorems.clear plan request book (replicate 88 0) (theorems.replied-is plan request book (replicate 88 0) 55 (taken .book) (taken .reply) node-met .0) in
     record {
@@ -229,7 +231,7 @@ added =
 
 -- the book is a fresh one
 made-so : FreshCall plan 0 (replicate 84 0) Fresh book
-unfolding book freshened first planOk countsOk limitsOk tableOk columnOf all
+unfolding book freshened first planOk countsOk limitsOk columnOf all
 made-so = record { is = refl }
 
 pub node-call : Call

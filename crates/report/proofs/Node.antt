@@ -17,6 +17,7 @@ use lib.ListN.{length, length-drop}
 use Rattle.octets.specs.Bytes.{part, be, over, Octets}
 use Rattle.octets.proofs.Laws.{length-part}
 use Rattle.octets.proofs.Meaning.{octets-part, octets-drop}
+use Rattle.terms.proofs.Down as down
 use Rattle.terms.proofs.Rungs as rungs
 use Rattle.terms.proofs.Rungs.{both, clash}
 use Rattle.terms.specs.Ladder.{_and_, None}
@@ -24,6 +25,7 @@ use Rattle.terms.specs.Stamp.{stamp, time}
 use Rattle.terms.specs.Terms.{planOk, recordLength}
 use Rattle.terms.specs.declared.Plan.{Plan}
 use Rattle.terms.specs.declared.Refusal.{Refusal}
+use Rattle.terms.proofs.Small.{strict}
 use Rattle.frame.specs.Frame.{kindOf, frameNode, askOf, bodyOf, frame, goodRequest}
 use Rattle.frame.proofs.Frames.{request-is}
 use Rattle.record.specs.Record.{hashesOk, timeZero}
@@ -39,12 +41,12 @@ use Rattle.node.specs.declared.Made.the-variants.{Fresh}
 use Rattle.node.specs.Fresh.{FreshCall, FreshOutcome, freshOutcome, made, freshened, freshLadder}
 use Rattle.node.specs.Fresh as fresh
 use Rattle.node.proofs.Laws as nodes
-use Rattle.conduct.specs.Deliver.{Among}
-use Rattle.conduct.specs.History.{Call, History, lastBook}
-use Rattle.conduct.proofs.Order as order
-use Rattle.conduct.proofs.One as one
-use Rattle.conduct.proofs.Node as calls
-use Rattle.conduct.proofs.Kept as keeps
+use Rattle.store.specs.Deliver.{Among}
+use Rattle.store.specs.History.{Call, History, lastBook}
+use Rattle.store.proofs.Order as order
+use Rattle.store.proofs.One as one
+use Rattle.store.proofs.Node as calls
+use Rattle.store.proofs.Kept as keeps
 use Rattle.terms.proofs.Ladders as ladders
 use Rattle.report.specs.Triple.{Triple, each, In, Same}
 use Rattle.report.specs.Figure1.{initial, INITIALIZE, RECEIVE-TIME-REQUEST, VALIDATE, with-it, Written, RECEIVE-WRITE-REQUEST, RECEIVE-READ-LATEST, RECEIVE-READ-PREVIOUS}
@@ -53,6 +55,7 @@ use Rattle.report.specs.Run.{OfPlan, replies-to, received}
 use Rattle.report.proofs.Triples.{stamp-low, time-in, time-none, validate-is}
 use Rattle.report.proofs.Lists.{same-more, same-trans}
 use Rattle.report.proofs.Latest.{time-of, latest-of, previous-of}
+use Rattle.report.specs.Acts.{Sends, Executes, Added}
 
 -- ---- the records of a book
 -- what holds of every part of R bytes, and of none, holds of the last record
@@ -110,18 +113,6 @@ module _ (p : Plan) where
       back (inr (inr h)) = of-triples (In X (initial ∷ each (tripleOf p) ks)) X rs h (λ z m e. held z (more z m) e)
 
 -- ---- the call
--- a read reply that bears the only triple of a set
-pub record Sends (p : Plan) (f y y₂ : List ℕ) (set : List Triple) : Type 0 where
-  pub body : List ℕ
-  pub sent : y₂ ≡ over (frame 7 (frameNode f) (askOf f) body) y
-  pub is : set ≡ tripleOf p body ∷ []
-
--- a write that was executed: WRITE_RESPONSE is sent, which here bears the timestamp, and the History is Figure 1's
-pub record Executes (p : Plan) (f b y b₂ y₂ : List ℕ) : Type 0 where
-  pub valid : RECEIVE-WRITE-REQUEST (family p) (nodeOf b) (history p b) (tripleOf p (bodyOf f)) .sent ≡ true
-  pub set : Same (history p b₂) (RECEIVE-WRITE-REQUEST (family p) (nodeOf b) (history p b) (tripleOf p (bodyOf f)) .History)
-  pub sent : y₂ ≡ over (frame 4 (frameNode f) (askOf f) (part (bodyOf f) 0 40)) y
-
 module _ (p : Plan) (f b y : List ℕ) (ob : Octets b) (of : Octets f) where
   -- a request to write: VALIDATE is the condition of refusal 6
   write-body : goodRequest p (nodeOf b) f ≡ true → kindOf f ≡ 3 → 40 ≤ length (bodyOf f)
@@ -192,7 +183,7 @@ module _ (p : Plan) (f b y : List ℕ) (ob : Octets b) (of : Octets f) where
         low : 1 ≤ time (bodyOf f)
         low =
             let z : eqb (time (bodyOf f)) 0 ≡ false = rw k at (clear .time) in
-            order.strict 0 (time (bodyOf f)) (omega arith) (λ e. eqb-false (time (bodyOf f)) 0 z (sym e))
+            strict 0 (time (bodyOf f)) (omega arith) (λ e. eqb-false (time (bodyOf f)) 0 z (sym e))
 
     -- RECEIVE_WRITE_REQUEST
     pub write-acts : kindOf f ≡ 3 → Executes p f b y b₂ y₂
@@ -225,18 +216,7 @@ module _ (p : Plan) (f b y : List ℕ) (ob : Octets b) (of : Octets f) where
       let q = calls.clear p f b y (calls.replied-is p f b y n b₂ y₂ c .0) in
       absurd (clash (sym (ap not v) ∙ validates r k ∙ q .hash))
 
-  -- one that it lets through is executed, where none of the conditions that document 01 adds stands against it: 1 to 4 of plan, lengths, book and
-  -- frame; 5, a time of 0; 7, other bytes held at this timestamp; 8, no room
-  pub record Added : Type 0 where
-    pub plan : planOk p ≡ true
-    pub lengths : bookReplyOk p (length b) (length y) ≡ true
-    pub book : goodBook p b ≡ true
-    pub request : goodRequest p (nodeOf b) f ≡ true
-    pub time : timeFails f ≡ false
-    pub other : otherHeld p f b ≡ false
-    pub room : noRoom p f b ≡ false
-
-  pub valid-acts : Added → kindOf f ≡ 3 → VALIDATE (family p) (nodeOf b) (tripleOf p (bodyOf f)) ≡ true
+  pub valid-acts : Added p f b y → kindOf f ≡ 3 → VALIDATE (family p) (nodeOf b) (tripleOf p (bodyOf f)) ≡ true
       → (a : Answer) (b₂ y₂ : List ℕ) → NodeCall p f b y a b₂ y₂ → servedOutcome (saidServed a) b₂ y₂ ≡ answered p f b y
   unfolding served
   valid-acts h k v a b₂ y₂ c =
@@ -258,11 +238,11 @@ module _ (p : Plan) (node : ℕ) (b b₂ : List ℕ) (c : FreshCall p node b Fre
       ladders.by-ladder (λ (o : FreshOutcome). freshOutcome made b₂ ≡ o → one.Laid p node b b₂ []) (freshLadder p node b) refuse done
       (λ k g h. absurd (let s : made ≡ fresh.refused k = ap (λ (o : FreshOutcome). o .answer) h in let z : _≡_ {A = ℕ} 0 1 = cc in omega arith))
       (λ n h.
-      let l = both (leb 11 (length b)) (leb (length b) 65536) (not-false _ (n .1 .0)) in
+      let l = both (leb 11 (length b)) (leb (length b) 65536) (not-false _ (down.clear (freshLadder p node b) n 2)) in
       let low : 11 ≤ length b = leb-true _ _ (l .0) in
       record {
-        plan = not-false _ (n .0);
-        low = ltb-true _ _ (not-false _ (n .1 .1 .0));
+        plan = not-false _ (down.clear (freshLadder p node b) n 1);
+        low = ltb-true _ _ (not-false _ (down.clear (freshLadder p node b) n 4));
         high = leb-true _ _ (l .1);
         bytes = ap (λ (o : FreshOutcome). o .book) h;
         sizes = tt;

@@ -10,17 +10,7 @@ use Rattle.terms.specs.declared.Member.{Member}
 use Rattle.terms.specs.declared.Member.the-variants.{Repairable, NonRepair}
 use Rattle.terms.proofs.Plans.{Column, column-back, plan-is, plan-back}
 use Rattle.terms.proofs.Facts.{facts}
-use Rattle.report.specs.Table2.{Table2, surely-complete, surely-incomplete}
-
--- what document 01 adds to the table: N up to 16, b ≤ t, and the ranges of F and W
-pub record Ranges (p : Plan) : Type 0 where
-  pub n-low : 1 ≤ p .n
-  pub n-high : p .n ≤ 16
-  pub b-t : p .b ≤ p .t
-  pub f-low : 1 ≤ p .f
-  pub f-high : p .f ≤ 1024
-  pub w-low : 1 ≤ p .w
-  pub w-high : p .w ≤ 65535
+use Rattle.report.specs.Table2.{Table2, surely-complete, surely-incomplete, Ranges, Table2-of}
 
 table : (k : Member) (n t b q m : ℕ) → Column k n t b q m → Table2 k n t b q m
 table Repairable n t b q m c =
@@ -31,9 +21,6 @@ table NonRepair n t b q m c =
 column : (k : Member) (n t b q m : ℕ) → Table2 k n t b q m → Column k n t b q m
 column Repairable n t b q m c = (omega arith, omega arith, omega arith, omega arith)
 column NonRepair n t b q m c = (omega arith, omega arith, omega arith, omega arith)
-
-abbrev pub Table2-of : Plan → Type 0
-Table2-of p = Table2 (p .member) (p .n) (p .t) (p .b) (p .q) (p .m)
 
 -- AN ACCEPTED PLAN IS WITHIN ITS RANGES, AND TABLE 2 HOLDS OF IT
 pub accepted-is : (p : Plan) → planOk p ≡ true → Ranges p × Table2-of p

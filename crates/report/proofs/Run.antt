@@ -19,6 +19,7 @@ use Rattle.terms.specs.Stamp.{stamp, time, stampNumber}
 use Rattle.terms.specs.Terms.{planOk, recordLength}
 use Rattle.terms.specs.declared.Plan.{Plan}
 use Rattle.terms.specs.declared.Ask.{Ask}
+use Rattle.terms.proofs.Down.{clear}
 use Rattle.terms.proofs.Rungs.{both, clash}
 use Rattle.terms.proofs.Plans.{plan-is}
 use Rattle.terms.proofs.Facts.{facts}
@@ -55,7 +56,7 @@ use Rattle.report.specs.Figure3.{READ-LATEST, READ-PREVIOUS, Decision, r
 use Rattle.report.specs.Ours.{family, responses, sending, commandOf}
 use Rattle.report.specs.Decides.{Decides}
 use Rattle.report.specs.Run as run
-use Rattle.conduct.specs.Turns as turns
+use Rattle.client.specs.Turns as turns
 use Rattle.report.specs.Run.{closedBy, closing, closedOver, Tells, Repairing, EachTells, Gathers, AllClose, AllApart}
 use Rattle.report.proofs.Lists.{strung-same}
 use Rattle.report.proofs.Sets.{size-is}
@@ -63,6 +64,7 @@ use Rattle.report.proofs.Hears.{puts, said-by, said-first, valid-record
 use Rattle.report.proofs.Erasure.{fragment-place, laid-is}
 use Rattle.report.proofs.Round.{Full, round-decides}
 use Rattle.report.proofs.Marks.{no-mark, mark-none, none-heard, slot-own, slot-other, Passed, one-cross}
+use Rattle.client.specs.Turns.{ReadTurn, Calls}
 
 -- ---- what is known between two calls: by the stage, of the session, its desk and the rounds closed so far
 -- in a read round: READ is to send what the bound says
@@ -283,21 +285,21 @@ module _ (p : Plan) (s : Session) (f d i : List ℕ) (sets : List (List Message)
   n₂ = none-applies (recordLadder p s f) refl e₂
 
   plan-ok : planOk p ≡ true
-  plan-ok = not-false (planOk p) (n₁ .0)
+  plan-ok = not-false (planOk p) (clear (replyLadder Read p s f d (length i)) n₁ 1)
 
   lengths : Lengths p (length d) (length i)
-  lengths = lengths-are p (length d) (length i) (not-false (lengthsOk p (length d) (length i)) (n₁ .1 .0))
+  lengths = lengths-are p (length d) (length i) (not-false (lengthsOk p (length d) (length i)) (clear (replyLadder Read p s f d (length i)) n₁ 2))
 
   ranges : StandingIs p s × OpenIs p s d
   ranges =
-      in-range-facts p s d (both (isRead (s .operation)) (inRange p s d) (not-false (isRead (s .operation) and inRange p s d) (n₁ .1 .1 .0)) .1) (n₁ .1 .1 .1 .0)
+      in-range-facts p s d (both (isRead (s .operation)) (inRange p s d) (not-false (isRead (s .operation) and inRange p s d) (clear (replyLadder Read p s f d (length i)) n₁ 9)) .1) (clear (replyLadder Read p s f d (length i)) n₁ 14)
 
   unmarked : markOf (s .marks) node ≡ Unheard
   unfolding isHeard
-  unmarked = not-heard (markOf (s .marks) node) (n₁ .1 .1 .1 .1 .1 .1 .0)
+  unmarked = not-heard (markOf (s .marks) node) (clear (replyLadder Read p s f d (length i)) n₁ 11)
 
   node-low : node < p .n
-  node-low = reply-is p f (not-false (goodReply p f) (n₁ .1 .1 .1 .1 .0)) .node-low
+  node-low = reply-is p f (not-false (goodReply p f) (clear (replyLadder Read p s f d (length i)) n₁ 4)) .node-low
 
   rest-after : (m : Mark) → restUnheard (set (s .marks) node m) (p .n) ≡ true
   rest-after m = rest-set (s .marks) (p .n) node m node-low ∙ ranges .0 .rest
@@ -314,8 +316,8 @@ module _ (p : Plan) (s : Session) (f d i : List ℕ) (sets : List (List Message)
   unfolding timeZero
   body-passed b =
       record {
-        timed = positive (time (bodyOf f)) (rw b at (n₂ .0));
-        hashes = not-false (hashesOk p node (bodyOf f)) (rw b at (n₂ .1 .0));
+        timed = positive (time (bodyOf f)) (rw b at (clear (recordLadder p s f) n₂ 5));
+        hashes = not-false (hashesOk p node (bodyOf f)) (rw b at (clear (recordLadder p s f) n₂ 6));
       }
 
   -- AN ACCEPTED REPLY OF A READ ROUND IS PUT INTO THE RESPONSE SET AS LINES 8 TO 11 OF DO_READ PUT IT
@@ -333,7 +335,7 @@ module _ (p : Plan) (s : Session) (f d i : List ℕ) (sets : List (List Message)
         subst (Same (responses p (set (s .marks) node (record { is = Record })) (put d (node * recordLength p) (bodyOf f)) (p .n)))
         (sym (puts p (commandOf (s .bound)) before (said-by p node (bodyOf f))
         (valid-record p node (bodyOf f) (omega (arith, long-body p f b, record-length p)) (octets-drop 15 f of) (body-passed b .timed) ∙ body-passed b .hashes)
-        (in-time-is (s .bound) (stamp (bodyOf f)) ∙ not-false (underOf (s .bound) (stamp (bodyOf f))) (rw b at (n₂ .1 .1 .0)))
+        (in-time-is (s .bound) (stamp (bodyOf f)) ∙ not-false (underOf (s .bound) (stamp (bodyOf f))) (rw b at (clear (recordLadder p s f) n₂ 12)))
         (unheard-has p (s .marks) d node (p .n) unmarked)))
         (record-after p (s .marks) d node node-low inside unmarked (bodyOf f) (k .desk) (long-body p f b))
 
@@ -484,7 +486,7 @@ module _ (p : Plan) (s : Session) (f d i : List ℕ) (sets : List (List Message)
             stores p d i (plan-ok p s f d i sets of keep sz e₁ e₂) (lengths p s f d i sets of keep sz e₁ e₂ .desk-is) (lengths p s f d i sets of keep sz e₁ e₂ .item-is)
             s f sets st (subst (λ (x : Stage). KeepsAt x p s d sets) st keep) sz
             (most-after p s f d i sets of keep sz e₁ e₂ (record { is = Record }) refl (storing-size st keep))
-        go Ended st = λ a. absurd (clash (sym (ap isEnded st) ∙ n₁ p s f d i sets of keep sz e₁ e₂ .1 .1 .1 .0))
+        go Ended st = λ a. absurd (clash (sym (ap isEnded st) ∙ clear (replyLadder Read p s f d (length i)) (n₁ p s f d i sets of keep sz e₁ e₂) 14))
 
     call-leaves : AllApart (closing p s f d (length i) sets) → Leaves p (readReply p s f d i) (closing p s f d (length i) sets)
     call-leaves a =
@@ -526,18 +528,18 @@ repairing p s d sets e k =
 
 -- EACH CALL OF A READ TELLS WHAT FIGURE 3'S READ DECIDES OF THE RESPONSE SETS OF THE ROUNDS CLOSED SO FAR, cut at W
 pub read-run : (p : Plan) (s : Session) (d : List ℕ) (sets : List (List Message)) (cs : List turns.Turn) → Keeps p s d sets → AllClose p sets
-    → run.ReadCalls p s d cs → AllApart (closedOver p s d sets cs) → EachTells p s d sets cs × AllClose p (closedOver p s d sets cs)
+    → Calls (ReadTurn p) s d cs → AllApart (closedOver p s d sets cs) → EachTells p s d sets cs × AllClose p (closedOver p s d sets cs)
 read-run p s d sets [] k sz r a = (tt, sz)
 read-run p s d sets (c ∷ cs) k sz r a =
     let q : Leaves p (outcome (saidOf (c .took .answer)) (c .took .session) (c .deskLeft) (c .itemLeft)) (closing p s (c .reply) d (length (c .item)) sets) =
-    subst (λ (o : Outcome). Leaves p o (closing p s (c .reply) d (length (c .item)) sets)) (sym (r .1 .is))
-    (call-leaves p s (c .reply) d (c .item) sets (r .0) k sz (runs-fewer p (c .took .session) (c .deskLeft) (closing p s (c .reply) d (length (c .item)) sets) cs a)) in
-    let t = read-run p (c .took .session) (c .deskLeft) (closing p s (c .reply) d (length (c .item)) sets) cs (q .keeps) (q .sized) (r .2) a in
+    subst (λ (o : Outcome). Leaves p o (closing p s (c .reply) d (length (c .item)) sets)) (sym (r .0 .1 .is))
+    (call-leaves p s (c .reply) d (c .item) sets (r .0 .0) k sz (runs-fewer p (c .took .session) (c .deskLeft) (closing p s (c .reply) d (length (c .item)) sets) cs a)) in
+    let t = read-run p (c .took .session) (c .deskLeft) (closing p s (c .reply) d (length (c .item)) sets) cs (q .keeps) (q .sized) (r .1) a in
     ((q .tells, (λ e. repairing p (c .took .session) (c .deskLeft) (closing p s (c .reply) d (length (c .item)) sets) e (q .keeps)), t .0), t .1)
 
 -- FROM OPENING: no round is closed yet
 pub opened-read : (p : Plan) (a : Ask) (r : Opened) (d : List ℕ) (cs : List turns.Turn) → OpenCall Read p a r → r .answer ≡ Accepted
-    → length d ≡ p .n * recordLength p → Octets d → run.ReadCalls p (r .session) d cs
+    → length d ≡ p .n * recordLength p → Octets d → Calls (ReadTurn p) (r .session) d cs
     → AllApart (closedOver p (r .session) d [] cs) → EachTells p (r .session) d [] cs × AllClose p (closedOver p (r .session) d [] cs)
 opened-read p a r d cs call e ld od h apart = read-run p (r .session) d [] cs start tt h apart
   where

@@ -1,5 +1,5 @@
--- The hypotheses of the theorems on whole runs can be met by a read of two rounds and a repair, and by a write that is done: those of conduct's
--- ReadInstance.antt and WriteInstance.antt, call by call from their openings. Instances.antt has runs of one call.
+-- The hypotheses of the theorems on whole runs can be met by a read of two rounds and a repair, and by a write that is done: those of client's
+-- Instances/Read.antt and Instances/Write.antt, call by call from their openings. Instances.antt has runs of one call.
 --   read-repairs-so    READ, of round 1, of both rounds and of the repair; each closed set is what DO_READ gathered for the command to be sent
 --   write-done-so      WRITE, up to done
 -- Assumes nothing.
@@ -15,7 +15,7 @@ use Rattle.octets.specs.Bytes.{part, num, numFrom, be, beOnto}
 use Rattle.sha256.specs.Sha256.{sha256, after, compressOf, addedOf, roundsOf, roundOf, T1, T2, scheduleOf, words, padding, bigEndian, K}
 use Rattle.terms.specs.Ladder.{Rung, first, all}
 use Rattle.terms.specs.Stamp.{then, stampAt, stampNumber}
-use Rattle.terms.specs.Terms.{planOk, countsOk, limitsOk, tableOk, columnOf, recordLength}
+use Rattle.terms.specs.Terms.{planOk, countsOk, limitsOk, columnOf, recordLength}
 use Rattle.frame.specs.Frame.{shaped, bodyFits, forParty, oneOf, goodFrame, goodReply}
 use Rattle.record.specs.Record.{crossOf}
 use Rattle.record.specs.Desk.{slotOf}
@@ -25,28 +25,22 @@ use Rattle.session.specs.declared.Operation.the-variants.{Read}
 use Rattle.session.specs.Session.{askNow, kindAwaited}
 use Rattle.session.specs.Ranges.{standingRules, openRules, inRange}
 use Rattle.session.specs.Reply.{lengthsOk, awaited, isHeard, bears, replyLadder, recordLadder}
-use Rattle.conduct.specs.Turns.{Turn}
-use Rattle.conduct.proofs.Instances.{small, small-octets}
-use Rattle.conduct.proofs.ReadInstance as reads
-use Rattle.conduct.proofs.ReadInstance.{plan, ask, hash, poor, stamp-bytes, good, desk, desk-poor, desk-good, desk-full, desk-long}
-use Rattle.conduct.proofs.WriteInstance as writes
+use Rattle.client.specs.Turns.{Turn}
+use Rattle.terms.proofs.Small.{small, small-octets}
+use Rattle.client.proofs.Instances.Read as reads
+use Rattle.client.proofs.Instances.Read.{plan, ask, hash, poor, stamp-bytes, good, desk, desk-poor, desk-good, desk-full, desk-long}
+use Rattle.client.proofs.Instances.Write as writes
 use Rattle.report.specs.Triple.{Message}
 use Rattle.report.specs.Figure1.{initial}
 use Rattle.report.specs.Ours.{bearing, responseOf, responses}
-use Rattle.report.specs.Run.{ReadCalls, closing, closedOver, EachTells, AllClose, Apart, AllApart}
-use Rattle.report.specs.WriteRun.{WriteCalls, untimed, EachWrites}
+use Rattle.report.specs.Run.{closing, closedOver, EachTells, AllClose, Apart, AllApart}
+use Rattle.report.specs.WriteRun.{untimed, EachWrites}
 use Rattle.report.proofs.Run.{opened-read}
 use Rattle.report.proofs.Write.{opened-write}
 
 -- ---- the read
 abbrev pub read-calls : List Turn
 read-calls = reads.call-1 ∷ reads.call-2 ∷ reads.call-3 ∷ reads.call-4 ∷ reads.call-5 ∷ reads.call-6 ∷ []
-
-read-met : ReadCalls plan reads.start desk read-calls
-read-met =
-    let b = reads.replies-so in
-    let c = reads.calls in
-    (b .0, c .0, (b .2 .0, c .1 .0, (b .2 .2 .0, c .1 .1 .0, (b .2 .2 .2 .0, c .1 .1 .1 .0, (b .2 .2 .2 .2 .0, c .1 .1 .1 .1 .0, (b .2 .2 .2 .2 .2 .0, c .1 .1 .1 .1 .1 .0, tt))))))
 
 -- the response sets of its two rounds: a record of node 0, the first triple of node 1
 abbrev heard-in : List ℕ → List Message
@@ -71,7 +65,7 @@ module _ (before : List (List Message)) where
   closing-1 = none-closed (replyLadder Read plan reads.start reads.reply-1 desk 1) before _ (none-closed (recordLadder plan reads.start reads.reply-1) before _ refl)
 
   closing-2 : closing plan reads.first-heard reads.reply-2 desk-poor 1 before ≡ heard-in desk-poor ∷ before
-  unfolding closing responses responseOf reads.reply-2 plan desk-poor poor hash first planOk countsOk limitsOk tableOk columnOf all recordLength lengthsOk inRange standingRules openRules every
+  unfolding closing responses responseOf reads.reply-2 plan desk-poor poor hash first planOk countsOk limitsOk columnOf all recordLength lengthsOk inRange standingRules openRules every
       heardCount slotsFit slotFits slotStamp goodReply goodFrame shaped forParty oneOf bodyFits awaited askNow kindAwaited isHeard bears underOf num numFrom part be beOnto
   closing-2 = refl
 
@@ -80,7 +74,7 @@ module _ (before : List (List Message)) where
   closing-3 = none-closed (replyLadder Read plan reads.second-round reads.reply-3 desk-poor 1) before _ (none-closed (recordLadder plan reads.second-round reads.reply-3) before _ refl)
 
   closing-4 : closing plan reads.second-heard reads.reply-4 desk-good 1 before ≡ heard-in desk-good ∷ before
-  unfolding closing responses responseOf reads.reply-4 plan desk-poor poor desk-good good stamp-bytes hash first planOk countsOk limitsOk tableOk columnOf all recordLength lengthsOk inRange
+  unfolding closing responses responseOf reads.reply-4 plan desk-poor poor desk-good good stamp-bytes hash first planOk countsOk limitsOk columnOf all recordLength lengthsOk inRange
       standingRules openRules every heardCount slotsFit slotFits slotStamp goodReply goodFrame shaped forParty oneOf bodyFits awaited askNow kindAwaited isHeard bears underOf
       num numFrom part be beOnto stampAt stampNumber then
   closing-4 = refl
@@ -139,7 +133,7 @@ desk-small = refl
 -- the theorem at this run
 pub read-repairs-so : EachTells plan reads.start desk [] read-calls × AllClose plan (closedOver plan reads.start desk [] read-calls)
 read-repairs-so =
-    opened-read plan ask reads.opened desk read-calls reads.opened-so refl desk-long (small-octets desk desk-small) read-met (subst AllApart (sym closed-so) apart-so)
+    opened-read plan ask reads.opened desk read-calls reads.opened-so refl desk-long (small-octets desk desk-small) reads.calls (subst AllApart (sym closed-so) apart-so)
 
 -- ---- the write
 abbrev pub write-calls : List Turn
@@ -147,7 +141,4 @@ write-calls = writes.call-1 ∷ writes.call-2 ∷ writes.call-3 ∷ writes.call-
 
 -- the theorem at this run
 pub write-done-so : EachWrites plan writes.start desk untimed write-calls
-write-done-so = opened-write plan ask writes.opened desk write-calls writes.opened-so refl write-met
-  where
-    write-met : WriteCalls plan writes.start desk write-calls
-    write-met = let b = writes.calls in (b .0, writes.met-1, (b .2 .0, writes.met-2, (b .2 .2 .0, writes.met-3, (b .2 .2 .2 .0, writes.met-4, tt))))
+write-done-so = opened-write plan ask writes.opened desk write-calls writes.opened-so refl writes.calls

@@ -17,6 +17,7 @@ use Rattle.terms.specs.Ladder.{first, _and_, None}
 use Rattle.terms.specs.Stamp.{stamp, time, stampNumber, top}
 use Rattle.terms.specs.declared.Plan.{Plan}
 use Rattle.terms.specs.declared.Ask.{Ask}
+use Rattle.terms.proofs.Down.{clear}
 use Rattle.terms.proofs.Rungs.{both, clash}
 use Rattle.terms.proofs.Plans.{plan-is}
 use Rattle.terms.proofs.Stamps.{stamp-at-number}
@@ -48,9 +49,10 @@ use Rattle.session.proofs.Writers.{record-is, Taking, taking}
 use Rattle.report.specs.Triple.{Triple, Message, larger, MAX}
 use Rattle.report.specs.Figure2.{READ-TIMESTAMP, MAKE-CROSS-CHECKSUM, MAKE-TIMESTAMP, DO-WRITE, ts-written, WRITE}
 use Rattle.report.specs.Ours.{family, stampedAs, bearing, sending}
-use Rattle.conduct.specs.Turns as turns
-use Rattle.report.specs.WriteRun.{WriteCalls, Timed, untimed, timing, Wrote, Sending, EachWrites}
+use Rattle.client.specs.Turns as turns
+use Rattle.report.specs.WriteRun.{Timed, untimed, timing, Wrote, Sending, EachWrites}
 use Rattle.report.proofs.Lists.{strung-row, listed-same}
+use Rattle.client.specs.Turns.{WriteTurn, Calls}
 
 -- ---- the records of an item at a time are what DO_WRITE sends
 module _ (p : Plan) (t : ℕ) (i : List ℕ) (l : length i ≡ p .m * p .f) where
@@ -235,12 +237,12 @@ module _ (p : Plan) (s : Session) (f d i : List ℕ) (w : Timed) where
 
     few : heardCount (s .marks) < replies p
     few =
-        let r = both (not (isRead (s .operation))) (inRange p s d) (not-false (not (isRead (s .operation)) and inRange p s d) (n .1 .1 .0)) in
-        ltb-true (heardCount (s .marks)) (replies p) (in-range-facts p s d (r .1) (n .1 .1 .1 .0) .1 .few)
+        let r = both (not (isRead (s .operation))) (inRange p s d) (not-false (not (isRead (s .operation)) and inRange p s d) (clear (replyLadder Write p s f d (length i)) n 9)) in
+        ltb-true (heardCount (s .marks)) (replies p) (in-range-facts p s d (r .1) (clear (replyLadder Write p s f d (length i)) n 14) .1 .few)
 
     no-mark : markOf (s .marks) (frameNode f) ≡ Unheard
     unfolding isHeard
-    no-mark = not-heard (markOf (s .marks) (frameNode f)) (n .1 .1 .1 .1 .1 .1 .0)
+    no-mark = not-heard (markOf (s .marks) (frameNode f)) (clear (replyLadder Write p s f d (length i)) n 11)
 
     counted : length (s .marks) ≡ 16 → heardCount (set (s .marks) (frameNode f) (record { is = Record })) ≡ suc (heardCount (s .marks))
     counted l =
@@ -272,7 +274,7 @@ module _ (p : Plan) (s : Session) (f d i : List ℕ) (w : Timed) where
             writes-on p (markedOf s (frameNode f) Record) d w st
             (record { times = k .0 .times; stamp = k .0 .stamp; sends = k .0 .sends }, length-set (s .marks) (frameNode f) (record { is = Record }) ∙ k .1)
             (omega (arith, counted (k .1), few))
-        go Ended st = absurd (clash (sym (ap isEnded st) ∙ n .1 .1 .1 .0))
+        go Ended st = absurd (clash (sym (ap isEnded st) ∙ (clear (replyLadder Write p s f d (length i)) n 14)))
 
   call-right : Keeps p s d w → Right p (writeReply p s f d i) (timing p s f d i w)
   call-right keep =
@@ -286,19 +288,19 @@ sent : (p : Plan) (s : Session) (d : List ℕ) (w : Timed) → s .stage ≡ Stor
 sent p s d w e k = let q : Sending p s d w × (length (s .marks) ≡ 16) = subst (λ (y : Stage). KeepsAt y p s d w) e k in q .0
 
 -- EACH CALL OF A WRITE SENDS AND TELLS WHAT FIGURE 2'S WRITE DOES
-pub write-run : (p : Plan) (s : Session) (d : List ℕ) (w : Timed) (cs : List turns.Turn) → Keeps p s d w → WriteCalls p s d cs → EachWrites p s d w cs
+pub write-run : (p : Plan) (s : Session) (d : List ℕ) (w : Timed) (cs : List turns.Turn) → Keeps p s d w → Calls (WriteTurn p) s d cs → EachWrites p s d w cs
 write-run p s d w [] k r = tt
 write-run p s d w (c ∷ cs) k r =
     let q : Right p (leaves (saidOf (c .took .answer)) (c .took .session) (c .deskLeft)) (timing p s (c .reply) d (c .item) w) =
-    subst (λ (o : Leaves). Right p o (timing p s (c .reply) d (c .item) w)) (sym (r .1 .is)) (call-right p s (c .reply) d (c .item) w k) in (
+    subst (λ (o : Leaves). Right p o (timing p s (c .reply) d (c .item) w)) (sym (r .0 .1 .is)) (call-right p s (c .reply) d (c .item) w k) in (
       q .wrote,
       (λ e. sent p (c .took .session) (c .deskLeft) (timing p s (c .reply) d (c .item) w) e (q .keeps)),
-      write-run p (c .took .session) (c .deskLeft) (timing p s (c .reply) d (c .item) w) cs (q .keeps) (r .2),
+      write-run p (c .took .session) (c .deskLeft) (timing p s (c .reply) d (c .item) w) cs (q .keeps) (r .1),
     )
 
 -- FROM OPENING: no time is heard yet
 pub opened-write : (p : Plan) (a : Ask) (r : Opened) (d : List ℕ) (cs : List turns.Turn) → OpenCall Write p a r → r .answer ≡ Accepted
-    → WriteCalls p (r .session) d cs → EachWrites p (r .session) d untimed cs
+    → Calls (WriteTurn p) (r .session) d cs → EachWrites p (r .session) d untimed cs
 opened-write p a r d cs call e h = write-run p (r .session) d untimed cs start h
   where
     fresh : Keeps p (freshOf Write 1 Free a) d untimed

@@ -7,3 +7,4 @@ pub mod Ours
 pub mod Decides
 pub mod Run
 pub mod WriteRun
+pub mod Acts

@@ -1,7 +1,7 @@
 -- Whole runs of a node and of a read: calls one after another, each on the book, or the session and the desk, that the one before it handed
 -- back; and what the figures are given from them. Writes are in WriteRun.
 --   OfPlan received      the calls of a node under one plan; what Figure 1 makes of them
---   ReadCalls closing closedOver     the calls of a read; the response sets of its closed rounds, the last one first
+--   closing closedOver   the response sets of its closed rounds, the last one first
 --   Tells EachTells      what an answer says, and that Figure 3's READ says it of the rounds closed so far; the same of each call of a run
 --   Gathers IsGathered AllClose      what DO_READ gathered; so is each closed set, and it has N-t responses
 --   Apart AllApart       (01) no two cross checksums of a response set share a hash; so of each closed set
@@ -28,12 +28,11 @@ use Rattle.session.specs.declared.Stage.the-variants.{Storing}
 use Rattle.session.specs.declared.Operation.the-variants.{Read}
 use Rattle.session.specs.Session.{isStoring, replies, markedOf, Said, refused, stillOpen, done, neverWritten, aborted, roundsSpent, clockSpent, saidOf}
 use Rattle.session.specs.Reply.{bears, replyLadder, recordLadder}
-use Rattle.session.specs.Reader.{ReadReplyCall}
 use Rattle.node.specs.declared.Answer.{Answer}
 use Rattle.node.specs.declared.Answer.the-variants.{Refused, Replied}
 use Rattle.node.specs.Node.{writes}
-use Rattle.conduct.specs.History.{Call}
-use Rattle.conduct.specs.Turns.{Turn}
+use Rattle.store.specs.History.{Call}
+use Rattle.client.specs.Turns.{Turn}
 use Rattle.report.specs.Triple.{Triple, Message, null, In, Same}
 use Rattle.report.specs.Figure1.{RECEIVE-WRITE-REQUEST}
 use Rattle.report.specs.Figure2.{enough}
@@ -59,12 +58,6 @@ received p S History (c ∷ cs) =
 
 -- ---- a client
 -- ---- reading
--- each call met its contract; a frame is bytes
-abbrev pub ReadCalls : Plan → Session → List ℕ → List Turn → Type 0
-ReadCalls p s d [] = Unit {0}
-ReadCalls p s d (c ∷ cs) =
-    Octets (c .reply) × ReadReplyCall p s (c .reply) d (c .item) (c .took) (c .deskLeft) (c .itemLeft) × ReadCalls p (c .took .session) (c .deskLeft) cs
-
 -- a round that has N-t replies is closed
 abbrev pub closedBy : Plan → Session → List ℕ → List (List Message) → List (List Message)
 closedBy p s d before = cond (ltb (heardCount (s .marks)) (replies p)) before (responses p (s .marks) d (p .n) ∷ before)

@@ -1,6 +1,6 @@
 -- Whole runs of a write: calls one after another, each on the session and the desk that the one before it handed back; and what Figure 2 is given
 -- from them.
---   WriteCalls timing        the calls of a write; the times of its time round and the item
+--   timing               the times of its time round and the item
 --   Wrote                what an answer says, and that Figure 2's WRITE says it
 --   Sending EachWrites   what is sent in a write round; so of each call of a run
 -- Assumes nothing.
@@ -21,17 +21,10 @@ use Rattle.session.specs.declared.Stage.the-variants.{Storing}
 use Rattle.session.specs.declared.Operation.the-variants.{Write}
 use Rattle.session.specs.Session.{isStoring, Said, refused, stillOpen, done, neverWritten, aborted, roundsSpent, clockSpent, saidOf}
 use Rattle.session.specs.Reply.{replyLadder}
-use Rattle.session.specs.Writer.{WriteReplyCall}
 use Rattle.report.specs.Triple.{null, MAX}
 use Rattle.report.specs.Figure2.{enough, ts-written, WRITE}
 use Rattle.report.specs.Ours.{family, sending}
-use Rattle.conduct.specs.Turns.{Turn}
-
--- each call met its contract; a frame is bytes
-abbrev pub WriteCalls : Plan → Session → List ℕ → List Turn → Type 0
-WriteCalls p s d [] = Unit {0}
-WriteCalls p s d (c ∷ cs) =
-    Octets (c .reply) × WriteReplyCall p s (c .reply) d (c .item) (c .took) (c .deskLeft) × WriteCalls p (c .took .session) (c .deskLeft) cs
+use Rattle.client.specs.Turns.{Turn}
 
 -- the times of the time replies that were accepted, the last one first, and the item that was lent with it
 pub record Timed : Type 0 where

@@ -24,6 +24,7 @@ use Rattle.terms.specs.Ladder.{first, None}
 use Rattle.terms.specs.Terms.{refusalNumber}
 use Rattle.terms.specs.declared.Plan.{Plan}
 use Rattle.terms.specs.declared.Refusal.{Refusal}
+use Rattle.terms.proofs.Down.{clear}
 use Rattle.terms.proofs.Rungs as rungs
 use Rattle.frame.specs.Frame.{kindOf, frameNode, askOf, bodyOf, frame}
 use Rattle.frame.proofs.Frames.{request-is}
@@ -108,7 +109,7 @@ look-stays p f b y a b₂ y₂ w c =
     by-verdict p f b y (λ (o : ServedOutcome). servedOutcome (saidServed a) b₂ y₂ ≡ o → b₂ ≡ b)
     (λ j h. ap (λ (o : ServedOutcome). o .book) h)
     (λ n h.
-    let q = request-is p (nodeOf b) f (not-false _ (n .1 .1 .1 .0)) in
+    let q = request-is p (nodeOf b) f (not-false _ (clear (nodeLadder p f b y) n 4)) in
     let e : eqb (kindOf f) 3 ≡ false = sym (long-enough f (q .frame-is .low)) ∙ w in
     reply-book f (replyTo (kindOf f) (bodyOf f) (recordsOf p b)) (saidServed a) (bookAfter p f b) y b₂ y₂ h ∙ book-stays p f b e)
     (c .is)

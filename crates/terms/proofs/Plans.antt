@@ -6,7 +6,7 @@ use native.Mathlib.Omega.{arith}
 use lib.Dec.{leb}
 use borrow.Author.Tests.{not-true, not-false, le-leb, lt-leb, leb-true, leb-false}
 use Rattle.terms.specs.Ladder.{all}
-use Rattle.terms.specs.Terms.{planOk, countsOk, limitsOk, tableOk, columnOf}
+use Rattle.terms.specs.Terms.{planOk, countsOk, limitsOk, columnOf}
 use Rattle.terms.specs.declared.Plan.{Plan}
 use Rattle.terms.specs.declared.Member.{Member}
 use Rattle.terms.specs.declared.Member.the-variants.{Repairable, NonRepair}
@@ -49,11 +49,11 @@ column-back NonRepair n t b q m h =
     rw (le-leb (t + b + 1) q (omega arith), le-leb q (n - 2 * t - 2 * b) (omega arith), le-leb 1 m (omega arith), le-leb m (q + b) (omega arith))
 
 -- the document's facts of every accepted plan: on N, t, b, Q and m, and on F and W
-pub record CountsAre (p : Plan) : Type 0 where
-  pub n-low : 1 ≤ p .n
-  pub n-high : p .n ≤ 16
-  pub b-t : p .b ≤ p .t
-  pub column : Column (p .member) (p .n) (p .t) (p .b) (p .q) (p .m)
+pub record CountsAre (k : Member) (n t b q m : ℕ) : Type 0 where
+  pub n-low : 1 ≤ n
+  pub n-high : n ≤ 16
+  pub b-t : b ≤ t
+  pub column : Column k n t b q m
 
 pub record PlanIs (p : Plan) : Type 0 where
   pub n-low : 1 ≤ p .n
@@ -65,20 +65,25 @@ pub record PlanIs (p : Plan) : Type 0 where
   pub w-high : p .w ≤ 65535
   pub column : Column (p .member) (p .n) (p .t) (p .b) (p .q) (p .m)
 
-pub counts-are : (p : Plan) → countsOk p ≡ true → CountsAre p
-unfolding countsOk tableOk all
-counts-are p e =
-    let e1 = both (leb 1 (p .n)) _ e in
-    let e2 = both (leb (p .n) 16) _ (e1 .1) in
-    let e3 = both (leb (p .b) (p .t)) _ (e2 .1) in
-    let e4 = both (tableOk p) _ (e3 .1) in
+pub counts-are : (k : Member) (n t b q m : ℕ) → countsOk k n t b q m ≡ true → CountsAre k n t b q m
+unfolding countsOk all
+counts-are k n t b q m e =
+    let e1 = both (leb 1 n) _ e in
+    let e2 = both (leb n 16) _ (e1 .1) in
+    let e3 = both (leb b t) _ (e2 .1) in
+    let e4 = both (all (columnOf k n t b q m)) _ (e3 .1) in
     record { n-low = leb-true _ _ (e1 .0); n-high = leb-true _ _ (e2 .0); b-t = leb-true _ _ (e3 .0); column = column-is _ _ _ _ _ _ (e4 .0) }
+
+pub counts-back : (k : Member) (n t b q m : ℕ) → CountsAre k n t b q m → countsOk k n t b q m ≡ true
+unfolding countsOk all
+counts-back k n t b q m c =
+    rw (le-leb 1 n (c .n-low), le-leb n 16 (c .n-high), le-leb b t (c .b-t), column-back k n t b q m (c .column))
 
 pub plan-is : (p : Plan) → planOk p ≡ true → PlanIs p
 unfolding planOk limitsOk all
 plan-is p e =
-    let e0 = both (countsOk p) _ e in
-    let c = counts-are p (e0 .0) in
+    let e0 = both (countsOk (p .member) (p .n) (p .t) (p .b) (p .q) (p .m)) _ e in
+    let c = counts-are (p .member) (p .n) (p .t) (p .b) (p .q) (p .m) (e0 .0) in
     let e4 = both (leb 1 (p .f)) _ (e0 .1) in
     let e5 = both (leb (p .f) 1024) _ (e4 .1) in
     let e6 = both (leb 1 (p .w)) _ (e5 .1) in
@@ -95,52 +100,48 @@ plan-is p e =
     }
 
 pub plan-back : (p : Plan) → PlanIs p → planOk p ≡ true
-unfolding planOk countsOk limitsOk tableOk all
+unfolding planOk limitsOk all
 plan-back p q =
-    rw (le-leb 1 (p .n) (q .n-low), le-leb (p .n) 16 (q .n-high), le-leb (p .b) (p .t) (q .b-t), column-back _ _ _ _ _ _ (q .column), le-leb 1 (p .f) (q .f-low), le-leb (p .f) 1024 (q .f-high), le-leb 1 (p .w) (q .w-low), le-leb (p .w) 65535 (q .w-high))
+    rw (counts-back (p .member) (p .n) (p .t) (p .b) (p .q) (p .m) (record { n-low = q .n-low; n-high = q .n-high; b-t = q .b-t; column = q .column }), le-leb 1 (p .f) (q .f-low), le-leb (p .f) 1024 (q .f-high), le-leb 1 (p .w) (q .w-low), le-leb (p .w) 65535 (q .w-high))
 
 pub not-ok : (t : Bool) → (t ≡ true → ⊥) → false ≡ t
 not-ok true h = absurd (h refl)
 not-ok false h = refl
 
 -- bounds that both columns give
-pub record Small (p : Plan) : Type 0 where
-  pub t-small : p .t ≤ 16
-  pub q-small : p .q ≤ 16
-  pub m-small : p .m ≤ 16
+pub record SmallCounts (t q m : ℕ) : Type 0 where
+  pub t-small : t ≤ 16
+  pub q-small : q ≤ 16
+  pub m-small : m ≤ 16
 
-column-small : (k : Member) (n t b q m : ℕ) → n ≤ 16 → Column k n t b q m → (t ≤ 16) × (q ≤ 16) × (m ≤ 16)
-column-small Repairable n t b q m h c = (omega arith, omega arith, omega arith)
-column-small NonRepair n t b q m h c = (omega arith, omega arith, omega arith)
+abbrev pub Small : Plan → Type 0
+Small p = SmallCounts (p .t) (p .q) (p .m)
 
-counts-small : (p : Plan) → CountsAre p → Small p
-counts-small p q =
-    let s = column-small (p .member) (p .n) (p .t) (p .b) (p .q) (p .m) (q .n-high) (q .column) in
-    record { t-small = s .0; q-small = s .1; m-small = s .2 }
+pub counts-small : (k : Member) (n t b q m : ℕ) → n ≤ 16 → Column k n t b q m → SmallCounts t q m
+counts-small Repairable n t b q m h c = record { t-small = omega arith; q-small = omega arith; m-small = omega arith }
+counts-small NonRepair n t b q m h c = record { t-small = omega arith; q-small = omega arith; m-small = omega arith }
 
 pub small : (p : Plan) → planOk p ≡ true → Small p
-unfolding planOk
-small p e = counts-small p (counts-are p (both (countsOk p) _ e .0))
+small p e = let q = plan-is p e in counts-small (p .member) (p .n) (p .t) (p .b) (p .q) (p .m) (q .n-high) (q .column)
 
 -- the last rule decides
-pub counts-last : (p : Plan) (r : Bool) → 1 ≤ p .n → p .n ≤ 16 → p .b ≤ p .t → r ≡ tableOk p → r ≡ countsOk p
+pub counts-last : (k : Member) (n t b q m : ℕ) (r : Bool) → 1 ≤ n → n ≤ 16 → b ≤ t → r ≡ all (columnOf k n t b q m) → r ≡ countsOk k n t b q m
 unfolding countsOk all
-counts-last p r a b c h =
-    rw (le-leb 1 (p .n) a, le-leb (p .n) 16 b, le-leb (p .b) (p .t) c)
-    (h ∙ itself (tableOk p))
+counts-last k n t b q m r x y z h = rw (le-leb 1 n x, le-leb n 16 y, le-leb b t z) (h ∙ itself (all (columnOf k n t b q m)))
 
 pub limits-last : (p : Plan) → 1 ≤ p .f → p .f ≤ 1024 → 1 ≤ p .w → leb (p .w) 65535 ≡ limitsOk p
 unfolding limitsOk all
 limits-last p d e f = rw (le-leb 1 (p .f) d, le-leb (p .f) 1024 e, le-leb 1 (p .w) f) (itself (leb (p .w) 65535))
 
 -- ---- the turns of the code
-pub plan-counts : (p : Plan) (x : Bool) → x ≡ countsOk p → not x ≡ true → false ≡ planOk p
-unfolding planOk
-plan-counts p x e t = rw (← e, not-true x t)
+module _ (p : Plan) (x : Bool) (e : x ≡ countsOk (p .member) (p .n) (p .t) (p .b) (p .q) (p .m)) where
+  pub plan-counts : not x ≡ true → false ≡ planOk p
+  unfolding planOk
+  plan-counts t = rw (← e, not-true x t)
 
-pub plan-limits : (p : Plan) (x r : Bool) → x ≡ countsOk p → not x ≡ false → r ≡ limitsOk p → r ≡ planOk p
-unfolding planOk
-plan-limits p x r e t f = f ∙ rw (← e, not-false x t)
+  pub plan-limits : (r : Bool) → not x ≡ false → r ≡ limitsOk p → r ≡ planOk p
+  unfolding planOk
+  plan-limits r t f = f ∙ rw (← e, not-false x t)
 
 leb-same : (a b c d : ℕ) → (a ≤ b → c ≤ d) → (c ≤ d → a ≤ b) → leb a b ≡ cond (leb c d) true false
 leb-same a b c d f g = go (leb c d) refl
@@ -153,33 +154,33 @@ column-common : (k : Member) (n t b q m : ℕ) → Column k n t b q m → (t + b
 column-common Repairable n t b q m c = (c .0, c .2)
 column-common NonRepair n t b q m c = (c .0, c .2)
 
-pub table-no : (p : Plan) → ((p .t + p .b + 1 ≤ p .q) × (1 ≤ p .m) → ⊥) → false ≡ tableOk p
-unfolding tableOk
-table-no p h = not-ok _ (λ e. h (column-common (p .member) _ _ _ _ _ (column-is (p .member) (p .n) (p .t) (p .b) (p .q) (p .m) e)))
+module _ (k : Member) (n t b q m : ℕ) where
+  pub table-no : ((t + b + 1 ≤ q) × (1 ≤ m) → ⊥) → false ≡ all (columnOf k n t b q m)
+  table-no h = not-ok _ (λ e. h (column-common k n t b q m (column-is k n t b q m e)))
 
-module _ (p : Plan) (low : p .t + p .b + 1 ≤ p .q) (one : 1 ≤ p .m) where
-  pub repairable-no : p .member ≡ Repairable → p .n < p .q + p .t + p .b → false ≡ tableOk p
-  unfolding tableOk columnOf all
-  repairable-no e h = rw (e, le-leb (p .t + p .b + 1) (p .q) low, lt-leb (p .q) (p .n - p .t - p .b) (omega arith))
+  pub counts-no : (CountsAre k n t b q m → SmallCounts t q m → ⊥) → false ≡ countsOk k n t b q m
+  counts-no h = not-ok _ (λ e. let c = counts-are k n t b q m e in h c (counts-small k n t b q m (c .n-high) (c .column)))
 
-  pub repairable-yes : p .member ≡ Repairable → p .q + p .t + p .b ≤ p .n → leb (p .m + p .t) (p .q) ≡ tableOk p
-  unfolding tableOk columnOf all
-  repairable-yes e h =
-      rw (e, le-leb (p .t + p .b + 1) (p .q) low, le-leb (p .q) (p .n - p .t - p .b) (omega arith), le-leb 1 (p .m) one)
-      (leb-same (p .m + p .t) (p .q) (p .m) (p .q - p .t) (λ k. omega arith) (λ k. omega arith))
+  module _ (low : t + b + 1 ≤ q) (one : 1 ≤ m) where
+    pub repairable-no : k ≡ Repairable → n < q + t + b → false ≡ all (columnOf k n t b q m)
+    unfolding columnOf all
+    repairable-no e h = rw (e, le-leb (t + b + 1) q low, lt-leb q (n - t - b) (omega arith))
 
-  pub non-repair-no : p .member ≡ NonRepair → p .n < p .q + 2 * p .t + 2 * p .b → false ≡ tableOk p
-  unfolding tableOk columnOf all
-  non-repair-no e h = rw (e, le-leb (p .t + p .b + 1) (p .q) low, lt-leb (p .q) (p .n - 2 * p .t - 2 * p .b) (omega arith))
+    pub repairable-yes : k ≡ Repairable → q + t + b ≤ n → leb (m + t) q ≡ all (columnOf k n t b q m)
+    unfolding columnOf all
+    repairable-yes e h =
+        rw (e, le-leb (t + b + 1) q low, le-leb q (n - t - b) (omega arith), le-leb 1 m one)
+        (leb-same (m + t) q m (q - t) (λ k. omega arith) (λ k. omega arith))
 
-  pub non-repair-yes : p .member ≡ NonRepair → p .q + 2 * p .t + 2 * p .b ≤ p .n → leb (p .m) (p .q + p .b) ≡ tableOk p
-  unfolding tableOk columnOf all
-  non-repair-yes e h =
-      rw (e, le-leb (p .t + p .b + 1) (p .q) low, le-leb (p .q) (p .n - 2 * p .t - 2 * p .b) (omega arith), le-leb 1 (p .m) one)
-      (leb-same (p .m) (p .q + p .b) (p .m) (p .q + p .b) (λ k. k) (λ k. k))
+    pub non-repair-no : k ≡ NonRepair → n < q + 2 * t + 2 * b → false ≡ all (columnOf k n t b q m)
+    unfolding columnOf all
+    non-repair-no e h = rw (e, le-leb (t + b + 1) q low, lt-leb q (n - 2 * t - 2 * b) (omega arith))
 
-pub counts-no : (p : Plan) → (CountsAre p → Small p → ⊥) → false ≡ countsOk p
-counts-no p h = not-ok _ (λ e. h (counts-are p e) (counts-small p (counts-are p e)))
+    pub non-repair-yes : k ≡ NonRepair → q + 2 * t + 2 * b ≤ n → leb m (q + b) ≡ all (columnOf k n t b q m)
+    unfolding columnOf all
+    non-repair-yes e h =
+        rw (e, le-leb (t + b + 1) q low, le-leb q (n - 2 * t - 2 * b) (omega arith), le-leb 1 m one)
+        (leb-same m (q + b) m (q + b) (λ k. k) (λ k. k))
 
 pub limits-no : (p : Plan) → ((1 ≤ p .f) × (p .f ≤ 1024) × (1 ≤ p .w) → ⊥) → false ≡ limitsOk p
 unfolding limitsOk all

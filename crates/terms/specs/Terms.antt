@@ -1,5 +1,5 @@
 -- The plan, its two thresholds and what they decide. Document 01, "The plan", "Reading", "Refusal numbers"; the report's Table 2.
---   columnOf tableOk countsOk the rules on N, t, b, Q, m and the member: the column of the member in the table, and N's range
+--   columnOf countsOk         the rules on N, t, b, Q, m and the member: the column of the member in the table, and N's range
 --   limitsOk planOk           those on F and W; and all the rules of a plan
 --   recordLength slotsOf      R; the slots of a desk
 --   openingOk                 the opening ask number leaves room for W more: 13 at opening
@@ -30,19 +30,16 @@ unfoldable pub columnOf : Member → (n t b q m : ℕ) → List Bool
 columnOf Repairable n t b q m = leb (t + b + 1) q ∷ leb q (n - t - b) ∷ leb 1 m ∷ leb m (q - t) ∷ []
 columnOf NonRepair n t b q m = leb (t + b + 1) q ∷ leb q (n - 2 * t - 2 * b) ∷ leb 1 m ∷ leb m (q + b) ∷ []
 
-unfoldable pub tableOk : Plan → Bool
-tableOk p = all (columnOf (p .member) (p .n) (p .t) (p .b) (p .q) (p .m))
-
 -- N 1 to 16; b and t from 0 with b ≤ t; and the table
-unfoldable pub countsOk : Plan → Bool
-countsOk p = all (leb 1 (p .n) ∷ leb (p .n) 16 ∷ leb (p .b) (p .t) ∷ tableOk p ∷ [])
+unfoldable pub countsOk : Member → (n t b q m : ℕ) → Bool
+countsOk k n t b q m = all (leb 1 n ∷ leb n 16 ∷ leb b t ∷ all (columnOf k n t b q m) ∷ [])
 
 -- F 1 to 1,024; W 1 to 65,535
 unfoldable pub limitsOk : Plan → Bool
 limitsOk p = all (leb 1 (p .f) ∷ leb (p .f) 1024 ∷ leb 1 (p .w) ∷ leb (p .w) 65535 ∷ [])
 
 unfoldable pub planOk : Plan → Bool
-planOk p = countsOk p and limitsOk p
+planOk p = countsOk (p .member) (p .n) (p .t) (p .b) (p .q) (p .m) and limitsOk p
 
 -- ---- a record, and where the records of a desk lie
 -- R: timestamp 40, cross checksum 32·N, fragment F

@@ -9,11 +9,11 @@ pub counts-ok-spec : {M : Type 1} → statement M
 counts-ok-spec =
     tie.close
     (tie.spec
-    (λ c. laws.counts-no _ (λ h s. omega arith))
-    (λ c. laws.counts-no _ (λ h s. omega arith))
-    (λ c. laws.counts-no _ (λ h s. omega arith))
-    (λ c. laws.counts-no _ (λ h s. omega arith))
-    (λ c. laws.counts-no _ (λ h s. omega arith))
-    (λ c. laws.counts-no _ (λ h s. omega arith))
+    (λ c. laws.counts-no _ _ _ _ _ _ (λ h s. omega arith))
+    (λ c. laws.counts-no _ _ _ _ _ _ (λ h s. omega arith))
+    (λ c. laws.counts-no _ _ _ _ _ _ (λ h s. omega arith))
+    (λ c. laws.counts-no _ _ _ _ _ _ (λ h s. omega arith))
+    (λ c. laws.counts-no _ _ _ _ _ _ (λ h s. omega arith))
+    (λ c. laws.counts-no _ _ _ _ _ _ (λ h s. omega arith))
     (λ c κs. search needs)
-    (λ c. laws.counts-last _ _ (omega arith) (omega arith) (omega arith) (c .table-ok .ensures)))
+    (λ c. laws.counts-last _ _ _ _ _ _ _ (omega arith) (omega arith) (omega arith) (c .table-ok .ensures)))

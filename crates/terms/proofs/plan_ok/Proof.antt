@@ -10,4 +10,4 @@ plan-ok-spec =
     (λ c κs. search needs)
     (λ c. laws.plan-counts _ _ (c .before .counts-ok .ensures) (c .if1 .taken))
     (λ c κs. search needs)
-    (λ c. laws.plan-limits _ _ _ (c .before .before .counts-ok .ensures) (c .before .if1 .left) (c .limits-ok .ensures)))
+    (λ c. laws.plan-limits _ _ (c .before .before .counts-ok .ensures) _ (c .before .if1 .left) (c .limits-ok .ensures)))

@@ -1,0 +1,13 @@
+pub mod Reading
+pub mod Writing
+pub mod Client
+pub mod Endings
+pub mod Round
+pub mod Counting
+pub mod Repair
+pub mod RepairRound
+pub mod Sessions
+pub mod ComesBack
+pub mod SameStamp
+pub mod Asks
+pub mod Instances

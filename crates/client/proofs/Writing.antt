@@ -1,0 +1,136 @@
+-- When a reply to a writer gives each of its answers: gives, and so-gives the other way. Assumes nothing.
+use Prim.Native.Nat.{ℕ, _≤_, _<_}
+use mathlib.Core.Path.{_≡_, refl, sym, ap, _∙_, subst}
+use mathlib.Core.Bool.{Bool, true, false, cond}
+use mathlib.Core.List.{List}
+use mathlib.Core.Logic.{_⊎_, inl, inr}
+use native.Mathlib.Omega.{arith}
+use borrow.Author.Tests.{ltb-true, ltb-false, lt-ltb, le-ltb, eqb-true, eqb-false, eq-eqb, ne-eqb}
+use lib.Dec.{ltb, eqb}
+use lib.ListN.{length}
+use Rattle.terms.specs.Ladder.{first, None}
+use Rattle.terms.specs.Stamp.{time, stampNumber, top}
+use Rattle.terms.specs.declared.Plan.{Plan}
+use Rattle.frame.specs.Frame.{frameNode, bodyOf}
+use Rattle.rounds.specs.declared.Heard.the-variants.{Record}
+use Rattle.rounds.specs.Rounds.{heardCount}
+use Rattle.session.specs.declared.Session.{Session}
+use Rattle.session.specs.Session.{isStoring, replies, markedOf, endedOf, storingOf, Said, refused, stillOpen, done, neverWritten, aborted, roundsSpent, clockSpent}
+use Rattle.session.specs.Writer.{timedOf, newTime, stampFor, recordsFor, Leaves, leaves, timeEnd, timeTurn, writeTurn, acceptedWrite, writeReply}
+use Rattle.client.specs.Endings.{writeLadder, WriteGives}
+use Rattle.terms.proofs.Ladders as ladders
+
+module _ (p : Plan) (s : Session) (f d i : List ℕ) where
+  abbrev refuse : ℕ → Leaves
+  refuse k = leaves (refused k) s d
+
+  abbrev asked : Session
+  asked = timedOf s (frameNode f) (time (bodyOf f))
+
+  abbrev kept : Session
+  kept = markedOf s (frameNode f) Record
+
+  pub one-ladder : writeReply p s f d i ≡ first (writeLadder p s f d (length i)) refuse (acceptedWrite p s f d i)
+  unfolding writeReply
+  one-ladder = refl
+
+  module _ (n : None (writeLadder p s f d (length i))) where
+    is-accepted : writeReply p s f d i ≡ acceptedWrite p s f d i
+    is-accepted = one-ladder ∙ ladders.is-passed (writeLadder p s f d (length i)) refuse (acceptedWrite p s f d i) n
+
+    -- ---- the write round
+    module _ (q : isStoring (s .stage) ≡ true) where
+      pub waits-write : heardCount (kept .marks) < replies p → writeReply p s f d i ≡ leaves stillOpen kept d
+      unfolding acceptedWrite writeTurn
+      waits-write h = is-accepted ∙ rw (q, lt-ltb (heardCount (kept .marks)) (replies p) h)
+
+      pub ends-write : replies p ≤ heardCount (kept .marks) → writeReply p s f d i ≡ leaves (done (stampNumber (s .stamp)) 0) (endedOf kept) d
+      unfolding acceptedWrite writeTurn
+      ends-write h = is-accepted ∙ rw (q, le-ltb (heardCount (kept .marks)) (replies p) h)
+
+    -- ---- the time round
+    module _ (q : isStoring (s .stage) ≡ false) where
+      pub waits-time : heardCount (asked .marks) < replies p → writeReply p s f d i ≡ leaves stillOpen asked d
+      unfolding acceptedWrite timeTurn
+      waits-time h = is-accepted ∙ rw (q, lt-ltb (heardCount (asked .marks)) (replies p) h)
+
+      module _ (h : replies p ≤ heardCount (asked .marks)) where
+        pub spends-clock : asked .greatest .0 ≡ top → writeReply p s f d i ≡ leaves clockSpent (endedOf asked) d
+        unfolding acceptedWrite timeTurn timeEnd
+        spends-clock g =
+            is-accepted ∙ rw (q, le-ltb (heardCount (asked .marks)) (replies p) h, eq-eqb (asked .greatest .0) top g)
+
+        pub opens-write : (asked .greatest .0 ≡ top → ⊥)
+            → writeReply p s f d i
+            ≡ leaves stillOpen (storingOf asked (stampFor p (newTime (asked .greatest .0)) i)) (recordsFor p (newTime (asked .greatest .0)) i)
+        unfolding acceptedWrite timeTurn timeEnd
+        opens-write g =
+            is-accepted ∙ rw (q, le-ltb (heardCount (asked .marks)) (replies p) h, ne-eqb (asked .greatest .0) top g)
+
+    -- ---- it gives one of the answers, with its condition
+    abbrev Gives : Leaves → Type 0
+    Gives o = WriteGives p s f d (length i) (o .said)
+
+    accepted-gives : Gives (acceptedWrite p s f d i)
+    accepted-gives = subst Gives is-accepted (go (isStoring (s .stage)) refl)
+      where
+        stores : isStoring (s .stage) ≡ true → (x : Bool) → ltb (heardCount (kept .marks)) (replies p) ≡ x → Gives (writeReply p s f d i)
+        stores q true h =
+            let z = ltb-true _ _ h in subst Gives (sym (waits-write q z)) (record { accepted = n; goes = inl (rw q z) })
+        stores q false h =
+            let z = ltb-false _ _ h in
+            subst Gives (sym (ends-write q z)) (record { accepted = n; stores = q; enough = rw q z; of = refl; counted = refl })
+
+        clock : isStoring (s .stage) ≡ false → replies p ≤ heardCount (asked .marks) → (x : Bool) → eqb (asked .greatest .0) top ≡ x
+            → Gives (writeReply p s f d i)
+        clock q h true g =
+            let z = eqb-true (asked .greatest .0) top g in
+            subst Gives (sym (spends-clock q h z)) (record { accepted = n; asks = q; enough = rw q h; spent = rw q z })
+        clock q h false g =
+            let z = eqb-false (asked .greatest .0) top g in
+            subst Gives (sym (opens-write q h z)) (record { accepted = n; goes = inr (q, rw q z) })
+
+        asks : isStoring (s .stage) ≡ false → (x : Bool) → ltb (heardCount (asked .marks)) (replies p) ≡ x → Gives (writeReply p s f d i)
+        asks q true h = let z = ltb-true _ _ h in subst Gives (sym (waits-time q z)) (record { accepted = n; goes = inl (rw q z) })
+        asks q false h = clock q (ltb-false _ _ h) (eqb (asked .greatest .0) top) refl
+
+        go : (x : Bool) → isStoring (s .stage) ≡ x → Gives (writeReply p s f d i)
+        go true q = stores q (ltb (heardCount (kept .marks)) (replies p)) refl
+        go false q = asks q (ltb (heardCount (asked .marks)) (replies p)) refl
+
+  -- THE ANSWER OF A WRITE'S REPLY MEETS ITS CONDITION, whichever it is …
+  pub gives : WriteGives p s f d (length i) (writeReply p s f d i .said)
+  gives =
+      subst (λ (o : Leaves). WriteGives p s f d (length i) (o .said)) (sym one-ladder)
+      (ladders.by-ladder (λ (o : Leaves). WriteGives p s f d (length i) (o .said)) (writeLadder p s f d (length i)) refuse (acceptedWrite p s f d i)
+      (λ k g. g) accepted-gives)
+
+  -- … and wherever the condition of an answer holds, that is the answer.
+  pub so-gives : (x : Said) → WriteGives p s f d (length i) x → writeReply p s f d i .said ≡ x
+  so-gives (refused k) g =
+      ap (λ (o : Leaves). o .said) (one-ladder ∙ ladders.is-given (writeLadder p s f d (length i)) refuse (acceptedWrite p s f d i) k g)
+  so-gives stillOpen g = go (isStoring (s .stage)) refl (ltb (heardCount (asked .marks)) (replies p)) refl (g .goes)
+    where
+      n : None (writeLadder p s f d (length i))
+      n = g .accepted
+
+      go : (x : Bool) → isStoring (s .stage) ≡ x → (y : Bool) → ltb (heardCount (asked .marks)) (replies p) ≡ y
+          → (heardCount (cond x kept asked .marks) < replies p) ⊎ ((x ≡ false) × (cond x kept asked .greatest .0 ≡ top → ⊥))
+          → writeReply p s f d i .said ≡ stillOpen
+      go true q y k (inl h) = ap (λ (o : Leaves). o .said) (waits-write n q h)
+      go true q y k (inr h) = absurd (let z : _≡_ {A = ℕ} 0 1 = let w = h .0 in cc in omega arith)
+      go false q true k h = ap (λ (o : Leaves). o .said) (waits-time n q (ltb-true _ _ k))
+      go false q false k (inl h) = let z : replies p ≤ heardCount (asked .marks) = ltb-false (heardCount (asked .marks)) (replies p) k in absurd (omega arith)
+      go false q false k (inr h) = ap (λ (o : Leaves). o .said) (opens-write n q (ltb-false _ _ k) (h .1))
+  so-gives (done stamp rounds) g =
+      let q = g .stores in
+      let h : replies p ≤ heardCount (kept .marks) = rw q at (g .enough) in
+      ap (λ (o : Leaves). o .said) (ends-write (g .accepted) q h) ∙ (λ k. done (sym (g .of) k) (sym (g .counted) k))
+  so-gives (neverWritten rounds) g = absurd g
+  so-gives (aborted rounds) g = absurd g
+  so-gives (roundsSpent rounds) g = absurd g
+  so-gives clockSpent g =
+      let q = g .asks in
+      let h : replies p ≤ heardCount (asked .marks) = rw q at (g .enough) in
+      let z : asked .greatest .0 ≡ top = rw q at (g .spent) in
+      ap (λ (o : Leaves). o .said) (spends-clock (g .accepted) q h z)

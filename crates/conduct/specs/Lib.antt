@@ -1,8 +1,0 @@
-pub mod Deliver
-pub mod History
-pub mod Endings
-pub mod Turns
-pub mod Round
-pub mod Repair
-pub mod Sessions
-pub mod Asks

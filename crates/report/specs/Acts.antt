@@ -1,0 +1,51 @@
+-- What one call of our node does, against Figure 1; (01) where document 01 adds to the report.
+--   Sends              a read reply that bears the only triple of a set
+--   Executes           a write that was executed
+--   AsFigure1          by the kind of the request: what is sent, and the History after it
+--   Added              (01) the conditions that stand against a write besides VALIDATE
+-- Assumes nothing.
+use Prim.Native.Nat.{ℕ}
+use mathlib.Core.Path.{_≡_}
+use mathlib.Core.Bool.{true, false}
+use mathlib.Core.List.{List, [], _∷_}
+use lib.ListN.{length}
+use Rattle.octets.specs.Bytes.{part, over, be}
+use Rattle.terms.specs.Stamp.{stamp}
+use Rattle.terms.specs.Terms.{planOk}
+use Rattle.terms.specs.declared.Plan.{Plan}
+use Rattle.frame.specs.Frame.{kindOf, frameNode, askOf, bodyOf, frame, goodRequest}
+use Rattle.book.specs.Book.{goodBook, nodeOf}
+use Rattle.node.specs.Node.{bookReplyOk, timeFails, otherHeld, noRoom}
+use Rattle.report.specs.Triple.{Triple, Same}
+use Rattle.report.specs.Figure1.{RECEIVE-TIME-REQUEST, RECEIVE-READ-LATEST, RECEIVE-READ-PREVIOUS, RECEIVE-WRITE-REQUEST}
+use Rattle.report.specs.Ours.{family, history, tripleOf, timeIn}
+
+-- a read reply that bears the only triple of a set
+pub record Sends (p : Plan) (f y y₂ : List ℕ) (set : List Triple) : Type 0 where
+  pub body : List ℕ
+  pub sent : y₂ ≡ over (frame 7 (frameNode f) (askOf f) body) y
+  pub is : set ≡ tripleOf p body ∷ []
+
+-- a write that was executed: WRITE_RESPONSE is sent, which here bears the timestamp, and the History is Figure 1's
+pub record Executes (p : Plan) (f b y b₂ y₂ : List ℕ) : Type 0 where
+  pub valid : RECEIVE-WRITE-REQUEST (family p) (nodeOf b) (history p b) (tripleOf p (bodyOf f)) .sent ≡ true
+  pub set : Same (history p b₂) (RECEIVE-WRITE-REQUEST (family p) (nodeOf b) (history p b) (tripleOf p (bodyOf f)) .History)
+  pub sent : y₂ ≡ over (frame 4 (frameNode f) (askOf f) (part (bodyOf f) 0 40)) y
+
+-- by the kind of the request: what is sent, and the History after it.
+pub record AsFigure1 (p : Plan) (f b y b₂ y₂ : List ℕ) : Type 0 where
+  pub time : kindOf f ≡ 1 → (y₂ ≡ over (frame 2 (frameNode f) (askOf f) (be 8 (timeIn (RECEIVE-TIME-REQUEST (history p b))))) y) × (b₂ ≡ b)
+  pub latest : kindOf f ≡ 5 → Sends p f y y₂ (RECEIVE-READ-LATEST (history p b)) × (b₂ ≡ b)
+  pub previous : kindOf f ≡ 6 → Sends p f y y₂ (RECEIVE-READ-PREVIOUS (history p b) (stamp (bodyOf f))) × (b₂ ≡ b)
+  pub write : kindOf f ≡ 3 → Executes p f b y b₂ y₂
+
+-- one that it lets through is executed, where none of the conditions that document 01 adds stands against it: 1 to 4 of plan, lengths, book and
+-- frame; 5, a time of 0; 7, other bytes held at this timestamp; 8, no room
+pub record Added (p : Plan) (f b y : List ℕ) : Type 0 where
+  pub plan : planOk p ≡ true
+  pub lengths : bookReplyOk p (length b) (length y) ≡ true
+  pub book : goodBook p b ≡ true
+  pub request : goodRequest p (nodeOf b) f ≡ true
+  pub time : timeFails f ≡ false
+  pub other : otherHeld p f b ≡ false
+  pub room : noRoom p f b ≡ false

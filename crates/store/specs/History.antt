@@ -1,0 +1,37 @@
+-- Calls of a node one after another on one book, each with its own plan, request, reply buffer and outcome, whatever they are.
+-- Assumes nothing.
+use Prim.{Unit}
+use Prim.Native.Nat.{ℕ}
+use mathlib.Core.Path.{_≡_}
+use mathlib.Core.Bool.{true}
+use mathlib.Core.List.{List, [], _∷_}
+use Rattle.octets.specs.Bytes.{Octets}
+use Rattle.terms.specs.declared.Plan.{Plan}
+use Rattle.node.specs.declared.Answer.{Answer}
+use Rattle.node.specs.Node.{NodeCall}
+use Rattle.book.specs.Book.{goodBook, recordsOf}
+use Rattle.store.specs.Deliver.{Among}
+
+-- what a call was lent beside the book, its answer, and what it left
+pub record Call : Type 0 where
+  pub plan : Plan
+  pub request : List ℕ
+  pub reply : List ℕ
+  pub answer : Answer
+  pub bookLeft : List ℕ
+  pub replyLeft : List ℕ
+
+-- each call met its contract on the book that the one before it left; a lent book is bytes
+abbrev pub History : List ℕ → List Call → Type 0
+History b [] = Unit {0}
+History b (c ∷ cs) =
+    Octets b × NodeCall (c .plan) (c .request) b (c .reply) (c .answer) (c .bookLeft) (c .replyLeft) × History (c .bookLeft) cs
+
+abbrev pub lastBook : List ℕ → List Call → List ℕ
+lastBook b [] = b
+lastBook b (c ∷ cs) = lastBook (c .bookLeft) cs
+
+-- what is left of a book b that was good under p
+pub record After (p : Plan) (b b₂ : List ℕ) : Type 0 where
+  pub good : goodBook p b₂ ≡ true
+  pub keeps : (z : List ℕ) → Among z (recordsOf p b) → Among z (recordsOf p b₂)

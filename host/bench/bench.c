@@ -16,10 +16,10 @@
 #include "fec.h"
 #include "pace.h"
 
-// The calls of the crate `ground`: a slice is its pointer and then its length.
-uint32_t ground_sha256(const uint8_t *p, size_t p_len, const uint8_t *s, size_t s_len, uint8_t *out, size_t out_len);
-uint32_t ground_encode(const uint8_t *item, size_t item_len, size_t n, size_t m, size_t f, uint8_t *desk, size_t desk_len);
-uint32_t ground_decode(const uint8_t *desk, size_t desk_len, const uint8_t *nodes, size_t nodes_len, size_t m, size_t f, uint8_t *item, size_t item_len);
+// The calls of the crate `primitives`: a slice is its pointer and then its length.
+uint32_t primitives_sha256(const uint8_t *p, size_t p_len, const uint8_t *s, size_t s_len, uint8_t *out, size_t out_len);
+uint32_t primitives_encode(const uint8_t *item, size_t item_len, size_t n, size_t m, size_t f, uint8_t *desk, size_t desk_len);
+uint32_t primitives_decode(const uint8_t *desk, size_t desk_len, const uint8_t *nodes, size_t nodes_len, size_t m, size_t f, uint8_t *item, size_t item_len);
 
 enum { MOST_NODES = 16, MOST_LENGTH = 1024, MOST_BYTES = 1 << 20 };
 
@@ -47,7 +47,7 @@ static uint8_t message[MOST_BYTES], digest[32];
 static size_t message_length;
 
 static void ours_sha256(void) {
-  if (ground_sha256(message, 0, message, message_length, digest, 32) != 0) fail("ground_sha256 refused");
+  if (primitives_sha256(message, 0, message, message_length, digest, 32) != 0) fail("primitives_sha256 refused");
 }
 
 static void openssl_sha256(void) {
@@ -71,13 +71,13 @@ static uint8_t item[MOST_NODES * MOST_LENGTH], desk[MOST_NODES * MOST_LENGTH], b
 static uint8_t *desk_at[MOST_NODES], *back_at[MOST_NODES];
 
 static void ours_encode(void) {
-  if (ground_encode(item, m * f, n, m, f, desk, n * f) != 0) fail("ground_encode refused");
+  if (primitives_encode(item, m * f, n, m, f, desk, n * f) != 0) fail("primitives_encode refused");
 }
 
 static void ours_recover(void) {
   uint8_t nodes[MOST_NODES];
   for (size_t i = 0; i < m; i++) nodes[i] = n - m + i;
-  if (ground_decode(desk, n * f, nodes, m, m, f, back, m * f) != 0) fail("ground_decode refused");
+  if (primitives_decode(desk, n * f, nodes, m, m, f, back, m * f) != 0) fail("primitives_decode refused");
 }
 
 // ISA-L: tables of 32 bytes for each entry of a matrix, for the parity rows and for the inverse of the last m rows.

@@ -4,7 +4,7 @@
  * on the same bytes does the same again. Each slice is lent as memory of exactly its length, with a fence on both sides.
  *
  * The first bytes choose a plan, the rest are steps: a call, a change to what will be lent next, or a whole exchange of a client with a
- * node, so that deep states are near. host/fuzz/replay runs stored inputs; ./fuzz finds new ones. */
+ * node, so that deep states are near. host/try-corpus runs stored inputs; ./fuzz finds new ones. */
 #include "../pasis.h"
 
 #include <stdio.h>

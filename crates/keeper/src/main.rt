@@ -2,27 +2,29 @@
 // one line for each fault to standard error. Document 01, "The node"; docs/KEEPER.md says how to run it.
 //
 //     keeper PLAN BOOK                  answers frames until the input ends
+//     keeper PLAN BOOK locked           so does this, while whoever started it holds the lock of the book (host/keeper-locked)
 //     keeper PLAN BOOK new NODE BYTES   makes a fresh book for node NODE, of BYTES bytes
 //
 // The book is read from its file for each request and kept nowhere else, so that several keepers may serve one book: each reads an old
-// or a new book whole, and only the one that has made the file BOOK.new may change it (crate files).
-use files::say;
+// or a new book whole, and only the one that has made the file BOOK.new may change it (crate book_file).
+use book_file::say;
+use frame::Cut;
+use keeper_step::Due;
+use keeper_step::Next;
 use libc::STDIN_FILENO;
 use libc::STDOUT_FILENO;
 use node::Answer;
 use node::Made;
-use step::Due;
-use step::Next;
+use plan_text::Numeral;
+use plan_text::Reading;
 use terms::Plan;
 use terms::Refusal;
-use text::Numeral;
-use text::Reading;
 ghost use Prim.Native.Nat.{ℕ, _≤_};
 ghost use Rattle.io.specs.Counts.{Counts};
 ghost use mathlib.Core.Path.{_≡_};
 ghost use mathlib.Core.Bool.{true, false};
 ghost use lib.ListN.{length};
-ghost use Rattle.step.specs.Step.{asksToWrite};
+ghost use Rattle.keeper_step.specs.Step.{asksToWrite};
 
 // The longest request of any plan: R+15 at N 16 and F 1,024. A reply is no longer.
 const LONGEST: usize = 1591;
@@ -51,20 +53,13 @@ fn no_frame(how: How) -> Came
     }
 }
 
-// The rest of a frame whose length field is `rest`, after the 4 bytes of that field.
-fn read_rest(head: &[u8; 4], rest: usize, frame: &mut [u8]) -> Came
-    ensures { λ r. ⌜ Counts (r .length) (now (frame .exit)) ⌝ }
+// The rest of a frame that ends at `end` of the area, after the 4 bytes of its length field.
+fn read_rest(area: &mut [u8], end: usize) -> Came
+    requires { ⌜ (4 ≤ end) × (end ≤ length (now area)) ⌝ }
+    ensures { λ r. ⌜ Counts (r .length) (now (area .exit)) ⌝ }
 {
-    if frame.len() < 4 {
-        return no_frame(How::TooLong);
-    }
-    if frame.len() - 4 < rest {
-        return no_frame(How::TooLong);
-    }
-    octets::copy(head, 0, 4, frame, 0);
-    let end = 4 + rest;
-    let n = io::read_full(STDIN_FILENO, &mut frame[4..end]);
-    if n < rest {
+    let n = io::read_full(STDIN_FILENO, &mut area[4..end]);
+    if n < end - 4 {
         return no_frame(How::CutOff);
     }
     Came {
@@ -73,20 +68,44 @@ fn read_rest(head: &[u8; 4], rest: usize, frame: &mut [u8]) -> Came
     }
 }
 
-// The next frame of standard input.
-fn read_frame(frame: &mut [u8]) -> Came
-    ensures { λ r. ⌜ Counts (r .length) (now (frame .exit)) ⌝ }
+// After a length field that no frame has: what is too long for the area is not read, and what is shorter than any frame is read for the
+// node to refuse.
+fn read_other(area: &mut [u8]) -> Came
+    requires { ⌜ 4 ≤ length (now area) ⌝ }
+    ensures { λ r. ⌜ Counts (r .length) (now (area .exit)) ⌝ }
 {
-    let mut head = [0u8; 4];
-    let n = io::read_full(STDIN_FILENO, &mut head);
+    let rest = octets::get(area, 0, 4) as usize;
+    if area.len() - 4 < rest {
+        return no_frame(How::TooLong);
+    }
+    read_rest(area, 4 + rest)
+}
+
+// The frame whose length field stands at the start of an area that any request fits into.
+fn read_cut(area: &mut [u8]) -> Came
+    requires { ⌜ 4 ≤ length (now area) ⌝ }
+    ensures { λ r. ⌜ Counts (r .length) (now (area .exit)) ⌝ }
+{
+    let cut = frame::cut_at(area, 0);
+    match cut {
+        Cut::EndsAt(end) => read_rest(area, end),
+        Cut::NoFrame => read_other(area),
+    }
+}
+
+// The next frame of standard input.
+fn read_frame(area: &mut [u8]) -> Came
+    requires { ⌜ 4 ≤ length (now area) ⌝ }
+    ensures { λ r. ⌜ Counts (r .length) (now (area .exit)) ⌝ }
+{
+    let n = io::read_full(STDIN_FILENO, &mut area[0..4]);
     if n == 0 {
         return no_frame(How::Ended);
     }
     if n < 4 {
         return no_frame(How::CutOff);
     }
-    let rest = octets::get(&head, 0, 4) as usize;
-    read_rest(&head, rest, frame)
+    read_cut(area)
 }
 
 // The reply, once the book is safe. False where it cannot be written.
@@ -112,7 +131,7 @@ fn frame_area() -> [u8; LONGEST]
 // A refusal: a line, and no frame. A fault of the plan or the book ends the program, one of the request does not.
 fn refuse(r: Refusal) -> bool {
     say::refused(r);
-    say::number(r) > 3
+    r.number() > 3
 }
 
 // A request that cannot change a book, and its reply.
@@ -120,7 +139,7 @@ fn look_at(p: Plan, request: &[u8], book: &mut [u8]) -> bool
     requires { ⌜ asksToWrite (now request) ≡ false ⌝ }
 {
     let mut reply = frame_area();
-    let a = step::look(p, request, book, &mut reply);
+    let a = keeper_step::look(p, request, book, &mut reply);
     match a {
         Answer::Refused(r) => refuse(r),
         Answer::Replied(k) => send(&reply, k),
@@ -132,7 +151,7 @@ fn answer_look(p: Plan, path: &[u8], request: &[u8]) -> bool
     requires { ⌜ asksToWrite (now request) ≡ false ⌝ }
 {
     let mut area = io::large_buffer();
-    let got = files::load(path, &mut area);
+    let got = book_file::load(path, &mut area);
     if !got.is {
         return false;
     }
@@ -143,9 +162,9 @@ fn answer_look(p: Plan, path: &[u8], request: &[u8]) -> bool
 // Stores the book that a step left, where it is to be stored, and lets BOOK.new go where not. Whether the book is safe.
 fn keep(x: Next, fd: i32, path: &[u8], book: &[u8]) -> bool {
     match x {
-        Next::Store(_) => files::store(fd, path, book),
+        Next::Store(_) => book_file::store(fd, path, book),
         _ => {
-            files::let_go(fd, path);
+            book_file::let_go(fd, path);
             true
         }
     }
@@ -157,9 +176,9 @@ fn settle(p: Plan, path: &[u8], fd: i32, request: &[u8], book: &mut [u8]) -> boo
     requires { ⌜ length (now book) ≤ 65536 ⌝ }
 {
     let mut reply = frame_area();
-    let next = step::step(p, request, book, &mut reply);
+    let next = keeper_step::step(p, request, book, &mut reply);
     let stored = keep(next, fd, path, book);
-    let due = step::due_after(next, stored);
+    let due = keeper_step::due_after(next, stored);
     match due {
         Due::Say(r) => refuse(r),
         Due::Reply(k) => send(&reply, k),
@@ -170,9 +189,9 @@ fn settle(p: Plan, path: &[u8], fd: i32, request: &[u8], book: &mut [u8]) -> boo
 // A write request, once BOOK.new is held.
 fn answer_held(p: Plan, path: &[u8], fd: i32, request: &[u8]) -> bool {
     let mut area = io::large_buffer();
-    let got = files::load(path, &mut area);
+    let got = book_file::load(path, &mut area);
     if !got.is {
-        files::let_go(fd, path);
+        book_file::let_go(fd, path);
         return false;
     }
     let n = got.length;
@@ -180,11 +199,11 @@ fn answer_held(p: Plan, path: &[u8], fd: i32, request: &[u8]) -> bool {
 }
 
 // A request, and whether to go on.
-fn answer(p: Plan, path: &[u8], request: &[u8]) -> bool {
-    if !step::asks_to_write(request) {
+fn answer(p: Plan, path: &[u8], locked: bool, request: &[u8]) -> bool {
+    if !keeper_step::asks_to_write(request) {
         return answer_look(p, path, request);
     }
-    let fd = files::hold(path);
+    let fd = book_file::hold(path, locked);
     if fd < 0 {
         return false;
     }
@@ -203,13 +222,13 @@ fn too_long() -> bool {
 }
 
 // The next request, if there is one, and whether to go on.
-fn turn(p: Plan, path: &[u8]) -> bool {
-    let mut frame = frame_area();
-    let c = read_frame(&mut frame);
+fn turn(p: Plan, path: &[u8], locked: bool) -> bool {
+    let mut area = frame_area();
+    let c = read_frame(&mut area);
     let n = c.length;
     let how = c.how;
     match how {
-        How::Whole => answer(p, path, &frame[..n]),
+        How::Whole => answer(p, path, locked, &area[..n]),
         How::Ended => false,
         How::CutOff => cut_off(),
         How::TooLong => too_long(),
@@ -217,9 +236,9 @@ fn turn(p: Plan, path: &[u8]) -> bool {
 }
 
 // A proved loop has to end, and nothing says that an input does: the turns are counted down from a number that no run uses up.
-fn turns(p: Plan, path: &[u8]) {
+fn turns(p: Plan, path: &[u8], locked: bool) {
     let mut left = u64::MAX;
-    while left > 0 && turn(p, path) {
+    while left > 0 && turn(p, path, locked) {
         left -= 1;
     }
 }
@@ -246,7 +265,7 @@ fn good(p: Plan, book: &[u8]) -> bool {
 // Whether the book can be had, and is one; else a line says why.
 fn book_ok(p: Plan, path: &[u8]) -> bool {
     let mut area = io::large_buffer();
-    let got = files::load(path, &mut area);
+    let got = book_file::load(path, &mut area);
     if !got.is {
         return false;
     }
@@ -254,18 +273,13 @@ fn book_ok(p: Plan, path: &[u8]) -> bool {
     good(p, &area[..n])
 }
 
-// A fresh book on the disk, where there is none yet.
+// A fresh book on the disk, where nothing has its name.
 fn lay_down(path: &[u8], book: &[u8]) {
-    let fd = files::hold(path);
+    let fd = book_file::hold(path, false);
     if fd < 0 {
         return;
     }
-    if files::exists(path) {
-        files::let_go(fd, path);
-        say::about(path, b"is there already, and stays as it is");
-        return;
-    }
-    if files::store(fd, path, book) {
+    if book_file::make(fd, path, book) {
         io::write_all(STDOUT_FILENO, b"made\n");
     }
 }
@@ -302,29 +316,29 @@ fn make(p: Plan, path: &[u8], node: u64, bytes: u64) {
 // ---- arguments
 
 fn usage() {
-    say::line(b"usage: keeper PLAN BOOK, or keeper PLAN BOOK new NODE BYTES");
+    say::line(b"usage: keeper PLAN BOOK [locked], or keeper PLAN BOOK new NODE BYTES");
 }
 
 // Argument i as a number.
 fn number_arg(i: usize) -> Numeral {
     let mut text = io::buffer();
     let n = os::arg(i, &mut text);
-    text::number_in(&text[..n], 0, n)
+    plan_text::number_in(&text[..n], 0, n)
 }
 
-// Whether argument 3 is the word new.
-fn is_new() -> bool {
-    let mut text = [0u8; 3];
+// Whether argument 3 is this word.
+fn is_word(word: &[u8]) -> bool {
+    let mut text = io::buffer();
     let n = os::arg(3, &mut text);
-    if n != 3 {
+    if n != word.len() {
         return false;
     }
-    octets::same(&text, 0, b"new", 0, 3)
+    octets::same(&text, 0, word, 0, n)
 }
 
 // The numbers of `new NODE BYTES`, and the fresh book.
 fn run_new(p: Plan, path: &[u8]) {
-    if !is_new() {
+    if !is_word(b"new") {
         usage();
         return;
     }
@@ -379,26 +393,40 @@ fn say_wrong(path: &[u8], line: u64, k: usize) {
     say::text(b"\n");
 }
 
-// The requests of the input, where the book is good; or a fresh book.
-fn run(p: Plan, path: &[u8], count: usize) {
-    if count != 3 {
-        run_new(p, path);
+// The requests of the input, where the book is good.
+fn run_turns(p: Plan, path: &[u8], locked: bool) {
+    if book_ok(p, path) {
+        turns(p, path, locked);
+    }
+}
+
+// The requests of the input, by who holds the lock of the book.
+fn run_locked(p: Plan, path: &[u8]) {
+    if !is_word(b"locked") {
+        usage();
         return;
     }
-    if book_ok(p, path) {
-        turns(p, path);
+    run_turns(p, path, true);
+}
+
+// What these arguments ask for.
+fn run(p: Plan, path: &[u8], count: usize) {
+    match count {
+        3 => run_turns(p, path, false),
+        4 => run_locked(p, path),
+        _ => run_new(p, path),
     }
 }
 
 // The plan that the file PLAN says. Where it cannot be had, a line says why.
 fn run_plan(plan_path: &[u8], path: &[u8], count: usize) {
     let mut area = io::buffer();
-    let got = files::load(plan_path, &mut area);
+    let got = book_file::load(plan_path, &mut area);
     if !got.is {
         return;
     }
     let n = got.length;
-    let r = text::read_plan(&area[..n]);
+    let r = plan_text::read_plan(&area[..n]);
     match r {
         Reading::Wrong(line, k) => say_wrong(plan_path, line, k),
         Reading::Good(p) => run(p, path, count),
@@ -418,7 +446,7 @@ fn run_book(plan_path: &[u8], count: usize) {
 
 fn main() {
     let count = os::arg_count();
-    if count != 3 && count != 6 {
+    if count != 3 && count != 4 && count != 6 {
         usage();
         return;
     }

@@ -27,7 +27,6 @@
 mod answer;
 mod calls;
 mod plan;
-mod raw;
 mod session;
 
 pub use answer::{Answer, Refusal, Timestamp, ENDING_SIZE};
@@ -40,26 +39,22 @@ pub const INTERFACE: u32 = 1;
 
 /// The interface number of the archive that is linked.
 pub fn interface() -> u32 {
-    // SAFETY: it takes nothing and touches nothing.
-    unsafe { raw::pasis_interface() }
+    pasis_raw::interface()
 }
 
 /// The archive's own word for [`PLAN_SIZE`].
 pub fn plan_size() -> usize {
-    // SAFETY: it takes nothing and touches nothing.
-    unsafe { raw::pasis_plan_size() }
+    pasis_raw::plan_size()
 }
 
 /// The archive's own word for [`SESSION_SIZE`].
 pub fn session_size() -> usize {
-    // SAFETY: it takes nothing and touches nothing.
-    unsafe { raw::pasis_session_size() }
+    pasis_raw::session_size()
 }
 
 /// The archive's own word for [`ENDING_SIZE`].
 pub fn ending_size() -> usize {
-    // SAFETY: it takes nothing and touches nothing.
-    unsafe { raw::pasis_ending_size() }
+    pasis_raw::ending_size()
 }
 
 /// The node that a frame names, to be compared with the node at the channel's other end; `None` if it is too short to name one.

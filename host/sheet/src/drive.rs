@@ -1,7 +1,7 @@
 //! Carries one operation to its end: requests to the nodes, their replies back. All nodes are books of one folder here, asked in the order
 //! of their numbers.
 
-use crate::files;
+use crate::claim::Claim;
 use crate::folder::{Folder, Silence};
 use pasis::{Answer, Operation, Plan, Refusal, Session, Stage, Timestamp};
 
@@ -30,21 +30,33 @@ impl<'a> Nodes<'a> {
         self.books[node].as_deref()
     }
 
-    /// One request at one node. The book is on disk before the reply is given.
+    /// One request at one node. The book is on disk before the reply is given. A request that changes the book is served once more, on the book
+    /// as it then is on disk, while nobody else may change it.
     fn serve(&mut self, node: usize, request: &[u8]) -> Result<Vec<u8>, Silence> {
         let plan = &self.folder.plan;
         let book = self.books[node].as_mut().map_err(|silence| silence.clone())?;
-        let mut after = book.clone();
-        let mut reply = vec![0; plan.frame_size()];
-        let told = pasis::node(plan, request, &mut after, &mut reply).map_err(|refusal| told_of(refusal, book))?;
+        let (mut after, mut reply) = served(plan, request, book)?;
         if after != *book && self.keep {
-            let path = self.folder.book_path(node);
-            files::keep(&path, &after).map_err(|error| format!("cannot be written: {error}"))?;
+            let failed = |error: std::io::Error| format!("cannot be written: {error}");
+            let claim = Claim::wait(&self.folder.book_path(node)).map_err(failed)?;
+            let before = self.folder.book(node)?;
+            (after, reply) = served(plan, request, &before)?;
+            if after != before {
+                claim.store(&after).map_err(failed)?;
+            }
         }
         *book = after;
-        reply.truncate(told);
         Ok(reply)
     }
+}
+
+/// A book after a request, and the reply.
+fn served(plan: &Plan, request: &[u8], book: &[u8]) -> Result<(Vec<u8>, Vec<u8>), Silence> {
+    let mut after = book.to_vec();
+    let mut reply = vec![0; plan.frame_size()];
+    let told = pasis::node(plan, request, &mut after, &mut reply).map_err(|refusal| told_of(refusal, book))?;
+    reply.truncate(told);
+    Ok((after, reply))
 }
 
 /// A node's refusal, for people.

@@ -6,10 +6,18 @@ use std::io::{self, Read, Write};
 use std::path::{Path, PathBuf};
 
 /// `path` with something behind its name.
-fn beside(path: &Path, ending: &str) -> PathBuf {
+pub fn beside(path: &Path, ending: &str) -> PathBuf {
     let mut name = path.as_os_str().to_os_string();
     name.push(ending);
     PathBuf::from(name)
+}
+
+/// What the new file of one in our folder is called. Not NAME.new: that of a book is keeper's.
+pub const OURS: &str = ".sheet";
+
+/// The file that a link names in the end; the path itself where there is none.
+pub fn followed(path: &Path) -> PathBuf {
+    fs::canonicalize(path).unwrap_or_else(|_| path.to_path_buf())
 }
 
 /// The folder that a file lies in.
@@ -22,38 +30,54 @@ fn folder_of(path: &Path) -> &Path {
 
 /// Puts these bytes in the place of a file: a new file, fsync, rename, fsync of the folder. A crash at any moment leaves the old file or the
 /// new one, whole. A file that cannot be finished is taken away again.
-fn replace(path: &Path, new: &Path, bytes: &[u8], options: &mut OpenOptions) -> io::Result<()> {
-    let mut file = options.write(true).open(new)?;
+fn replace(path: &Path, new: &Path, bytes: &[u8]) -> io::Result<()> {
+    let mut file = OpenOptions::new().write(true).create_new(true).open(new)?;
     let written = file.write_all(bytes).and_then(|()| file.sync_all()).and_then(|()| fs::rename(new, path));
     if written.is_err() {
         let _ = fs::remove_file(new);
     }
     written?;
-    File::open(folder_of(path))?.sync_all()
+    sync_names(path)
 }
 
-/// A file of our own folder; what an earlier crash left behind as NAME.new is written over.
+/// A file of our own folder, which is ours alone for as long as this command has its lock: what an earlier crash left behind under the name
+/// of our new files is taken away. A link is followed.
 pub fn keep(path: &Path, bytes: &[u8]) -> io::Result<()> {
-    replace(path, &beside(path, ".new"), bytes, OpenOptions::new().create(true).truncate(true))
+    let path = followed(path);
+    let new = beside(&path, OURS);
+    gone(fs::remove_file(&new))?;
+    replace(&path, &new, bytes)
+}
+
+/// Removing what is not there is no fault.
+pub fn gone(removed: io::Result<()>) -> io::Result<()> {
+    match removed {
+        Err(error) if error.kind() != io::ErrorKind::NotFound => Err(error),
+        _ => Ok(()),
+    }
 }
 
 /// A file of somebody's: no other file is touched, a link is followed, and a pipe or device is written as it is.
 pub fn give(path: &Path, bytes: &[u8]) -> io::Result<()> {
-    let path = fs::canonicalize(path).unwrap_or_else(|_| path.to_path_buf());
+    let path = followed(path);
     if fs::metadata(&path).is_ok_and(|is| !is.is_file()) {
         return OpenOptions::new().write(true).open(&path)?.write_all(bytes);
     }
-    let new = beside(&path, &format!(".{}.new", std::process::id()));
-    replace(&path, &new, bytes, OpenOptions::new().create_new(true))
+    replace(&path, &beside(&path, &format!(".{}.new", std::process::id())), bytes)
 }
 
 /// Whether a file lies in this folder, or would; a link is followed.
 pub fn lies_in(path: &Path, folder: &Path) -> bool {
-    let path = fs::canonicalize(path).unwrap_or_else(|_| path.to_path_buf());
+    let path = followed(path);
     match (fs::canonicalize(folder_of(&path)), fs::canonicalize(folder)) {
         (Ok(of_file), Ok(folder)) => of_file == folder,
         _ => false,
     }
+}
+
+/// Waits until what the names of a folder say is on disk.
+pub fn sync_names(path: &Path) -> io::Result<()> {
+    File::open(folder_of(path))?.sync_all()
 }
 
 /// All of a file, or of standard input where its name is `-`; of more than `most` bytes the first most+1.

@@ -23,14 +23,19 @@ pub fn missing(error: &io::Error) -> bool {
     [io::ErrorKind::NotFound, io::ErrorKind::NotADirectory].contains(&error.kind())
 }
 
-/// Waits until the folder is ours.
+/// A fault of the system with this file.
+fn failed(path: &Path) -> impl Fn(io::Error) -> Fault + '_ {
+    move |error| Fault { code: Code::System, line: format!("{}: {error}", path.display()) }
+}
+
+/// Waits until what this file or folder stands for is ours.
 fn lock(path: &Path) -> Result<File, Fault> {
-    let failed = |error: io::Error| Fault { code: Code::System, line: format!("{}: {error}", path.display()) };
+    let failed = failed(path);
     let file = match File::open(path) {
         Err(error) if missing(&error) => {
             return fault(Code::WrongUse, format!("{}: there is no sheet here (sheet new makes one)", path.display()))
         }
-        other => other.map_err(failed)?,
+        other => other.map_err(&failed)?,
     };
     match file.try_lock() {
         Ok(()) => return Ok(file),
@@ -61,6 +66,27 @@ pub fn read_plan(path: &OsStr, code: Code) -> Result<Plan, Fault> {
     }
 }
 
+/// Lies in a folder whose sheet is being made.
+const MAKING: &str = "making";
+
+/// Whether a folder is empty, once what a `new` that was cut off left there is taken away.
+fn clear(folder: &Path) -> io::Result<bool> {
+    let paths = fs::read_dir(folder)?.map(|entry| entry.map(|entry| entry.path())).collect::<io::Result<Vec<_>>>()?;
+    let ours = |path: &PathBuf| {
+        let name = path.file_name().unwrap_or_default().to_string_lossy().into_owned();
+        let name = name.strip_suffix(files::OURS).unwrap_or(&name);
+        name == MAKING || name == "ask" || name.strip_prefix("book-").is_some_and(|node| node.parse::<u8>().is_ok())
+    };
+    if !paths.is_empty() && !(paths.contains(&folder.join(MAKING)) && paths.iter().all(ours)) {
+        return Ok(false);
+    }
+    // The sign goes last, so that a second cut leaves it.
+    for path in paths.iter().filter(|path| !path.ends_with(MAKING)) {
+        fs::remove_file(path)?;
+    }
+    Ok(true)
+}
+
 impl Folder {
     pub fn enter(path: &Path) -> Result<Folder, Fault> {
         let file = path.join("plan");
@@ -69,25 +95,30 @@ impl Folder {
         Ok(Folder { path: path.to_path_buf(), plan, _lock: lock })
     }
 
-    /// A new sheet. The plan is written last: a folder without a plan is no sheet.
+    /// A new sheet, made while the folder is ours. The plan is written last: a folder without a plan is no sheet. As long as the file `making`
+    /// lies beside no plan, what is there was never finished, and is made anew.
     pub fn make(path: &Path, plan: &Plan, room: usize) -> Result<(), Fault> {
-        let failed = |error: io::Error| Fault { code: Code::System, line: format!("{}: {error}", path.display()) };
+        let failed = failed(path);
         if fs::metadata(path).is_ok_and(|is| !is.is_dir()) {
             return fault(Code::WrongUse, format!("{}: this is not a folder", path.display()));
         }
-        fs::create_dir_all(path).map_err(failed)?;
-        if fs::read_dir(path).map_err(failed)?.next().is_some() {
+        fs::create_dir_all(path).map_err(&failed)?;
+        let _lock = lock(path)?;
+        let making = path.join(MAKING);
+        if !clear(path).map_err(&failed)? {
             return fault(Code::WrongUse, format!("{}: the folder is not empty; nothing was written", path.display()));
         }
+        files::keep(&making, b"").map_err(&failed)?;
         for node in 0..u64::from(plan.n) {
             let mut book = vec![0; room];
             if let Err(refusal) = pasis::fresh_book(plan, node, &mut book) {
                 return fault(Code::WrongUse, format!("book-{node}: {refusal}"));
             }
-            files::keep(&path.join(format!("book-{node}")), &book).map_err(failed)?;
+            files::keep(&path.join(format!("book-{node}")), &book).map_err(&failed)?;
         }
-        files::keep(&path.join("ask"), b"1\n").map_err(failed)?;
-        files::keep(&path.join("plan"), plan_text::write(plan).as_bytes()).map_err(failed)
+        files::keep(&path.join("ask"), b"1\n").map_err(&failed)?;
+        files::keep(&path.join("plan"), plan_text::write(plan).as_bytes()).map_err(&failed)?;
+        fs::remove_file(&making).and_then(|()| files::sync_names(&making)).map_err(failed)
     }
 
     pub fn book_path(&self, node: usize) -> PathBuf {

@@ -3,6 +3,7 @@
 //! end, `verbs` are the five commands, `picture` is what `show` prints.
 
 mod book;
+mod claim;
 mod code;
 mod drive;
 mod files;

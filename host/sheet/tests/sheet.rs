@@ -264,9 +264,9 @@ fn a_damaged_folder_and_a_failing_system() {
 fn what_a_crash_left_behind_is_not_read() {
     let place = five("crash");
     assert_eq!(place.code("save s one"), 0);
-    place.put("s/book-0.new", "half a b");
+    place.put("s/book-0.sheet", "half a b");
     assert_eq!(place.code("save s two"), 0);
-    assert!(!place.file("s/book-0.new").exists());
+    assert!(!place.file("s/book-0.sheet").exists());
     assert_eq!(place.code("open s out"), 0);
     assert_eq!(place.get("out"), b"two leaf");
 }
@@ -300,7 +300,7 @@ fn a_book_that_cannot_be_written() {
     let place = five("disk");
     assert_eq!(place.code("save s one"), 0);
     for node in 0..5 {
-        fs::create_dir(place.file(&format!("s/book-{node}.new"))).expect("in the way of the new file");
+        fs::create_dir(place.file(&format!("s/book-{node}.sheet"))).expect("in the way of the new file");
     }
     let books = |place: &Place| (0..5).map(|node| place.get(&format!("s/book-{node}"))).collect::<Vec<_>>();
     let before = books(&place);
@@ -348,4 +348,132 @@ fn help_at_each_verb() {
     }
     assert_eq!(place.sheet("--version").1, "sheet 1.0.0, interface 1 of libpasis\n");
     assert!(Path::new(env!("CARGO_BIN_EXE_sheet")).is_file());
+}
+
+// ---- beside others
+
+/// A write request of node 0 under time 1, by another client that asks nobody else.
+fn request_of_another(number: u64) -> Vec<u8> {
+    let plan = pasis::Plan { f: 4, w: 3, ..pasis::Plan::default() };
+    let mut desk = vec![0; plan.desk_size()];
+    let (mut request, mut reply) = (vec![0; plan.frame_size()], vec![0; plan.frame_size()]);
+    let mut session = pasis::open_write(&plan, 1_000_000 + 10 * number).expect("a write");
+    for node in 0..plan.replies() as u64 {
+        let mut book = vec![0; 11];
+        pasis::fresh_book(&plan, node, &mut book).expect("a book");
+        let asked = pasis::owed(&plan, &session, node, &desk, &mut request).expect("a request");
+        let told = pasis::node(&plan, &request[..asked], &mut book, &mut reply).expect("a reply");
+        session = pasis::write_reply(&plan, session, &reply[..told], &mut desk, &number.to_be_bytes()).0;
+    }
+    let asked = pasis::owed(&plan, &session, 0, &desk, &mut request).expect("a request");
+    request.truncate(asked);
+    request
+}
+
+/// Stores as a keeper does: one that has the lock writes over BOOK.new, one that has none makes it where it is not there.
+fn store_as_a_keeper(book: &Path, request: &[u8], locked: bool) -> Vec<u8> {
+    let beside = |ending: &str| PathBuf::from(format!("{}{ending}", book.display()));
+    let lock = fs::File::create(beside(".lock")).expect("a lock");
+    let mut options = fs::OpenOptions::new();
+    options.write(true);
+    let mut new = if locked {
+        lock.lock().expect("the lock");
+        options.create(true).truncate(true).open(beside(".new")).expect("BOOK.new")
+    } else {
+        loop {
+            match options.create_new(true).open(beside(".new")) {
+                Ok(new) => break new,
+                Err(_) => std::thread::yield_now(),
+            }
+        }
+    };
+    let plan = pasis::Plan { f: 4, w: 3, ..pasis::Plan::default() };
+    let (mut bytes, mut reply) = (fs::read(book).expect("a book"), vec![0; plan.frame_size()]);
+    pasis::node(&plan, request, &mut bytes, &mut reply).expect("a reply");
+    std::thread::sleep(std::time::Duration::from_millis(2));
+    new.write_all(&bytes).expect("written");
+    fs::rename(beside(".new"), book).expect("renamed");
+    reply[15..55].to_vec()
+}
+
+/// What a keeper has acknowledged stays, whatever is saved beside it.
+#[test]
+fn loses_no_record_of_a_keeper() {
+    for locked in [true, false] {
+        let place = five(if locked { "beside-locked" } else { "beside" });
+        let book = place.file("s/book-0");
+        let keeper = std::thread::spawn(move || {
+            (0..30).map(|i| store_as_a_keeper(&book, &request_of_another(i), locked)).collect::<Vec<_>>()
+        });
+        let mut saves = 0;
+        while !keeper.is_finished() {
+            assert_eq!(place.code(if saves % 2 == 0 { "save s one" } else { "save s two" }), 0);
+            saves += 1;
+        }
+        let acknowledged = keeper.join().expect("a keeper");
+        let bytes = place.get("s/book-0");
+        let held: Vec<&[u8]> = bytes[11..].chunks(204).map(|record| &record[..40]).collect();
+        let lost = acknowledged.iter().filter(|stamp| !held.contains(&stamp.as_slice())).count();
+        assert_eq!(lost, 0, "of 30 records beside {saves} saves, by the lock: {locked}");
+        assert_eq!(place.code("check s"), 0);
+    }
+}
+
+/// What a keeper without the lock left is not touched; what our own crash left is.
+#[test]
+fn knows_its_own_from_a_keepers() {
+    let place = five("own");
+    place.put("s/book-0.sheet", "half");
+    fs::hard_link(place.file("s/book-0.sheet"), place.file("s/book-0.new")).expect("a second name");
+    assert_eq!(place.code("save s one"), 0);
+    assert!(!place.file("s/book-0.new").exists() && !place.file("s/book-0.sheet").exists());
+    place.put("s/book-1.new", "a keeper's");
+    let (code, _, errors) = place.sheet("save s two");
+    assert!(code == 0 && errors.contains("book-1.new: a keeper is writing"), "{errors}");
+    assert_eq!(place.get("s/book-1.new"), b"a keeper's");
+}
+
+#[test]
+fn follows_linked_books() {
+    let place = five("linked");
+    fs::create_dir(place.file("disk")).expect("a folder");
+    fs::rename(place.file("s/book-2"), place.file("disk/b")).expect("moved");
+    std::os::unix::fs::symlink("../disk/b", place.file("s/book-2")).expect("a link");
+    let before = place.get("disk/b");
+    assert_eq!(place.code("save s one"), 0);
+    assert!(fs::symlink_metadata(place.file("s/book-2")).expect("a link").is_symlink());
+    assert_ne!(place.get("disk/b"), before);
+}
+
+/// Cut off, `new` leaves a folder that `new` takes; one with books and no sign of that it leaves alone.
+#[test]
+fn makes_anew_what_was_cut_off() {
+    let place = five("anew");
+    fs::create_dir(place.file("cut")).expect("a folder");
+    for name in ["making", "book-0", "book-1", "book-2.sheet"] {
+        place.put(&format!("cut/{name}"), "half");
+    }
+    assert_eq!(place.code("new cut --plan p"), 0);
+    assert_eq!(place.code("save cut one"), 0);
+    assert!(!place.file("cut/making").exists());
+    fs::remove_file(place.file("cut/plan")).expect("a plan");
+    let before = place.get("cut/book-0");
+    assert_eq!(place.code("new cut --plan p"), 2);
+    assert_eq!(place.get("cut/book-0"), before);
+}
+
+/// Of two at once one makes the sheet, and a save beside them stays.
+#[test]
+fn makes_one_sheet_at_a_time() {
+    let place = five("at-once");
+    for i in 0..10 {
+        let name = format!("t{i}");
+        let new = || place.code(&format!("new {name} --plan p"));
+        let codes = std::thread::scope(|scope| {
+            let both = [scope.spawn(new), scope.spawn(new)];
+            both.map(|one| one.join().expect("a code"))
+        });
+        assert_eq!(codes.iter().filter(|code| **code == 0).count(), 1, "{codes:?}");
+        assert_eq!(place.code(&format!("save {name} one")), 0);
+    }
 }

@@ -1,6 +1,6 @@
 -- `keeper::look_at` sends what lies within the reply buffer. Assumes nothing.
 use borrow.Author.Needs.{needs}
-use Rattle.step.proofs.Laws as laws
+use Rattle.keeper_step.proofs.Laws as laws
 use Rattle.keeper.proofs.look_at.Statement.{statement}
 use Rattle.keeper.proofs.look_at.Tie as tie
 

@@ -4,10 +4,10 @@ use Rattle.keeper.proofs.turns.Statement.{statement}
 use Rattle.keeper.proofs.turns.Tie as tie
 
 abbrev Inv-loop : tie.InvT-loop
-Inv-loop p path left₀ left = Unit {0}
+Inv-loop p path locked left₀ left = Unit {0}
 
 abbrev μ-loop : tie.MeasureT-loop
-μ-loop p path left₀ left = left
+μ-loop p path locked left₀ left = left
 
 pub turns-spec : {M : Type 1} → statement M
 turns-spec =

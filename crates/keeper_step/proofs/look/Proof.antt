@@ -1,0 +1,17 @@
+-- `keeper_step::look` leaves the book, by the laws of the node's call. Assumes nothing.
+use Rattle.keeper_step.proofs.Laws as laws
+use borrow.Author.Needs.{needs}
+use Rattle.keeper_step.proofs.look.Statement.{statement}
+use Rattle.keeper_step.proofs.look.Tie as tie
+
+abbrev start : tie.After-serve → tie.Start
+start c = c .before .before .before .before .before .before
+
+pub look-spec : {M : Type 1} → statement M
+look-spec =
+    tie.close
+    (tie.spec
+    (λ c κs. search needs)
+    (λ c. search needs)
+    (λ c. search needs)
+    (λ c. laws.looked (start (c .before .before .before .before) .pre) (c .before .before .before .before .serve .ensures)))

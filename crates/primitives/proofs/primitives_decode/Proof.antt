@@ -1,0 +1,16 @@
+use Rattle.primitives.proofs.Laws.{done, refused, decode-is, named-within}
+use borrow.Author.Tests.{not-true, not-false}
+use mathlib.Core.Path.{sym, _∙_}
+use borrow.Author.Needs.{needs}
+use Rattle.primitives.proofs.primitives_decode.Statement.{statement}
+use Rattle.primitives.proofs.primitives_decode.Tie as tie
+
+pub primitives-decode-spec : {M : Type 1} → statement M
+primitives-decode-spec =
+    tie.close
+    (tie.spec
+    (λ c κs. search needs)
+    (λ c. refused _ _ _ (sym (c .before .decode-fits .ensures) ∙ not-true (c .before .decode-fits .result) (c .if1 .taken)))
+    (λ c κs. let h = decode-is _ _ _ _ _ (sym (c .before .before .decode-fits .ensures) ∙ not-false (c .before .before .decode-fits .result) (c .before .if1 .left)) in (named-within _ (c .before .before .before .before .before .before .args .desk .now) (c .before .before .before .before .before .before .args .nodes .now) (h .1), h .0 .high, h .0 .length-is))
+    (λ c. search needs)
+    (λ c. done _ _ _ (sym (c .before .before .before .before .before .decode-fits .ensures) ∙ not-false (c .before .before .before .before .before .decode-fits .result) (c .before .before .before .before .if1 .left)) (c .before .before .decode .ensures)))

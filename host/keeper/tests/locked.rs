@@ -1,0 +1,122 @@
+//! Stops of every kind: a keeper that was killed leaves a BOOK.new, and one that is told that it holds the lock goes on; one that is not
+//! told never guesses. What was acknowledged is held.
+
+use keeper_trials::{acknowledged, records, writes, Place};
+use second::random::Random;
+use std::collections::BTreeSet;
+use std::fs;
+use std::io::{Read, Write};
+use std::path::Path;
+use std::process::{Child, Command, Stdio};
+use std::thread::{self, JoinHandle};
+use std::time::Duration;
+
+/// host/keeper-locked PLAN BOOK.
+fn locked(place: &Place) -> Command {
+    let mut command = Command::new(Path::new(env!("CARGO_MANIFEST_DIR")).join("../keeper-locked"));
+    command.args(["PLAN", "BOOK"]).current_dir(&place.folder);
+    command.stdin(Stdio::piped()).stdout(Stdio::piped()).stderr(Stdio::piped());
+    command
+}
+
+/// A keeper with requests under way, and what it writes.
+struct Running {
+    child: Child,
+    output: JoinHandle<Vec<u8>>,
+}
+
+fn start(mut command: Command, input: Vec<u8>) -> Running {
+    let mut child = command.spawn().expect("keeper");
+    let mut to = child.stdin.take().expect("piped");
+    let mut from = child.stdout.take().expect("piped");
+    thread::spawn(move || {
+        let _ = to.write_all(&input);
+    });
+    let output = thread::spawn(move || {
+        let mut bytes = Vec::new();
+        let _ = from.read_to_end(&mut bytes);
+        bytes
+    });
+    Running { child, output }
+}
+
+impl Running {
+    fn ended(mut self) -> BTreeSet<[u8; 40]> {
+        let _ = self.child.wait();
+        acknowledged(&self.output.join().expect("its output"))
+    }
+
+    /// Killed after so long; whether it was still running.
+    fn killed(mut self, after: Duration) -> (bool, BTreeSet<[u8; 40]>) {
+        thread::sleep(after);
+        let running = self.child.try_wait().expect("a state").is_none();
+        let _ = self.child.kill();
+        (running, self.ended())
+    }
+}
+
+#[test]
+fn told_of_the_lock_it_writes_over_what_a_crash_left() {
+    let place = Place::new("over");
+    place.fresh();
+    fs::write(place.file("BOOK.new"), [7; 70_000]).expect("BOOK.new");
+    let output = place.run(&["locked"], &writes(&records(1, 2)));
+    assert_eq!(acknowledged(&output.stdout).len(), 2, "{output:?}");
+    assert_eq!(acknowledged(&output.stdout), place.held());
+    assert!(!place.file("BOOK.new").exists());
+}
+
+#[test]
+fn not_told_it_never_guesses() {
+    let place = Place::new("guess");
+    place.fresh();
+    fs::write(place.file("BOOK.new"), b"another's").expect("BOOK.new");
+    let output = place.run(&[], &writes(&records(1, 1)));
+    assert!(output.stdout.is_empty() && output.stderr.starts_with(b"BOOK.new: "), "{output:?}");
+    assert!(place.held().is_empty());
+    assert_eq!(fs::read(place.file("BOOK.new")).expect("BOOK.new"), b"another's");
+}
+
+#[test]
+fn another_word_is_no_lock() {
+    let place = Place::new("word");
+    place.fresh();
+    let output = place.run(&["lock"], &writes(&records(1, 1)));
+    assert!(output.stdout.is_empty() && output.stderr.starts_with(b"usage: "), "{output:?}");
+}
+
+/// Several at once, by the lock and not by it.
+#[test]
+fn several_lose_nothing() {
+    for by_lock in [true, false] {
+        let place = Place::new(if by_lock { "several-locked" } else { "several" });
+        place.fresh();
+        let command = || if by_lock { locked(&place) } else { place.keeper(&[]) };
+        let running: Vec<Running> = (0..4).map(|i| start(command(), writes(&records(1 + 10 * i, 10)))).collect();
+        let told: Vec<BTreeSet<[u8; 40]>> = running.into_iter().map(Running::ended).collect();
+        assert_eq!(told.iter().map(BTreeSet::len).sum::<usize>(), 40, "by the lock: {by_lock}");
+        assert_eq!(told.into_iter().flatten().collect::<BTreeSet<_>>(), place.held());
+    }
+}
+
+/// After each kill the next start writes at once, and all that was ever acknowledged is held.
+#[test]
+fn after_a_kill_the_next_start_writes() {
+    let place = Place::new("kills");
+    place.fresh();
+    let mut random = Random::new(1);
+    let (mut told, mut met, mut left) = (BTreeSet::new(), 0, 0);
+    for i in 0..12 {
+        let running = start(locked(&place), writes(&records(1 + 12 * i, 11)));
+        let (running, before) = running.killed(Duration::from_millis(random.within(20, 400) as u64));
+        met += usize::from(running);
+        left += usize::from(place.file("BOOK.new").exists());
+        told.extend(before);
+        let next = start(locked(&place), writes(&records(12 + 12 * i, 1))).ended();
+        assert_eq!(next.len(), 1, "the start after kill {i} did not write");
+        told.extend(next);
+        assert!(told.is_subset(&place.held()), "kill {i} lost a record that was acknowledged");
+    }
+    println!("12 kills, {met} of a running keeper, {left} left a BOOK.new");
+    assert!(met >= 4, "only {met} of 12 kills met a running keeper");
+}

@@ -56,12 +56,12 @@ use Rattle.client.proofs.Sessions.{every-round}
 
 -- ---- one call
 -- a session as it was, but for its marks and its greatest time
-still : (s u : Session) → u .stage ≡ s .stage → u .round ≡ s .round → u .opening ≡ s .opening → Moves s u
+still : (s u : Session) → u .round .stage ≡ s .round .stage → u .round .number ≡ s .round .number → u .opening ≡ s .opening → Moves s u
 unfolding askNow
 still s u a b c =
     record { opening = c; goes = stays a b (λ j. cond (isStoring (a j)) (c j .0 + b j) (c j .0 + (b j - 1))) }
 
-module _ (s : Session) (low : 1 ≤ s .round) (going : isEnded (s .stage) ≡ false) (asks : isStoring (s .stage) ≡ false) (h : Heard) (k : ℕ) (t : Timestamp) where
+module _ (s : Session) (low : 1 ≤ s .round .number) (going : isEnded (s .round .stage) ≡ false) (asks : isStoring (s .round .stage) ≡ false) (h : Heard) (k : ℕ) (t : Timestamp) where
   next-opens : Moves s (nextOf (markedOf s k h) t)
   unfolding askNow
   next-opens = record { opening = refl; goes = opens going refl (rw asks (omega arith)) }
@@ -75,7 +75,7 @@ module _ (s : Session) (low : 1 ≤ s .round) (going : isEnded (s .stage) ≡ fa
   write-opens x = record { opening = refl; goes = opens going refl (rw asks (omega arith)) }
 
 module _ (p : Plan) (s : Session) (f d i : List ℕ) where
-  low-round : inRange p s d ≡ true → 1 ≤ s .round
+  low-round : inRange p s d ≡ true → 1 ≤ s .round .number
   low-round e = in-range-is p s d true (sym e) refl .round-low
 
   abbrev To : Outcome → Type 0
@@ -89,9 +89,9 @@ module _ (p : Plan) (s : Session) (f d i : List ℕ) where
   read-moves =
       subst To (sym (reading.one-ladder p s f d i))
       (ladders.by-ladder To (readLadder p s f d (length i)) (λ (k : ℕ). outcome (refused k) s d i) _ (λ k g. still s s refl refl refl)
-      (λ n. subst To (reading.is-accepted p s f d i n) (go n (isStoring (s .stage)) refl)))
+      (λ n. subst To (reading.is-accepted p s f d i n) (go n (isStoring (s .round .stage)) refl)))
     where
-      closing : None (readLadder p s f d (length i)) → isStoring (s .stage) ≡ false → To (reading.act-of p s f d i)
+      closing : None (readLadder p s f d (length i)) → isStoring (s .round .stage) ≡ false → To (reading.act-of p s f d i)
       closing n q =
           let low = low-round (reading.taken p s f d (length i) n .range) in
           let going = (clear (readLadder p s f d (length i)) n 14) in
@@ -105,17 +105,17 @@ module _ (p : Plan) (s : Session) (f d i : List ℕ) where
             repairs = λ a l v. repair-opens s low going q (heardAs p f) (frameNode f) (close .stamp);
           })
 
-      asks : None (readLadder p s f d (length i)) → isStoring (s .stage) ≡ false → (x : Bool) → ltb (heardCount (afterReply p s f .marks)) (replies p) ≡ x
+      asks : None (readLadder p s f d (length i)) → isStoring (s .round .stage) ≡ false → (x : Bool) → ltb (heardCount (afterReply p s f .marks)) (replies p) ≡ x
           → To (readReply p s f d i)
       asks n q true h = subst To (sym (reading.waits-read p s f d i n q (ltb-true _ _ h))) (still s (afterReply p s f) refl refl refl)
       asks n q false h = subst To (sym (reading.closes-read p s f d i n q (ltb-false _ _ h))) (closing n q)
 
-      stores : None (readLadder p s f d (length i)) → isStoring (s .stage) ≡ true
+      stores : None (readLadder p s f d (length i)) → isStoring (s .round .stage) ≡ true
           → (x : Bool) → ltb (heardCount (markedOf s (frameNode f) Record .marks)) (replies p) ≡ x → To (readReply p s f d i)
       stores n q true h = subst To (sym (reading.waits-repair p s f d i n q (ltb-true _ _ h))) (still s (markedOf s (frameNode f) Record) refl refl refl)
       stores n q false h = subst To (sym (reading.ends-repair p s f d i n q (ltb-false _ _ h))) (record { opening = refl; goes = ends refl })
 
-      go : None (readLadder p s f d (length i)) → (x : Bool) → isStoring (s .stage) ≡ x → To (readReply p s f d i)
+      go : None (readLadder p s f d (length i)) → (x : Bool) → isStoring (s .round .stage) ≡ x → To (readReply p s f d i)
       go n true q = stores n q (ltb (heardCount (markedOf s (frameNode f) Record .marks)) (replies p)) refl
       go n false q = asks n q (ltb (heardCount (afterReply p s f .marks)) (replies p)) refl
 
@@ -130,12 +130,12 @@ module _ (p : Plan) (s : Session) (f d i : List ℕ) where
       subst Leads (sym (writing.one-ladder p s f d i))
       (ladders.by-ladder Leads (writeLadder p s f d (length i)) (λ (k : ℕ). leaves (refused k) s d) _ (λ k g. still s s refl refl refl)
       (λ n. subst Leads (writing.one-ladder p s f d i ∙ ladders.is-passed (writeLadder p s f d (length i)) (λ (k : ℕ). leaves (refused k) s d) _ n)
-      (go n (isStoring (s .stage)) refl)))
+      (go n (isStoring (s .round .stage)) refl)))
     where
       range : None (writeLadder p s f d (length i)) → inRange p s d ≡ true
       range n = both (sameOperation Write (s .operation)) (inRange p s d) (not-false (sameOperation Write (s .operation) and inRange p s d) (clear (writeLadder p s f d (length i)) n 9)) .1
 
-      full : (n : None (writeLadder p s f d (length i))) → isStoring (s .stage) ≡ false → replies p ≤ heardCount (asked .marks)
+      full : (n : None (writeLadder p s f d (length i))) → isStoring (s .round .stage) ≡ false → replies p ≤ heardCount (asked .marks)
           → (x : Bool) → eqb (asked .greatest .0) 18446744073709551615 ≡ x → Leads (writeReply p s f d i)
       full n q h true g =
           subst Leads (sym (writing.spends-clock p s f d i n q h (eqb-true (asked .greatest .0) 18446744073709551615 g))) (record { opening = refl; goes = ends refl })
@@ -143,17 +143,17 @@ module _ (p : Plan) (s : Session) (f d i : List ℕ) where
           subst Leads (sym (writing.opens-write p s f d i n q h (eqb-false (asked .greatest .0) 18446744073709551615 g)))
           (write-opens s (low-round (range n)) (clear (writeLadder p s f d (length i)) n 14) q Record (frameNode f) _ (time (bodyOf f)))
 
-      asks : None (writeLadder p s f d (length i)) → isStoring (s .stage) ≡ false → (x : Bool) → ltb (heardCount (asked .marks)) (replies p) ≡ x
+      asks : None (writeLadder p s f d (length i)) → isStoring (s .round .stage) ≡ false → (x : Bool) → ltb (heardCount (asked .marks)) (replies p) ≡ x
           → Leads (writeReply p s f d i)
       asks n q true h = subst Leads (sym (writing.waits-time p s f d i n q (ltb-true _ _ h))) (still s asked refl refl refl)
       asks n q false h = full n q (ltb-false _ _ h) (eqb (asked .greatest .0) 18446744073709551615) refl
 
-      stores : None (writeLadder p s f d (length i)) → isStoring (s .stage) ≡ true
+      stores : None (writeLadder p s f d (length i)) → isStoring (s .round .stage) ≡ true
           → (x : Bool) → ltb (heardCount (markedOf s (frameNode f) Record .marks)) (replies p) ≡ x → Leads (writeReply p s f d i)
       stores n q true h = subst Leads (sym (writing.waits-write p s f d i n q (ltb-true _ _ h))) (still s (markedOf s (frameNode f) Record) refl refl refl)
       stores n q false h = subst Leads (sym (writing.ends-write p s f d i n q (ltb-false _ _ h))) (record { opening = refl; goes = ends refl })
 
-      go : None (writeLadder p s f d (length i)) → (x : Bool) → isStoring (s .stage) ≡ x → Leads (writeReply p s f d i)
+      go : None (writeLadder p s f d (length i)) → (x : Bool) → isStoring (s .round .stage) ≡ x → Leads (writeReply p s f d i)
       go n true q = stores n q (ltb (heardCount (markedOf s (frameNode f) Record .marks)) (replies p)) refl
       go n false q = asks n q (ltb (heardCount (asked .marks)) (replies p)) refl
 
@@ -166,8 +166,8 @@ one-call p s d t (inr c) = subst (λ (o : Outcome). Moves s (o .session)) (sym (
 -- ---- many calls
 -- the round of s is the one that is open at u, or u has ended, or u has a greater ask number
 data Later (s u : Session) : Type 0 where
-  same : u .stage ≡ s .stage → u .round ≡ s .round → askNow u ≡ askNow s → Later s u
-  over : isEnded (u .stage) ≡ true → Later s u
+  same : u .round .stage ≡ s .round .stage → u .round .number ≡ s .round .number → askNow u ≡ askNow s → Later s u
+  over : isEnded (u .round .stage) ≡ true → Later s u
   greater : askNow s < askNow u → Later s u
 
 then-goes : (s u v : Session) → Later s u → Goes u v → Later s v
@@ -192,7 +192,7 @@ same-opening p s d (c ∷ cs) h =
 
 -- THE ASK NUMBER OF AN EARLIER ROUND IS SMALLER THAN THAT OF THE OPEN ONE: cs are the calls since s was handed back
 pub asks-rise : (p : Plan) (s : Session) (d : List ℕ) (cs : List Turn) → Calls (EitherTurn p) s d cs → IsOver s (lastSession s cs)
-    → isEnded (lastSession s cs .stage) ≡ false → askNow s < askNow (lastSession s cs)
+    → isEnded (lastSession s cs .round .stage) ≡ false → askNow s < askNow (lastSession s cs)
 asks-rise p s d cs h past going = go (later p s s d cs (same refl refl refl) h)
   where
     go : Later s (lastSession s cs) → askNow s < askNow (lastSession s cs)
@@ -221,18 +221,18 @@ abbrev early : List ℕ
 early = 1 ∷ 2 ∷ 9 ∷ 14 ∷ 4 ∷ 10 ∷ []
 
 turned-away : {A : Type 0} (P : A → Type 0) (refuse : ℕ → A) (pass : A) (op : Operation) (p : Plan) (s : Session) (f d : List ℕ) (item : ℕ) (more : List Rung)
-    → ((k : ℕ) → oneOf k early ≡ true → P (refuse k)) → (isEnded (s .stage) ≡ true) ⊎ (awaited s f ≡ false) → P (first (replyLadder op p s f d item ++ more) refuse pass)
+    → ((k : ℕ) → oneOf k early ≡ true → P (refuse k)) → (isEnded (s .round .stage) ≡ true) ⊎ (awaited s f ≡ false) → P (first (replyLadder op p s f d item ++ more) refuse pass)
 unfolding oneOf
 turned-away P refuse pass op p s f d item more h (inl e) =
     stops-by P (on 1 (not (planOk p)) ∷ on 2 (not (lengthsOk p (length d) item)) ∷ on 9 (not (sameOperation op (s .operation) and inRange p s d)) ∷ [])
-    (on 4 (not (goodReply p f)) ∷ on 10 (not (awaited s f)) ∷ on 11 (isHeard s (frameNode f)) ∷ more) 14 (isEnded (s .stage)) refuse pass e
+    (on 4 (not (goodReply p f)) ∷ on 10 (not (awaited s f)) ∷ on 11 (isHeard s (frameNode f)) ∷ more) 14 (isEnded (s .round .stage)) refuse pass e
     (h 1 refl, (h 2 refl, (h 9 refl, tt))) (h 14 refl)
 turned-away P refuse pass op p s f d item more h (inr e) =
     stops-by P
     (on 1 (not (planOk p)) ∷
     on 2 (not (lengthsOk p (length d) item)) ∷
     on 9 (not (sameOperation op (s .operation) and inRange p s d)) ∷
-    on 14 (isEnded (s .stage)) ∷
+    on 14 (isEnded (s .round .stage)) ∷
     on 4 (not (goodReply p f)) ∷ [])
     (on 11 (isHeard s (frameNode f)) ∷ more) 10 (not (awaited s f)) refuse pass (ap not e) (h 1 refl, (h 2 refl, (h 9 refl, (h 14 refl, (h 4 refl, tt))))) (h 10 refl)
 
@@ -240,12 +240,12 @@ soon : (k : ℕ) → oneOf k early ≡ true → NotCounted (refused k)
 soon k e = record { number = k; is = refl; early = e }
 
 -- the session has ended, or awaits another ask number
-module _ (p : Plan) (s : Session) (f d i : List ℕ) (open-other : isEnded (s .stage) ≡ false → askOf f ≡ askNow s → ⊥) where
-  missed : (isEnded (s .stage) ≡ true) ⊎ (awaited s f ≡ false)
+module _ (p : Plan) (s : Session) (f d i : List ℕ) (open-other : isEnded (s .round .stage) ≡ false → askOf f ≡ askNow s → ⊥) where
+  missed : (isEnded (s .round .stage) ≡ true) ⊎ (awaited s f ≡ false)
   unfolding awaited
-  missed = go (isEnded (s .stage)) refl
+  missed = go (isEnded (s .round .stage)) refl
     where
-      go : (x : Bool) → isEnded (s .stage) ≡ x → (isEnded (s .stage) ≡ true) ⊎ (awaited s f ≡ false)
+      go : (x : Bool) → isEnded (s .round .stage) ≡ x → (isEnded (s .round .stage) ≡ true) ⊎ (awaited s f ≡ false)
       go true q = inl q
       go false q = inr (unfold awaited in rw (ne-eqb (askOf f) (askNow s) (open-other q)))
 
@@ -270,7 +270,7 @@ module _ (p : Plan) (s : Session) (f d i : List ℕ) (open-other : isEnded (s .s
 -- session and every buffer, whichever are lent with it, as they came: to a writer and to a reader.
 module _ (p : Plan) (s : Session) (d : List ℕ) (cs : List Turn) (h : Calls (EitherTurn p) s d cs) (past : IsOver s (lastSession s cs))
     (f : List ℕ) (bears : askOf f ≡ askNow s) (e i : List ℕ) where
-  gone : isEnded (lastSession s cs .stage) ≡ false → askOf f ≡ askNow (lastSession s cs) → ⊥
+  gone : isEnded (lastSession s cs .round .stage) ≡ false → askOf f ≡ askNow (lastSession s cs) → ⊥
   gone q z = omega (arith, asks-rise p s d cs h past q)
 
   pub late-write-reply : (t : Took) (e₂ : List ℕ) → WriteReplyCall p (lastSession s cs) f e i t e₂
@@ -290,19 +290,19 @@ module _ (op : Operation) (p : Plan) (a : Ask) (r : Opened) (opened : OpenCall o
 
   pub asks-between : (a .0 ≤ askNow now) × (askNow now ≤ a .0 + p .w)
   unfolding askNow
-  asks-between = go (isStoring (now .stage))
+  asks-between = go (isStoring (now .round .stage))
     where
       from : now .opening .0 ≡ a .0
       from = ap (λ (x : Ask). x .0) (same-opening p (r .session) d cs h ∙ ap (λ (x : Session). x .opening) (accepted-session op p a r opened accepted))
 
-      go : (x : Bool) → (a .0 ≤ cond x (now .opening .0 + now .round) (now .opening .0 + (now .round - 1)))
-          × (cond x (now .opening .0 + now .round) (now .opening .0 + (now .round - 1)) ≤ a .0 + p .w)
+      go : (x : Bool) → (a .0 ≤ cond x (now .opening .0 + now .round .number) (now .opening .0 + (now .round .number - 1)))
+          × (cond x (now .opening .0 + now .round .number) (now .opening .0 + (now .round .number - 1)) ≤ a .0 + p .w)
       go true = let q = every-round op p a r opened accepted d long cs h in let z = from in (omega arith, omega arith)
       go false = let q = every-round op p a r opened accepted d long cs h in let z = from in (omega arith, omega arith)
 
   -- so a reply to another ask number, as that of another operation, is not counted either
   module _ (f : List ℕ) (other : (askOf f < a .0) ⊎ (a .0 + p .w < askOf f)) (e i : List ℕ) where
-    outside : isEnded (now .stage) ≡ false → askOf f ≡ askNow now → ⊥
+    outside : isEnded (now .round .stage) ≡ false → askOf f ≡ askNow now → ⊥
     outside q z = go other
       where
         go : (askOf f < a .0) ⊎ (a .0 + p .w < askOf f) → ⊥

@@ -20,7 +20,7 @@ use Rattle.octets.specs.Bytes.{part, Octets}
 use Rattle.octets.proofs.Laws.{length-part, length-be, part-middle, slot-fits}
 use Rattle.sha256.proofs.Laws.{sha256-length}
 use Rattle.terms.specs.Ladder.{all}
-use Rattle.terms.specs.Terms.{planOk, countsOk, limitsOk, columnOf, recordLength, COMPLETE, INCOMPLETE}
+use Rattle.terms.specs.Terms.{planOk, countsOk, limitsOk, columnOf, recordLength, COMPLETE, INCOMPLETE, slotsOf, fragmentAt, runsOf, thresholdsOf}
 use Rattle.terms.specs.declared.Plan.{Plan}
 use Rattle.terms.specs.declared.Member.the-variants.{Repairable}
 use Rattle.terms.specs.declared.Clients.the-variants.{Byzantine}
@@ -33,16 +33,17 @@ use Rattle.fragments.proofs.Laws.{length-from}
 use Rattle.fragments.proofs.Theorems.{all-from, distinct-from, any-item}
 use Rattle.record.specs.Record.{fragmentOf}
 use Rattle.record.specs.Desk.{slotOf, fragmentIn, stampMade}
-use Rattle.record.proofs.Records.{record-length, fragment-at}
-use Rattle.record.proofs.Desks.{length-cross}
+use Rattle.terms.proofs.Places.{record-length}
+use Rattle.record.proofs.Desks.{length-cross, fragment-in}
 use Rattle.rounds.specs.declared.Lead.{Lead}
 use Rattle.rounds.specs.Rounds.{closeWith}
 use Rattle.session.specs.declared.Session.{Session}
 use Rattle.session.specs.declared.Took.{Took}
 use Rattle.session.specs.Session.{isStoring, done, saidOf}
-use Rattle.session.specs.Reader.{Outcome, headLength, lowest, decoded, collected, closed, ReadReplyCall}
-use Rattle.session.specs.Writer.{crossFor, recordsFor}
-use Rattle.session.proofs.Writers.{length-records, record-is}
+use Rattle.recover.specs.Recover.{lowest, decoded, collected}
+use Rattle.session.specs.Reader.{Outcome, closed, ReadReplyCall}
+use Rattle.recover.specs.Records.{crossFor, recordsFor}
+use Rattle.recover.proofs.Records.{length-records, record-is}
 use Rattle.session.proofs.Closings.{lowest-are, led, sized-whole}
 use Rattle.client.specs.Endings.{afterReply, deskAfter, size, WhenDone, DoneByRead, DoneByRepair}
 use Rattle.terms.proofs.Small.{small, small-octets}
@@ -53,41 +54,39 @@ use Rattle.client.proofs.Endings.{read-done}
 module _ (p : Plan) (t : ℕ) (i : List ℕ) (ok : planOk p ≡ true) (bytes : Octets i) (whole : length i ≡ p .m * p .f)
     (out : List ℕ) (room : length out ≡ p .m * p .f) where
   -- slot k of the writer's desk holds fragment k
-  fragment-in : (k : ℕ) → k < p .n → fragmentIn p (recordsFor p t i) k ≡ fragment (p .m) (p .f) i k
-  fragment-in k h =
+  written-in : (k : ℕ) → k < p .n → fragmentIn p (recordsFor p t i) k ≡ fragment (p .m) (p .f) i k
+  written-in k h =
       let s = stampMade t (crossFor p i) in
       let c = crossFor p i in
       let x = fragment (p .m) (p .f) i k in
       let e : slotOf p (recordsFor p t i) k ≡ s ++ (c ++ x) = record-is p t i whole k h in
       let ls : length s ≡ 40 = simp (length-append, length-be, sha256-length) in
-      let lc : length c ≡ 32 * p .n = unfold crossFor in length-cross (fragment (p .m) (p .f) i) (p .n) in
+      let lc : length c ≡ 32 * p .n = unfold crossFor in length-cross p (fragment (p .m) (p .f) i) (p .n) in
       let lr : length (slotOf p (recordsFor p t i) k) ≡ recordLength p =
       length-part (recordsFor p t i) (k * recordLength p) (recordLength p) (omega (arith, slot-fits k (p .n) (recordLength p) h, length-records p t i whole)) in
       let all : length (s ++ (c ++ x)) ≡ length s + (length c + length x) = simp length-append in
       let lx : length x ≡ p .f = omega (arith, record-length p, ap length e) in
-      part-middle (slotOf p (recordsFor p t i) k) (s ++ c) x [] (40 + 32 * p .n) (p .f)
+      part-middle (slotOf p (recordsFor p t i) k) (s ++ c) x [] (slotsOf p .head) (p .f)
       (e ∙ sym (append-assoc s c x) ∙ ap (λ (l : List ℕ). (s ++ c) ++ l) (sym (append-nil x))) (length-append s c ∙ (omega arith)) lx
 
   -- A DESK THAT HOLDS, in the slots of any m different nodes below N, the records that were written for these nodes GIVES THE ITEM, whatever
   -- its other slots hold
   pub slots-come-back : (d nodes : List ℕ) → Distinct nodes → All (λ (z : ℕ). z < p .n) nodes → length nodes ≡ p .m
       → All (λ (z : ℕ). slotOf p d z ≡ slotOf p (recordsFor p t i) z) nodes
-      → laid d (headLength p) (recordLength p) (p .f) nodes 0 (p .f) (p .m) out ≡ i
+      → laid d (slotsOf p) nodes (runsOf (p .m) (p .f)) (p .m) out ≡ i
   slots-come-back d nodes apart below few held =
       let q = plan-is p ok in
       let g = facts p ok in
-      any-item (p .m) (p .f) i (omega arith) bytes whole d (headLength p) (recordLength p) nodes apart (all-map (λ z h. omega arith) nodes below) few
+      any-item (p .m) (slotsOf p) i (omega arith) bytes whole d nodes apart (all-map (λ z h. omega arith) nodes below) few
       (all-map2 place nodes below held) out room
     where
       place : (z : ℕ) → z < p .n → slotOf p d z ≡ slotOf p (recordsFor p t i) z
-          → part d (headLength p + z * recordLength p) (p .f) ≡ fragment (p .m) (p .f) i z
-      place z h e =
-          let a : headLength p + z * recordLength p ≡ z * recordLength p + 40 + 32 * p .n = omega arith in
-          ap (λ (k : ℕ). part d k (p .f)) a ∙ sym (fragment-at p d (z * recordLength p)) ∙ ap (fragmentOf p) e ∙ fragment-in z h
+          → part d (fragmentAt (slotsOf p) z) (p .f) ≡ fragment (p .m) (p .f) i z
+      place z h e = fragment-in p d z ∙ ap (fragmentOf p) e ∙ written-in z h
 
   -- THE WRITER'S DESK GIVES THE ITEM, from any m of its N slots
   pub block-comes-back : (nodes : List ℕ) → Distinct nodes → All (λ (z : ℕ). z < p .n) nodes → length nodes ≡ p .m
-      → laid (recordsFor p t i) (headLength p) (recordLength p) (p .f) nodes 0 (p .f) (p .m) out ≡ i
+      → laid (recordsFor p t i) (slotsOf p) nodes (runsOf (p .m) (p .f)) (p .m) out ≡ i
   block-comes-back nodes apart below few =
       slots-come-back (recordsFor p t i) nodes apart below few (all-map (λ z h. refl) nodes below)
 
@@ -116,7 +115,7 @@ module _ (p : Plan) (t : ℕ) (i : List ℕ) (ok : planOk p ≡ true) (bytes : O
     by-read w held =
         let a = w .node in
         let v = reading.whole-is (p .member) (COMPLETE p) (INCOMPLETE p) (size p s f d a) (w .full) in
-        let k = led p u e a (ap (λ (x : Lead). closeWith (u .marks) e (p .n) (headLength p) (recordLength p) (p .member) (COMPLETE p) (INCOMPLETE p) x .lead) (w .candidate)) in
+        let k = led p u e a (ap (λ (x : Lead). closeWith (u .marks) e (slotsOf p) (p .member) (thresholdsOf p) x .lead) (w .candidate)) in
         let l = lowest-are p u e a k ok (sized-whole p u e a k ok (k .verdict-is ∙ v)) in
         ap (λ (o : Outcome). o .item)
         (call .is ∙ reading.closes-read p s f d out (w .closes .accepted) (w .closes .asks) (w .closes .enough) ∙ reading.is-done p s f d out a (w .candidate) v (w .validated))
@@ -127,7 +126,7 @@ module _ (p : Plan) (t : ℕ) (i : List ℕ) (ok : planOk p ≡ true) (bytes : O
 
     -- A READ THAT IS DONE IN A READ ROUND LEAVES THE ITEM THAT WAS WRITTEN, where the m lowest-numbered of its set gave the records that were
     -- written for them
-    pub read-comes-back : isStoring (s .stage) ≡ false → All (λ (z : ℕ). slotOf p e z ≡ slotOf p (recordsFor p t i) z) set → i₂ ≡ i
+    pub read-comes-back : isStoring (s .round .stage) ≡ false → All (λ (z : ℕ). slotOf p e z ≡ slotOf p (recordsFor p t i) z) set → i₂ ≡ i
     read-comes-back asks held = go (read-done p s f d out took d₂ i₂ call stamp n .0 says)
       where
         go : WhenDone p s f d (length out) stamp n → i₂ ≡ i
@@ -135,7 +134,7 @@ module _ (p : Plan) (t : ℕ) (i : List ℕ) (ok : planOk p ≡ true) (bytes : O
         go (inr w) = absurd (clash (sym (w .stores) ∙ asks))
 
     -- SO DOES ONE THAT IS DONE BY A REPAIR, where the desk's first m slots hold such records (those that the set's m lowest give: repair-opens)
-    pub repair-comes-back : isStoring (s .stage) ≡ true → All (λ (z : ℕ). slotOf p d z ≡ slotOf p (recordsFor p t i) z) (from 0 (p .m)) → i₂ ≡ i
+    pub repair-comes-back : isStoring (s .round .stage) ≡ true → All (λ (z : ℕ). slotOf p d z ≡ slotOf p (recordsFor p t i) z) (from 0 (p .m)) → i₂ ≡ i
     repair-comes-back stores held = go (read-done p s f d out took d₂ i₂ call stamp n .0 says)
       where
         go : WhenDone p s f d (length out) stamp n → i₂ ≡ i
@@ -161,7 +160,7 @@ pair-small : small pair ≡ true
 unfolding pair small
 pair-small = refl
 
-pub pair-comes-back : laid (recordsFor plan 1 pair) (headLength plan) (recordLength plan) 1 (4 ∷ 2 ∷ []) 0 1 2 (0 ∷ 0 ∷ []) ≡ pair
+pub pair-comes-back : laid (recordsFor plan 1 pair) (slotsOf plan) (4 ∷ 2 ∷ []) (runsOf 2 1) 2 (0 ∷ 0 ∷ []) ≡ pair
 unfolding plan pair
 pair-comes-back =
     block-comes-back plan 1 pair accepted-plan (small-octets pair pair-small) refl (0 ∷ 0 ∷ []) refl (4 ∷ 2 ∷ []) (((λ z. omega arith), tt), (tt, tt))

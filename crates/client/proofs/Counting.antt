@@ -38,13 +38,13 @@ use Rattle.client.proofs.Round.Kept as kept
 
 -- ---- the rounds that a session has closed: those before the one that is open
 pub roundsBehind : Session → ℕ
-roundsBehind s = cond (isAsking (s .stage)) (s .round - 1) (s .round)
+roundsBehind s = cond (isAsking (s .round .stage)) (s .round .number - 1) (s .round .number)
 
 -- k replies were accepted in the read round that is open
 pub record At (s : Session) (k : ℕ) : Type 0 where
   pub marks : length (s .marks) ≡ 16
-  pub heard : isAsking (s .stage) ≡ true → heardCount (s .marks) ≡ k
-  pub low : 1 ≤ s .round
+  pub heard : isAsking (s .round .stage) ≡ true → heardCount (s .marks) ≡ k
+  pub low : 1 ≤ s .round .number
 
 -- what one reply comes to: x is 1 where it closed a round, k₂ were accepted in the round that is open after it
 pub record Step (p : Plan) (s : Session) (k : ℕ) (o : Outcome) (x k₂ : ℕ) : Type 0 where
@@ -54,9 +54,9 @@ pub record Step (p : Plan) (s : Session) (k : ℕ) (o : Outcome) (x k₂ : ℕ) 
 
 -- a reply that is refused or of a repair round; one that its round goes on after; the last of its round
 pub data Turned (p : Plan) (s : Session) (k : ℕ) (o : Outcome) : Type 0 where
-  apart : (isAsking (s .stage) and not (isRefused (o .said))) ≡ false → Step p s k o 0 k → Turned p s k o
-  more : (isAsking (s .stage) and not (isRefused (o .said))) ≡ true → k + 1 < replies p → Step p s k o 0 (k + 1) → Turned p s k o
-  last : (isAsking (s .stage) and not (isRefused (o .said))) ≡ true → replies p ≤ k + 1 → Step p s k o 1 0 → Turned p s k o
+  apart : (isAsking (s .round .stage) and not (isRefused (o .said))) ≡ false → Step p s k o 0 k → Turned p s k o
+  more : (isAsking (s .round .stage) and not (isRefused (o .said))) ≡ true → k + 1 < replies p → Step p s k o 0 (k + 1) → Turned p s k o
+  last : (isAsking (s .round .stage) and not (isRefused (o .said))) ≡ true → replies p ≤ k + 1 → Step p s k o 1 0 → Turned p s k o
 
 module _ (p : Plan) (s : Session) (f d i : List ℕ) (k : ℕ) (a : At s k) where
   length-marks : (h : Heard) → length (markedOf s (frameNode f) h .marks) ≡ 16
@@ -68,7 +68,7 @@ module _ (p : Plan) (s : Session) (f d i : List ℕ) (k : ℕ) (a : At s k) wher
   stays h = sym (add-zero (roundsBehind s))
 
   module _ (n : None (readLadder p s f d (length i))) where
-    ended-not : isEnded (s .stage) ≡ false
+    ended-not : isEnded (s .round .stage) ≡ false
     ended-not = clear (readLadder p s f d (length i)) n 14
 
     heard-not : isHeard s (frameNode f) ≡ false
@@ -78,16 +78,16 @@ module _ (p : Plan) (s : Session) (f d i : List ℕ) (k : ℕ) (a : At s k) wher
     in-marks = let t = reading.taken p s f d (length i) n in let q = plan-is p (t .plan) .n-high in let h = t .node in omega arith
 
     -- a read round
-    module _ (q : isStoring (s .stage) ≡ false) where
-      asking : isAsking (s .stage) ≡ true
-      asking = is-asking (s .stage) q ended-not
+    module _ (q : isStoring (s .round .stage) ≡ false) where
+      asking : isAsking (s .round .stage) ≡ true
+      asking = is-asking (s .round .stage) q ended-not
 
       count-is : heardCount (afterReply p s f .marks) ≡ k + 1
       count-is =
           kept.count-marked p s f (a .marks) in-marks heard-not
           ∙ ap (λ (x : ℕ). x + 1) (a .heard asking)
 
-      here : roundsBehind s ≡ s .round - 1
+      here : roundsBehind s ≡ s .round .number - 1
       unfolding roundsBehind
       here = rw asking
 
@@ -95,16 +95,16 @@ module _ (p : Plan) (s : Session) (f d i : List ℕ) (k : ℕ) (a : At s k) wher
       abbrev Closing : Outcome → Type 0
       Closing o = (isRefused (o .said) ≡ false) × Step p s k o 1 0
 
-      low : s .round ≤ p .w
+      low : s .round .number ≤ p .w
       low = reading.low-round p s f d i n
 
-      one-more : roundsBehind s + 1 ≡ s .round
+      one-more : roundsBehind s + 1 ≡ s .round .number
       one-more = let h = here in let l = a .low in omega arith
 
-      ended : (o : Outcome) → o .session ≡ endedOf (afterReply p s f) → ((m : ℕ) → Reports (o .said) m → m ≡ s .round) → Step p s k o 1 0
+      ended : (o : Outcome) → o .session ≡ endedOf (afterReply p s f) → ((m : ℕ) → Reports (o .said) m → m ≡ s .round .number) → Step p s k o 1 0
       unfolding roundsBehind
       ended o e t =
-          let z : roundsBehind (o .session) ≡ s .round = rw e in
+          let z : roundsBehind (o .session) ≡ s .round .number = rw e in
           record {
             at = rw e (record { marks = length-marks (heardAs p f); heard = λ w. (let y : _≡_ {A = ℕ} 0 1 = cc in absurd (omega arith)); low = a .low });
             more = z ∙ sym one-more;
@@ -131,7 +131,7 @@ module _ (p : Plan) (s : Session) (f d i : List ℕ) (k : ℕ) (a : At s k) wher
             );
           })
 
-      counts-it : (x : Said) → isRefused x ≡ false → (isAsking (s .stage) and not (isRefused x)) ≡ true
+      counts-it : (x : Said) → isRefused x ≡ false → (isAsking (s .round .stage) and not (isRefused x)) ≡ true
       counts-it x e = rw (asking, e)
 
       in-read : Turned p s k (readReply p s f d i)
@@ -153,12 +153,12 @@ module _ (p : Plan) (s : Session) (f d i : List ℕ) (k : ℕ) (a : At s k) wher
               }))
 
     -- a repair round
-    in-repair : isStoring (s .stage) ≡ true → Turned p s k (readReply p s f d i)
+    in-repair : isStoring (s .round .stage) ≡ true → Turned p s k (readReply p s f d i)
     unfolding roundsBehind
     in-repair q = go (ltb (heardCount (markedOf s (frameNode f) Record .marks)) (replies p)) refl
       where
-        off : isAsking (s .stage) ≡ false
-        off = not-asking (s .stage) q
+        off : isAsking (s .round .stage) ≡ false
+        off = not-asking (s .round .stage) q
 
         go : (x : Bool) → ltb (heardCount (markedOf s (frameNode f) Record .marks)) (replies p) ≡ x → Turned p s k (readReply p s f d i)
         go true g =
@@ -173,7 +173,7 @@ module _ (p : Plan) (s : Session) (f d i : List ℕ) (k : ℕ) (a : At s k) wher
             subst (Turned p s k) (sym (reading.ends-repair p s f d i n q (ltb-false _ _ g)))
             (apart (rw off) (record {
               at = record { marks = length-marks Record; heard = λ w. (let y : _≡_ {A = ℕ} 0 1 = cc in absurd (omega arith)); low = a .low };
-              more = rw off (sym (add-zero (s .round)));
+              more = rw off (sym (add-zero (s .round .number)));
               tells = λ m y. (y, (omega arith));
             }))
 
@@ -181,14 +181,14 @@ module _ (p : Plan) (s : Session) (f d i : List ℕ) (k : ℕ) (a : At s k) wher
   turned =
       subst (Turned p s k) (sym (reading.one-ladder p s f d i))
       (ladders.by-ladder (Turned p s k) (readLadder p s f d (length i)) (λ (j : ℕ). outcome (refused j) s d i) _
-      (λ j g. apart (side (isAsking (s .stage))) (record { at = a; more = sym (add-zero (roundsBehind s)); tells = λ m y. absurd y }))
-      (λ n. subst (Turned p s k) (reading.is-accepted p s f d i n) (go n (isStoring (s .stage)) refl)))
+      (λ j g. apart (side (isAsking (s .round .stage))) (record { at = a; more = sym (add-zero (roundsBehind s)); tells = λ m y. absurd y }))
+      (λ n. subst (Turned p s k) (reading.is-accepted p s f d i n) (go n (isStoring (s .round .stage)) refl)))
     where
       side : (x : Bool) → (x and false) ≡ false
       side true = refl
       side false = refl
 
-      go : None (readLadder p s f d (length i)) → (x : Bool) → isStoring (s .stage) ≡ x → Turned p s k (readReply p s f d i)
+      go : None (readLadder p s f d (length i)) → (x : Bool) → isStoring (s .round .stage) ≡ x → Turned p s k (readReply p s f d i)
       go n true q = in-repair n q
       go n false q = in-read n q
 

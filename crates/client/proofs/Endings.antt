@@ -11,7 +11,7 @@ use mathlib.Core.List.{List}
 use native.Mathlib.Omega.{arith}
 use lib.Dec.{ltb}
 use lib.ListN.{length}
-use Rattle.terms.specs.Terms.{recordLength, COMPLETE}
+use Rattle.terms.specs.Terms.{recordLength, COMPLETE, slotsOf}
 use Rattle.terms.specs.declared.Plan.{Plan}
 use Rattle.terms.proofs.Facts.{facts}
 use Rattle.frame.specs.Frame.{frameNode}
@@ -22,7 +22,7 @@ use Rattle.rounds.proofs.Closes.{Best, candidate, Members, members-are}
 use Rattle.session.specs.declared.Session.{Session}
 use Rattle.session.specs.declared.Took.{Took}
 use Rattle.session.specs.Session.{isStoring, replies, markedOf, Said, refused, stillOpen, done, neverWritten, aborted, roundsSpent, clockSpent, saidOf}
-use Rattle.session.specs.Reader.{ReadReplyCall, Outcome, outcome, headLength, closed, settled, stored, accepted}
+use Rattle.session.specs.Reader.{ReadReplyCall, Outcome, outcome, closed, settled, stored, accepted}
 use Rattle.session.specs.Writer.{WriteReplyCall}
 use Rattle.client.specs.Endings.{Exactly, readLadder, afterReply, deskAfter, Candidate, size, WhenNever, WhenAborted, WhenSpent, WhenDone, WhenOpen, DoneByRead, RepairOpens, WriteDone, WriteClock, WriteOpen, ReadGives, WriteGives}
 use Rattle.terms.proofs.Ladders as ladders
@@ -102,7 +102,7 @@ module _ (i : List ℕ) where
   accepted-stays : (p : Plan) (s : Session) (f d : List ℕ) → Stays (accepted p s f d i)
   unfolding accepted stored
   accepted-stays p s f d =
-      shapes.pick Stays (isStoring (s .stage))
+      shapes.pick Stays (isStoring (s .round .stage))
       (shapes.pick Stays (ltb (heardCount (markedOf s (frameNode f) Record .marks)) (replies p)) (λ e. refl) (λ e. wrong e))
       (subst Stays (sym (reading.heard-settles p s f d i)) (settled-stays p (afterReply p s f) (deskAfter p f d)))
 
@@ -129,14 +129,14 @@ first-triple-complete p s f d item n w =
     go Record b h = absurd (h refl)
 
 -- the candidate is the greatest timestamp heard, at the lowest-numbered node that bears it
-pub greatest : (p : Plan) (s : Session) (f d : List ℕ) (a : ℕ) → Candidate p s f d a → Best (afterReply p s f .marks) (deskAfter p f d) (recordLength p) (p .n) a
-greatest p s f d a h = candidate (afterReply p s f .marks) (deskAfter p f d) (recordLength p) (p .n) a h
+pub greatest : (p : Plan) (s : Session) (f d : List ℕ) (a : ℕ) → Candidate p s f d a → Best (afterReply p s f .marks) (deskAfter p f d) (slotsOf p) (p .n) a
+greatest p s f d a h = candidate (afterReply p s f .marks) (deskAfter p f d) (slotsOf p) (p .n) a h
 
 -- the set is rising, below N, and its nodes are exactly those that bear the candidate's timestamp and cross checksum
 pub set-is : (p : Plan) (s : Session) (f d : List ℕ) (a : ℕ)
-    → Members (deskAfter p f d) (recordLength p) (headLength p) a (p .n) (afterReply p s f .marks)
-    (setOf (afterReply p s f .marks) (deskAfter p f d) (recordLength p) (headLength p) a (p .n))
-set-is p s f d a = members-are (afterReply p s f .marks) (deskAfter p f d) (recordLength p) (headLength p) a (p .n)
+    → Members (deskAfter p f d) (slotsOf p) a (p .n) (afterReply p s f .marks)
+    (setOf (afterReply p s f .marks) (deskAfter p f d) (slotsOf p) a (p .n))
+set-is p s f d a = members-are (afterReply p s f .marks) (deskAfter p f d) (slotsOf p) a (p .n)
 
 -- where a set is decoded, and where it is repaired, it has m nodes
 pub decodes : (p : Plan) (s : Session) (f d : List ℕ) (item stamp n : ℕ) (w : DoneByRead p s f d item stamp n) → p .m ≤ size p s f d (w .node)

@@ -12,7 +12,7 @@ use Rattle.octets.specs.Bytes.{put}
 use Rattle.octets.proofs.Laws.{length-put, slot-room}
 use Rattle.terms.specs.Ladder.{first, _and_, None}
 use Rattle.terms.specs.Stamp.{stampAt, stampNumber}
-use Rattle.terms.specs.Terms.{planOk, recordLength, COMPLETE, INCOMPLETE, decided}
+use Rattle.terms.specs.Terms.{planOk, recordLength, COMPLETE, INCOMPLETE, decided, slotsOf, thresholdsOf}
 use Rattle.terms.specs.declared.Plan.{Plan}
 use Rattle.terms.specs.declared.Member.{Member}
 use Rattle.terms.specs.declared.Member.the-variants.{Repairable, NonRepair}
@@ -36,7 +36,8 @@ use Rattle.session.specs.declared.Operation.the-variants.{Read}
 use Rattle.session.specs.Session.{isStoring, replies, markedOf, endedOf, nextOf, storingOf, Said, refused, stillOpen, done, neverWritten, aborted, roundsSpent, clockSpent}
 use Rattle.session.specs.Ranges.{inRange}
 use Rattle.session.specs.Reply.{bears, lengthsOk, sameOperation}
-use Rattle.session.specs.Reader.{Outcome, outcome, headLength, decoded, collected, repaired, failing, acted, closed, settled, heard, stored, accepted, readReply}
+use Rattle.recover.specs.Recover.{decoded, collected, repaired}
+use Rattle.session.specs.Reader.{Outcome, outcome, failing, acted, closed, settled, heard, stored, accepted, readReply}
 use Rattle.session.proofs.Rules.{lengths-are, in-range-is}
 use Rattle.session.proofs.Readers as readers
 use Rattle.client.specs.Endings.{readLadder, afterReply, deskAfter, Closes, Candidate, size, valid, Fails, ReadGives}
@@ -126,8 +127,8 @@ module _ (p : Plan) (s : Session) (f d i : List ℕ) where
 
   -- ---- a candidate
   module _ (a : ℕ) (h : Candidate p s f d a) where
-    led : c ≡ closeWith (u .marks) e (p .n) (headLength p) (recordLength p) (p .member) (COMPLETE p) (INCOMPLETE p) (Node a)
-    led = ap (closeWith (u .marks) e (p .n) (headLength p) (recordLength p) (p .member) (COMPLETE p) (INCOMPLETE p)) h
+    led : c ≡ closeWith (u .marks) e (slotsOf p) (p .member) (thresholdsOf p) (Node a)
+    led = ap (closeWith (u .marks) e (slotsOf p) (p .member) (thresholdsOf p)) h
 
     lead-is : c .lead ≡ Node a
     unfolding closeWith
@@ -145,7 +146,7 @@ module _ (p : Plan) (s : Session) (f d i : List ℕ) where
     act = acted p u c e i
 
     pub is-done : decided (p .member) (COMPLETE p) (INCOMPLETE p) (size p s f d a) ≡ verdict.Complete → valid p s f d a ≡ true
-        → act ≡ outcome (done (stampNumber (c .stamp)) (s .round)) (endedOf u) e (decoded p c e i)
+        → act ≡ outcome (done (stampNumber (c .stamp)) (s .round .number)) (endedOf u) e (decoded p c e i)
     is-done v w =
         sym (readers.act-led p u c e i a _ lead-is
         (readers.act-done p u c a e i (c .verdict) (valid p s f d a) (endedOf u) (decoded p c e i) (verdict-is ∙ v) refl w refl refl))
@@ -156,7 +157,7 @@ module _ (p : Plan) (s : Session) (f d i : List ℕ) where
         sym (readers.act-led p u c e i a _ lead-is
         (readers.act-repair p u c a e i (c .verdict) (valid p s f d a) (storingOf u (c .stamp)) (repaired p c a e) (verdict-is ∙ v) refl w refl refl))
 
-    pub is-aborted : decided (p .member) (COMPLETE p) (INCOMPLETE p) (size p s f d a) ≡ verdict.Aborted → act ≡ outcome (aborted (s .round)) (endedOf u) e i
+    pub is-aborted : decided (p .member) (COMPLETE p) (INCOMPLETE p) (size p s f d a) ≡ verdict.Aborted → act ≡ outcome (aborted (s .round .number)) (endedOf u) e i
     is-aborted v = sym (readers.act-led p u c e i a _ lead-is (readers.act-aborted p u c a e i (c .verdict) (endedOf u) (verdict-is ∙ v) refl))
 
     pub is-failing : Fails p (size p s f d a) (valid p s f d a) → act ≡ failing p u (c .stamp) e i
@@ -192,7 +193,7 @@ module _ (p : Plan) (s : Session) (f d i : List ℕ) where
     pub is-accepted : readReply p s f d i ≡ accepted p s f d i
     is-accepted = one-ladder ∙ ladders.is-passed (readLadder p s f d (length i)) refuse (accepted p s f d i) n
 
-    pub low-round : s .round ≤ p .w
+    pub low-round : s .round .number ≤ p .w
     low-round = in-range-is p s d true (sym (t .range)) refl .round-high
 
     -- the desk keeps its length, and the candidate's slot lies in it
@@ -207,78 +208,78 @@ module _ (p : Plan) (s : Session) (f d i : List ℕ) where
             length-put d (frameNode f * recordLength p) (bodyOf f) (omega arith) ∙ t .desk
         go false b = t .desk
 
-    pub stamp-of : (a : ℕ) → Candidate p s f d a → stampNumber (c .stamp) ≡ slotStamp e (recordLength p) a
+    pub stamp-of : (a : ℕ) → Candidate p s f d a → stampNumber (c .stamp) ≡ slotStamp e (slotsOf p) a
     unfolding slotStamp
     stamp-of a h =
-        let r = slot-room a (p .n) (recordLength p) (length e) (lead-room (u .marks) e (recordLength p) (p .n) a (leadOf (u .marks) e (recordLength p) (p .n)) refl h) (omega (arith, desk-is)) in
+        let r = slot-room a (p .n) (recordLength p) (length e) (lead-room (u .marks) e (slotsOf p) (p .n) a (leadOf (u .marks) e (slotsOf p) (p .n)) refl h) (omega (arith, desk-is)) in
         let k : 40 ≤ recordLength p = unfold recordLength in omega arith in
         ap stampNumber (stamp-is a h) ∙ stamp-at-number e (a * recordLength p) (omega arith)
 
-    in-read : isStoring (s .stage) ≡ false → readReply p s f d i ≡ settled p u e i
+    in-read : isStoring (s .round .stage) ≡ false → readReply p s f d i ≡ settled p u e i
     unfolding accepted
     in-read q = is-accepted ∙ rw q (heard-settles p s f d i)
 
-    in-repair : isStoring (s .stage) ≡ true → readReply p s f d i ≡ stored p s f d i
+    in-repair : isStoring (s .round .stage) ≡ true → readReply p s f d i ≡ stored p s f d i
     unfolding accepted
     in-repair q = is-accepted ∙ rw q
 
-    pub waits-read : isStoring (s .stage) ≡ false → heardCount (u .marks) < replies p → readReply p s f d i ≡ outcome stillOpen u e i
+    pub waits-read : isStoring (s .round .stage) ≡ false → heardCount (u .marks) < replies p → readReply p s f d i ≡ outcome stillOpen u e i
     unfolding settled
     waits-read q h = in-read q ∙ rw (lt-ltb (heardCount (u .marks)) (replies p) h)
 
-    pub closes-read : isStoring (s .stage) ≡ false → replies p ≤ heardCount (u .marks) → readReply p s f d i ≡ acted p u c e i
+    pub closes-read : isStoring (s .round .stage) ≡ false → replies p ≤ heardCount (u .marks) → readReply p s f d i ≡ acted p u c e i
     unfolding settled
     closes-read q h = in-read q ∙ rw (le-ltb (heardCount (u .marks)) (replies p) h)
 
-    pub waits-repair : isStoring (s .stage) ≡ true → heardCount (markedOf s (frameNode f) Record .marks) < replies p
+    pub waits-repair : isStoring (s .round .stage) ≡ true → heardCount (markedOf s (frameNode f) Record .marks) < replies p
         → readReply p s f d i ≡ outcome stillOpen (markedOf s (frameNode f) Record) d i
     unfolding stored
     waits-repair q h = in-repair q ∙ rw (lt-ltb (heardCount (markedOf s (frameNode f) Record .marks)) (replies p) h)
 
-    pub ends-repair : isStoring (s .stage) ≡ true → replies p ≤ heardCount (markedOf s (frameNode f) Record .marks)
-        → readReply p s f d i ≡ outcome (done (stampNumber (s .stamp)) (s .round)) (endedOf (markedOf s (frameNode f) Record)) d (collected p d i)
+    pub ends-repair : isStoring (s .round .stage) ≡ true → replies p ≤ heardCount (markedOf s (frameNode f) Record .marks)
+        → readReply p s f d i ≡ outcome (done (stampNumber (s .stamp)) (s .round .number)) (endedOf (markedOf s (frameNode f) Record)) d (collected p d i)
     unfolding stored
     ends-repair q h = in-repair q ∙ rw (le-ltb (heardCount (markedOf s (frameNode f) Record .marks)) (replies p) h)
 
-    pub spends : (a : ℕ) → Candidate p s f d a → Fails p (size p s f d a) (valid p s f d a) → s .round ≡ p .w
-        → acted p u c e i ≡ outcome (roundsSpent (s .round)) (endedOf u) e i
+    pub spends : (a : ℕ) → Candidate p s f d a → Fails p (size p s f d a) (valid p s f d a) → s .round .number ≡ p .w
+        → acted p u c e i ≡ outcome (roundsSpent (s .round .number)) (endedOf u) e i
     unfolding failing
-    spends a h w q = is-failing a h w ∙ rw (le-leb (p .w) (s .round) (omega arith))
+    spends a h w q = is-failing a h w ∙ rw (le-leb (p .w) (s .round .number) (omega arith))
 
-    pub goes-on : (a : ℕ) → Candidate p s f d a → Fails p (size p s f d a) (valid p s f d a) → s .round < p .w
+    pub goes-on : (a : ℕ) → Candidate p s f d a → Fails p (size p s f d a) (valid p s f d a) → s .round .number < p .w
         → acted p u c e i ≡ outcome stillOpen (nextOf u (c .stamp)) e i
     unfolding failing
-    goes-on a h w q = is-failing a h w ∙ rw (lt-leb (p .w) (s .round) q)
+    goes-on a h w q = is-failing a h w ∙ rw (lt-leb (p .w) (s .round .number) q)
 
-    pub never : ((k : ℕ) → k < p .n → markOf (u .marks) k ≡ Record → ⊥) → acted p u c e i ≡ outcome (neverWritten (s .round)) (endedOf u) e i
-    never h = go (leadOf (u .marks) e (recordLength p) (p .n)) refl
+    pub never : ((k : ℕ) → k < p .n → markOf (u .marks) k ≡ Record → ⊥) → acted p u c e i ≡ outcome (neverWritten (s .round .number)) (endedOf u) e i
+    never h = go (leadOf (u .marks) e (slotsOf p) (p .n)) refl
       where
-        go : (l : Lead) → leadOf (u .marks) e (recordLength p) (p .n) ≡ l → acted p u c e i ≡ outcome (neverWritten (s .round)) (endedOf u) e i
+        go : (l : Lead) → leadOf (u .marks) e (slotsOf p) (p .n) ≡ l → acted p u c e i ≡ outcome (neverWritten (s .round .number)) (endedOf u) e i
         go Nobody q =
-            let z : c ≡ closeWith (u .marks) e (p .n) (headLength p) (recordLength p) (p .member) (COMPLETE p) (INCOMPLETE p) Nobody =
-            ap (closeWith (u .marks) e (p .n) (headLength p) (recordLength p) (p .member) (COMPLETE p) (INCOMPLETE p)) q in
+            let z : c ≡ closeWith (u .marks) e (slotsOf p) (p .member) (thresholdsOf p) Nobody =
+            ap (closeWith (u .marks) e (slotsOf p) (p .member) (thresholdsOf p)) q in
             let l : c .lead ≡ Nobody = ap (λ (x : Closed). x .lead) z ∙ (unfold closeWith in refl) in
             sym (readers.act-never p u c e i (endedOf u) l refl)
         go (Node a) q =
-            absurd (h a (lead-room (u .marks) e (recordLength p) (p .n) a (leadOf (u .marks) e (recordLength p) (p .n)) refl q)
-            (candidate (u .marks) e (recordLength p) (p .n) a q .marked))
+            absurd (h a (lead-room (u .marks) e (slotsOf p) (p .n) a (leadOf (u .marks) e (slotsOf p) (p .n)) refl q)
+            (candidate (u .marks) e (slotsOf p) (p .n) a q .marked))
 
     -- ---- it gives one of the answers, with its condition
     abbrev Gives : Outcome → Type 0
     Gives o = ReadGives p s f d (length i) (o .said)
 
-    closed-gives : isStoring (s .stage) ≡ false → replies p ≤ heardCount (u .marks) → Gives (acted p u c e i)
-    closed-gives q g = go (leadOf (u .marks) e (recordLength p) (p .n)) refl
+    closed-gives : isStoring (s .round .stage) ≡ false → replies p ≤ heardCount (u .marks) → Gives (acted p u c e i)
+    closed-gives q g = go (leadOf (u .marks) e (slotsOf p) (p .n)) refl
       where
         k : Closes p s f d (length i)
         k = record { accepted = n; asks = q; enough = g }
 
-        rest : (a : ℕ) → Candidate p s f d a → Fails p (size p s f d a) (valid p s f d a) → (y : Bool) → leb (p .w) (s .round) ≡ y → Gives (acted p u c e i)
+        rest : (a : ℕ) → Candidate p s f d a → Fails p (size p s f d a) (valid p s f d a) → (y : Bool) → leb (p .w) (s .round .number) ≡ y → Gives (acted p u c e i)
         rest a h w true y =
-            let z : s .round ≡ p .w = let b = leb-true (p .w) (s .round) y in let r = low-round in omega arith in
+            let z : s .round .number ≡ p .w = let b = leb-true (p .w) (s .round .number) y in let r = low-round in omega arith in
             subst Gives (sym (spends a h w z)) (record { closes = k; node = a; candidate = h; fails = w; last = z; counted = refl })
         rest a h w false y =
-            let z = leb-false (p .w) (s .round) y in
+            let z = leb-false (p .w) (s .round .number) y in
             subst Gives (sym (goes-on a h w z)) (inr (inl (record { closes = k; node = a; candidate = h; fails = w; more = z })))
 
         by-size : (a : ℕ) (h : Candidate p s f d a) → Sorted (p .member) (COMPLETE p) (INCOMPLETE p) (size p s f d a) → (y : Bool) → valid p s f d a ≡ y
@@ -286,25 +287,25 @@ module _ (p : Plan) (s : Session) (f d i : List ℕ) where
         by-size a h (whole x v) true y =
             subst Gives (sym (is-done a h v y))
             (inl (record { closes = k; node = a; candidate = h; full = x; validated = y; of = stamp-of a h; counted = refl }))
-        by-size a h (whole x v) false y = rest a h (inr (y, inl x)) (leb (p .w) (s .round)) refl
+        by-size a h (whole x v) false y = rest a h (inr (y, inl x)) (leb (p .w) (s .round .number)) refl
         by-size a h (mended x l m v) true y =
             subst Gives (sym (is-mended a h v y))
             (inr (inr (record { closes = k; node = a; candidate = h; low = l; high = x; member = m; validated = y })))
-        by-size a h (mended x l m v) false y = rest a h (inr (y, inr (l, m))) (leb (p .w) (s .round)) refl
+        by-size a h (mended x l m v) false y = rest a h (inr (y, inr (l, m))) (leb (p .w) (s .round .number)) refl
         by-size a h (unsure x l m v) w y =
             subst Gives (sym (is-aborted a h v)) (record { closes = k; node = a; candidate = h; low = l; high = x; member = m; counted = refl })
-        by-size a h (short x l v) w y = rest a h (inl l) (leb (p .w) (s .round)) refl
+        by-size a h (short x l v) w y = rest a h (inl l) (leb (p .w) (s .round .number)) refl
 
-        go : (l : Lead) → leadOf (u .marks) e (recordLength p) (p .n) ≡ l → Gives (acted p u c e i)
+        go : (l : Lead) → leadOf (u .marks) e (slotsOf p) (p .n) ≡ l → Gives (acted p u c e i)
         go Nobody h =
-            let z = no-candidate (u .marks) e (recordLength p) (p .n) h in
+            let z = no-candidate (u .marks) e (slotsOf p) (p .n) h in
             subst Gives (sym (never z)) (record { closes = k; first = z; counted = refl })
         go (Node a) h = by-size a h (sorted (p .member) (COMPLETE p) (INCOMPLETE p) (size p s f d a)) (valid p s f d a) refl
 
     accepted-gives : Gives (accepted p s f d i)
-    accepted-gives = subst Gives is-accepted (go (isStoring (s .stage)) refl)
+    accepted-gives = subst Gives is-accepted (go (isStoring (s .round .stage)) refl)
       where
-        stores : isStoring (s .stage) ≡ true → (x : Bool) → ltb (heardCount (markedOf s (frameNode f) Record .marks)) (replies p) ≡ x → Gives (readReply p s f d i)
+        stores : isStoring (s .round .stage) ≡ true → (x : Bool) → ltb (heardCount (markedOf s (frameNode f) Record .marks)) (replies p) ≡ x → Gives (readReply p s f d i)
         stores q true h =
             let z = ltb-true _ _ h in
             subst Gives (sym (waits-repair q z)) (inl (record { accepted = n; few = rw q z }))
@@ -312,11 +313,11 @@ module _ (p : Plan) (s : Session) (f d i : List ℕ) where
             let z = ltb-false _ _ h in
             subst Gives (sym (ends-repair q z)) (inr (record { accepted = n; stores = q; enough = z; of = refl; counted = refl }))
 
-        asks : isStoring (s .stage) ≡ false → (x : Bool) → ltb (heardCount (u .marks)) (replies p) ≡ x → Gives (readReply p s f d i)
+        asks : isStoring (s .round .stage) ≡ false → (x : Bool) → ltb (heardCount (u .marks)) (replies p) ≡ x → Gives (readReply p s f d i)
         asks q true h = let z = ltb-true _ _ h in subst Gives (sym (waits-read q z)) (inl (record { accepted = n; few = rw q z }))
         asks q false h = let z = ltb-false _ _ h in subst Gives (sym (closes-read q z)) (closed-gives q z)
 
-        go : (x : Bool) → isStoring (s .stage) ≡ x → Gives (readReply p s f d i)
+        go : (x : Bool) → isStoring (s .round .stage) ≡ x → Gives (readReply p s f d i)
         go true q = stores q (ltb (heardCount (markedOf s (frameNode f) Record .marks)) (replies p)) refl
         go false q = asks q (ltb (heardCount (u .marks)) (replies p)) refl
 
@@ -331,9 +332,9 @@ module _ (p : Plan) (s : Session) (f d i : List ℕ) where
   pub so-gives : (x : Said) → ReadGives p s f d (length i) x → readReply p s f d i .said ≡ x
   so-gives (refused k) g =
       ap (λ (o : Outcome). o .said) (one-ladder ∙ ladders.is-given (readLadder p s f d (length i)) refuse (accepted p s f d i) k g)
-  so-gives stillOpen (inl g) = go (isStoring (s .stage)) refl (g .few)
+  so-gives stillOpen (inl g) = go (isStoring (s .round .stage)) refl (g .few)
     where
-      go : (x : Bool) → isStoring (s .stage) ≡ x → heardCount (cond x (markedOf s (frameNode f) Record) (afterReply p s f) .marks) < replies p
+      go : (x : Bool) → isStoring (s .round .stage) ≡ x → heardCount (cond x (markedOf s (frameNode f) Record) (afterReply p s f) .marks) < replies p
           → readReply p s f d i .said ≡ stillOpen
       go true q h = ap (λ (o : Outcome). o .said) (waits-repair (g .accepted) q h)
       go false q h = ap (λ (o : Outcome). o .said) (waits-read (g .accepted) q h)

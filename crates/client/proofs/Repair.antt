@@ -15,7 +15,7 @@ use lib.ListN.{length, getD}
 use Rattle.octets.specs.Bytes.{part, put, num, Octets}
 use Rattle.octets.proofs.Laws.{length-part, part-part, slot-room, part-first, part-last}
 use Rattle.octets.proofs.Meaning.{getD-part}
-use Rattle.terms.specs.Terms.{planOk, recordLength}
+use Rattle.terms.specs.Terms.{planOk, recordLength, slotsOf, fragmentAt, runsOf}
 use Rattle.terms.specs.Stamp.{stampNumber}
 use Rattle.terms.specs.declared.Plan.{Plan}
 use Rattle.terms.proofs.Facts.{facts}
@@ -27,12 +27,15 @@ use Rattle.fragments.proofs.Interp.{all, all-map, Bytes, value-ext, only, newto
 use Rattle.fragments.proofs.Laws.{among-all, among-from, length-regenerated}
 use Rattle.fragments.proofs.Theorems.{coefficients, octets-bytes, all-bytes}
 use Rattle.record.specs.Desk.{slotOf, fragmentIn}
-use Rattle.record.proofs.Records.{record-length, start-of, stamp-at}
+use Rattle.terms.proofs.Places.{record-length}
+use Rattle.terms.specs.declared.Slots.{Slots}
+use Rattle.record.proofs.Records.{start-of, stamp-at}
+use Rattle.record.proofs.Desks.{fragment-in}
 use Rattle.rounds.specs.declared.Lead.the-variants.{Node}
-use Rattle.recover.specs.Recover.{recordFrom}
+use Rattle.recover.specs.Recover.{recordFrom, lowest, decoded, collected, repaired}
 use Rattle.recover.proofs.Filled.{filled-record}
 use Rattle.session.specs.declared.Session.{Session}
-use Rattle.session.specs.Reader.{headLength, lowest, decoded, collected, repaired, closed}
+use Rattle.session.specs.Reader.{closed}
 use Rattle.session.proofs.Closings.{Led, led, lead-low, Lowest, lowest-are, heads-alike}
 use Rattle.client.specs.Repair.{Through, Holds}
 
@@ -42,11 +45,11 @@ part-start l h at n u = let z : at ≡ 0 + at = omega arith in ap (λ (y : ℕ).
 
 -- ---- polynomials through the slots of some nodes
 -- byte i of the fragment in slot q
-fragment-byte : (p : Plan) (d : List ℕ) (q i : ℕ) → i < p .f → getD (fragmentIn p d q) i 0 ≡ getD d (headLength p + q * recordLength p + i) 0
+fragment-byte : (p : Plan) (d : List ℕ) (q i : ℕ) → i < p .f → getD (fragmentIn p d q) i 0 ≡ getD d (fragmentAt (slotsOf p) q + i) 0
 unfolding recordLength
 fragment-byte p d q i h =
-    let z : q * recordLength p + (headLength p + i) ≡ headLength p + q * recordLength p + i = omega arith in
-    getD-part (slotOf p d q) (headLength p) (p .f) i h ∙ getD-part d (q * recordLength p) (recordLength p) (headLength p + i) (omega arith)
+    let z : q * recordLength p + (slotsOf p .head + i) ≡ fragmentAt (slotsOf p) q + i = omega arith in
+    getD-part (slotOf p d q) (slotsOf p .head) (p .f) i h ∙ getD-part d (q * recordLength p) (recordLength p) (slotsOf p .head + i) (omega arith)
     ∙ ap (λ (n : ℕ). getD d n 0) z
 
 module _ (p : Plan) (qs d : List ℕ) (few : length qs ≡ p .m) (distinct : Distinct qs) (points : Bytes qs) (i : ℕ) (low : i < p .f) where
@@ -62,7 +65,7 @@ module _ (p : Plan) (qs d : List ℕ) (few : length qs ≡ p .m) (distinct : Dis
       }
     where
       bytes : All (λ (q : ℕ). held q < 256) qs
-      bytes = all (λ q. rw (fragment-byte p d q i low) (o (headLength p + q * recordLength p + i))) qs
+      bytes = all (λ q. rw (fragment-byte p d q i low) (o (fragmentAt (slotsOf p) q + i))) qs
 
   through-only : (cs : List ℕ) → Through p qs d i cs → (k : ℕ) → k < 256 → value qs held k ≡ eval cs k
   through-only cs t k h =
@@ -76,7 +79,7 @@ module _ (p : Plan) (qs d : List ℕ) (few : length qs ≡ p .m) (distinct : Dis
 
   -- byte i of a fragment regenerated from them is its value
   regenerated-value : (cs : List ℕ) → Through p qs d i cs → (k : ℕ) → k < 256
-      → getD (regenerated d (headLength p) (recordLength p) (p .f) qs k) i 0 ≡ eval cs k
+      → getD (regenerated d (slotsOf p) qs k) i 0 ≡ eval cs k
   unfolding regenerated
   regenerated-value cs t k h = go (among k qs) refl
     where
@@ -84,23 +87,22 @@ module _ (p : Plan) (qs d : List ℕ) (few : length qs ≡ p .m) (distinct : Dis
       r = recordLength p
 
       go : (b : Bool) → among k qs ≡ b
-          → getD (cond b (part d (headLength p + k * r) (p .f)) (tabulate (p .f) (λ j. value qs (λ q. getD d (headLength p + q * r + j) 0) k))) i 0 ≡ eval cs k
+          → getD (cond b (part d (fragmentAt (slotsOf p) k) (p .f)) (tabulate (p .f) (λ j. value qs (λ q. getD d (fragmentAt (slotsOf p) q + j) 0) k))) i 0 ≡ eval cs k
       go true e =
-          getD-part d (headLength p + k * r) (p .f) i low ∙ sym (fragment-byte p d k i low)
+          getD-part d (fragmentAt (slotsOf p) k) (p .f) i low ∙ sym (fragment-byte p d k i low)
           ∙ sym (among-all (λ (q : ℕ). eval cs q ≡ held q) k qs (all-at (λ (q : ℕ). eval cs q ≡ held q) qs (t .passes)) e)
       go false e =
-          getD-tabulate (p .f) (λ j. value qs (λ q. getD d (headLength p + q * r + j) 0) k) i low
-          ∙ value-ext qs (λ q. getD d (headLength p + q * r + i) 0) held k (all (λ q. sym (fragment-byte p d q i low)) qs)
+          getD-tabulate (p .f) (λ j. value qs (λ q. getD d (fragmentAt (slotsOf p) q + j) 0) k) i low
+          ∙ value-ext qs (λ q. getD d (fragmentAt (slotsOf p) q + i) 0) held k (all (λ q. sym (fragment-byte p d q i low)) qs)
           ∙ through-only cs t k h
 
 -- items laid from fragments that are alike are alike
-laid-same : (src other : List ℕ) (first stride F : ℕ) (qs zs : List ℕ) (start step n : ℕ) (out : List ℕ)
-    → ((k : ℕ) → k < n → regenerated src first stride F qs k ≡ regenerated other first stride F zs k)
-    → laid src first stride F qs start step n out ≡ laid other first stride F zs start step n out
+laid-same : (src other : List ℕ) (slots : Slots) (qs zs : List ℕ) (to : Slots) (n : ℕ) (out : List ℕ)
+    → ((k : ℕ) → k < n → regenerated src slots qs k ≡ regenerated other slots zs k) → laid src slots qs to n out ≡ laid other slots zs to n out
 unfolding laid
-laid-same src other first stride F qs zs start step zero out e = refl
-laid-same src other first stride F qs zs start step (suc n) out e =
-    ap₂ (λ (x y : List ℕ). put x (start + n * step) y) (laid-same src other first stride F qs zs start step n out (λ k h. e k (omega arith))) (e n (omega arith))
+laid-same src other slots qs zs to zero out e = refl
+laid-same src other slots qs zs to (suc n) out e =
+    ap₂ (λ (x y : List ℕ). put x (fragmentAt to n) y) (laid-same src other slots qs zs to n out (λ k h. e k (omega arith))) (e n (omega arith))
 
 -- ---- a round that closed: node a leads it, its set has m nodes
 module _ (p : Plan) (s : Session) (d : List ℕ) (a : ℕ) (ok : planOk p ≡ true) (long : length d ≡ p .n * recordLength p)
@@ -119,45 +121,45 @@ module _ (p : Plan) (s : Session) (d : List ℕ) (a : ℕ) (ok : planOk p ≡ tr
   are-lowest = lowest-are p s d a is-led ok size
 
   abbrev fragment-of : ℕ → List ℕ
-  fragment-of k = regenerated d (headLength p) (recordLength p) (p .f) qs k
+  fragment-of k = regenerated d (slotsOf p) qs k
 
-  -- SLOT k IS RECORD k OF THE DESK AS IT WAS: the first 40+32·N bytes of the lead's slot, and fragment k regenerated from the m lowest
+  -- SLOT k IS RECORD k OF THE DESK AS IT WAS: the head of the lead's slot, and fragment k regenerated from the m lowest
   pub repaired-record : (k : ℕ) → k < p .n
-      → slotOf p (repaired p (closed p s d) a d) k ≡ recordFrom d (headLength p) (recordLength p) (p .f) (lowest p (closed p s d)) a k
+      → slotOf p (repaired p (closed p s d) a d) k ≡ recordFrom d (slotsOf p) (lowest p (closed p s d)) a k
   unfolding repaired recordLength
   repaired-record k h =
-      filled-record d (headLength p) (recordLength p) (p .f) qs a (p .n) refl (omega arith) (are-lowest .below) (are-lowest .leader) (are-lowest .heads) k h
+      filled-record d (slotsOf p) qs a (p .n) (record-length p) (omega arith) (are-lowest .below) (are-lowest .leader) (are-lowest .heads) k h
 
-  long-head : length (part d (a * recordLength p) (headLength p)) ≡ headLength p
+  long-head : length (part d (a * recordLength p) (slotsOf p .head)) ≡ slotsOf p .head
   unfolding recordLength
   long-head =
       let y = slot-room a (p .n) (recordLength p) (length d) (lead-low p s d a is-led) (omega arith) in
-      length-part d (a * recordLength p) (headLength p) (omega (arith, y))
+      length-part d (a * recordLength p) (slotsOf p .head) (omega (arith, y))
 
   long-fragment : (k : ℕ) → length (fragment-of k) ≡ p .f
   unfolding recordLength
-  long-fragment k = length-regenerated d (headLength p) (recordLength p) (p .f) qs k within
+  long-fragment k = length-regenerated d (slotsOf p) qs k within
     where
-      within : Sources d (headLength p) (recordLength p) (p .f) qs
+      within : Sources d (slotsOf p) qs
       within j l =
           let y = slot-room (getD qs j 0) (p .n) (recordLength p) (length d) (all-at (λ (q : ℕ). q < p .n) qs (are-lowest .below) j l) (omega arith) in
           omega (arith, y)
 
   -- its head is that of every node of the set
-  head-is : (k : ℕ) → k < p .n → (q at n : ℕ) → part d (q * recordLength p) (headLength p) ≡ part d (a * recordLength p) (headLength p)
-      → at + n ≤ headLength p → part (slotOf p full k) at n ≡ part (slotOf p d q) at n
+  head-is : (k : ℕ) → k < p .n → (q at n : ℕ) → part d (q * recordLength p) (slotsOf p .head) ≡ part d (a * recordLength p) (slotsOf p .head)
+      → at + n ≤ slotsOf p .head → part (slotOf p full k) at n ≡ part (slotOf p d q) at n
   head-is k h q at n w u =
-      let x : List ℕ = part d (a * recordLength p) (headLength p) in
-      let new : part (slotOf p full k) 0 (headLength p) ≡ x =
-      ap (λ (l : List ℕ). part l 0 (headLength p)) (repaired-record k h) ∙ part-first x (fragment-of k) (headLength p) long-head in
-      let old : part (slotOf p d q) 0 (headLength p) ≡ x = start-of p d (q * recordLength p) (headLength p) (omega (arith, record-length p)) ∙ w in
-      part-start (slotOf p full k) (headLength p) at n u ∙ ap (λ (l : List ℕ). part l at n) (new ∙ sym old) ∙ sym (part-start (slotOf p d q) (headLength p) at n u)
+      let x : List ℕ = part d (a * recordLength p) (slotsOf p .head) in
+      let new : part (slotOf p full k) 0 (slotsOf p .head) ≡ x =
+      ap (λ (l : List ℕ). part l 0 (slotsOf p .head)) (repaired-record k h) ∙ part-first x (fragment-of k) (slotsOf p .head) long-head in
+      let old : part (slotOf p d q) 0 (slotsOf p .head) ≡ x = start-of p d (q * recordLength p) (slotsOf p .head) (omega (arith, record-length p)) ∙ w in
+      part-start (slotOf p full k) (slotsOf p .head) at n u ∙ ap (λ (l : List ℕ). part l at n) (new ∙ sym old) ∙ sym (part-start (slotOf p d q) (slotsOf p .head) at n u)
 
   -- its fragment is the one regenerated
   fragment-held : (k : ℕ) → k < p .n → fragmentIn p full k ≡ fragment-of k
   fragment-held k h =
-      ap (λ (l : List ℕ). part l (headLength p) (p .f)) (repaired-record k h)
-      ∙ part-last (part d (a * recordLength p) (headLength p)) (fragment-of k) (headLength p) (p .f) long-head (long-fragment k)
+      ap (λ (l : List ℕ). part l (slotsOf p .head) (p .f)) (repaired-record k h)
+      ∙ part-last (part d (a * recordLength p) (slotsOf p .head)) (fragment-of k) (slotsOf p .head) (p .f) long-head (long-fragment k)
 
   -- AFTER THE FILL EVERY SLOT k HOLDS the set's timestamp and cross checksum and fragment k of the polynomials through the m lowest, all from
   -- the desk as it was
@@ -196,13 +198,8 @@ module _ (p : Plan) (s : Session) (d : List ℕ) (a : ℕ) (ok : planOk p ≡ tr
   pub repaired-item : (i : List ℕ) → collected p (repaired p (closed p s d) a d) i ≡ decoded p (closed p s d) d i
   unfolding collected decoded
   repaired-item i =
-      laid-same full d (headLength p) (recordLength p) (p .f) (from 0 (p .m)) qs 0 (p .f) (p .m) i
-      (λ k h. own k h ∙ place k ∙ fragment-held k (omega (arith, facts p ok .needed-nodes)))
+      laid-same full d (slotsOf p) (from 0 (p .m)) qs (runsOf (p .m) (p .f)) (p .m) i
+      (λ k h. own k h ∙ fragment-in p full k ∙ fragment-held k (omega (arith, facts p ok .needed-nodes)))
     where
-      own : (k : ℕ) → k < p .m → regenerated full (headLength p) (recordLength p) (p .f) (from 0 (p .m)) k ≡ part full (headLength p + k * recordLength p) (p .f)
+      own : (k : ℕ) → k < p .m → regenerated full (slotsOf p) (from 0 (p .m)) k ≡ part full (fragmentAt (slotsOf p) k) (p .f)
       own k h = unfold regenerated in rw (among-from k (p .m), lt-ltb k (p .m) h)
-
-      place : (k : ℕ) → part full (headLength p + k * recordLength p) (p .f) ≡ fragmentIn p full k
-      place k =
-          let z : headLength p + k * recordLength p ≡ k * recordLength p + headLength p = omega arith in
-          ap (λ (y : ℕ). part full y (p .f)) z ∙ sym (part-part full (k * recordLength p) (recordLength p) (headLength p) (p .f) (omega (arith, record-length p)))

@@ -29,7 +29,8 @@ use Rattle.session.specs.declared.Took.{Took}
 use Rattle.session.specs.declared.Operation.the-variants.{Read}
 use Rattle.session.specs.Session.{isAsking, isStoring, isEnded, replies, markedOf, endedOf, refused, stillOpen, done}
 use Rattle.session.specs.Reply.{bears, replyLadder, recordLadder}
-use Rattle.session.specs.Reader.{Outcome, outcome, decoded, collected, repaired, acted, closed, settled, stored, accepted, readReply, ReadReplyCall}
+use Rattle.recover.specs.Recover.{decoded, collected, repaired}
+use Rattle.session.specs.Reader.{Outcome, outcome, acted, closed, settled, stored, accepted, readReply, ReadReplyCall}
 use Rattle.session.proofs.Checks.{outcome-all}
 use Rattle.session.proofs.Closings.{led, sized, goes}
 use Rattle.session.proofs.ReadKept.{Hearing, hearing, not-asking}
@@ -61,9 +62,9 @@ pub record Refilled (p : Plan) (u : Session) (e e₂ : List ℕ) : Type 0 where
   pub size : p .m ≤ length (closed p u e .nodes)
   pub is : e₂ ≡ repaired p (closed p u e) node e
 
-module _ (p : Plan) (u : Session) (e i : List ℕ) (ok : planOk p ≡ true) (long : length e ≡ p .n * recordLength p) (asks : isStoring (u .stage) ≡ false) where
+module _ (p : Plan) (u : Session) (e i : List ℕ) (ok : planOk p ≡ true) (long : length e ≡ p .n * recordLength p) (asks : isStoring (u .round .stage) ≡ false) where
   abbrev Full : Outcome → Type 0
-  Full x = isStoring (x .session .stage) ≡ true → Refilled p u e (x .desk)
+  Full x = isStoring (x .session .round .stage) ≡ true → Refilled p u e (x .desk)
 
   settles : Full (settled p u e i)
   unfolding settled
@@ -82,10 +83,10 @@ module _ (p : Plan) (u : Session) (e i : List ℕ) (ok : planOk p ≡ true) (lon
             repairs = λ a l v t. record { plan = ok; long = long; node = a; leads = l; size = sized p u e a (led p u e a l) ok v; is = refl };
           })
 
-module _ (p : Plan) (s : Session) (f d i : List ℕ) (asks : isStoring (s .stage) ≡ false) (t : Took) (d₂ i₂ : List ℕ) (call : ReadReplyCall p s f d i t d₂ i₂)
-    (opens : isStoring (t .session .stage) ≡ true) where
+module _ (p : Plan) (s : Session) (f d i : List ℕ) (asks : isStoring (s .round .stage) ≡ false) (t : Took) (d₂ i₂ : List ℕ) (call : ReadReplyCall p s f d i t d₂ i₂)
+    (opens : isStoring (t .session .round .stage) ≡ true) where
   abbrev Right : Outcome → Type 0
-  Right x = isStoring (x .session .stage) ≡ true → Refilled p (afterReply p s f) (deskAfter p f d) (x .desk)
+  Right x = isStoring (x .session .round .stage) ≡ true → Refilled p (afterReply p s f) (deskAfter p f d) (x .desk)
 
   takes : Hearing p s f d → Right (accepted p s f d i)
   unfolding accepted
@@ -118,23 +119,23 @@ storing Storing a b = refl
 storing Ended a b = sym b
 
 -- in a repair round or after the end
-module _ (p : Plan) (s : Session) (f d i : List ℕ) (past : isAsking (s .stage) ≡ false) where
+module _ (p : Plan) (s : Session) (f d i : List ℕ) (past : isAsking (s .round .stage) ≡ false) where
   -- what a reply leaves there
   record Stays (x : Outcome) : Type 0 where
     desk : x .desk ≡ d
     item : (t n : ℕ) → x .said ≡ done t n → x .item ≡ collected p d i
-    later : isAsking (x .session .stage) ≡ false
+    later : isAsking (x .session .round .stage) ≡ false
 
   turned-away : (j : ℕ) → Stays (outcome (refused j) s d i)
   turned-away j = record { desk = refl; item = λ t n e. let z : _≡_ {A = ℕ} 0 1 = cc in absurd (omega arith); later = past }
 
-  counts : isEnded (s .stage) ≡ false → Stays (accepted p s f d i)
+  counts : isEnded (s .round .stage) ≡ false → Stays (accepted p s f d i)
   unfolding accepted stored
-  counts e = rw (storing (s .stage) past e) (go (ltb (heardCount (markedOf s (frameNode f) Record .marks)) (replies p)))
+  counts e = rw (storing (s .round .stage) past e) (go (ltb (heardCount (markedOf s (frameNode f) Record .marks)) (replies p)))
     where
       go : (b : Bool)
           → Stays (cond b (outcome stillOpen (markedOf s (frameNode f) Record) d i)
-          (outcome (done (stampNumber (s .stamp)) (s .round)) (endedOf (markedOf s (frameNode f) Record)) d (collected p d i)))
+          (outcome (done (stampNumber (s .stamp)) (s .round .number)) (endedOf (markedOf s (frameNode f) Record)) d (collected p d i)))
       go true = record { desk = refl; item = λ t n e. let z : _≡_ {A = ℕ} 0 1 = cc in absurd (omega arith); later = past }
       go false = record { desk = refl; item = λ t n e. refl; later = refl }
 
@@ -146,7 +147,7 @@ module _ (p : Plan) (s : Session) (f d i : List ℕ) (past : isAsking (s .stage)
       (λ g. counts (hearing p s f d (length i) e .going)))
 
 module _ (p : Plan) (u : Session) (e d : List ℕ) (r : Refilled p u e d) where
-  rests : (s : Session) (ts : List Turn) → isAsking (s .stage) ≡ false → Calls (ReadTurn p) s d ts → EachTurn (Rests p (closed p u e) e d) ts
+  rests : (s : Session) (ts : List Turn) → isAsking (s .round .stage) ≡ false → Calls (ReadTurn p) s d ts → EachTurn (Rests p (closed p u e) e d) ts
   rests s [] past h = tt
   rests s (t ∷ ts) past h =
       let x : Stays p s (t .reply) d (t .item) past _ = subst (Stays p s (t .reply) d (t .item) past) (sym (h .0 .1 .is)) (stays p s (t .reply) d (t .item) past) in
@@ -159,8 +160,8 @@ module _ (p : Plan) (u : Session) (e d : List ℕ) (r : Refilled p u e d) where
 
 -- WHATEVER REPLIES FOLLOW leave the desk so filled; the one that ends the read writes the item that the m lowest of the set decode to, from
 -- the desk as it was: what the desk's first m slots give
-pub repair-ends : (p : Plan) (s : Session) (f d i : List ℕ) → isStoring (s .stage) ≡ false → (t : Took) (d₂ i₂ : List ℕ) → ReadReplyCall p s f d i t d₂ i₂
-    → isStoring (t .session .stage) ≡ true → (ts : List Turn) → Calls (ReadTurn p) (t .session) d₂ ts
+pub repair-ends : (p : Plan) (s : Session) (f d i : List ℕ) → isStoring (s .round .stage) ≡ false → (t : Took) (d₂ i₂ : List ℕ) → ReadReplyCall p s f d i t d₂ i₂
+    → isStoring (t .session .round .stage) ≡ true → (ts : List Turn) → Calls (ReadTurn p) (t .session) d₂ ts
     → EachTurn (Rests p (closed p (afterReply p s f) (deskAfter p f d)) (deskAfter p f d) d₂) ts
 repair-ends p s f d i asks t d₂ i₂ call opens ts h =
-    rests p (afterReply p s f) (deskAfter p f d) d₂ (refills p s f d i asks t d₂ i₂ call opens) (t .session) ts (not-asking (t .session .stage) opens) h
+    rests p (afterReply p s f) (deskAfter p f d) d₂ (refills p s f d i asks t d₂ i₂ call opens) (t .session) ts (not-asking (t .session .round .stage) opens) h

@@ -16,28 +16,29 @@ use Rattle.octets.proofs.Laws.{length-part, length-be, part-part, part-all, par
 use Rattle.octets.proofs.Meaning.{part-add, alike-is}
 use Rattle.sha256.specs.Sha256.{sha256}
 use Rattle.sha256.proofs.Laws.{sha256-length}
-use Rattle.terms.specs.Terms.{planOk, recordLength}
+use Rattle.terms.specs.Terms.{planOk, recordLength, slotsOf}
 use Rattle.terms.specs.declared.Plan.{Plan}
 use Rattle.terms.proofs.Rungs.{both}
 use Rattle.fragments.specs.Fragments.{All, fragment}
 use Rattle.fragments.proofs.Interp.{all-map}
 use Rattle.record.specs.Record.{stampOf, verifierOf, crossOf, fragmentOf, entryOf, fragmentHash, hashesOk}
 use Rattle.record.specs.Desk.{slotOf, stampMade}
-use Rattle.record.proofs.Records.{record-length}
+use Rattle.terms.proofs.Places.{record-length}
 use Rattle.record.proofs.Desks.{entry-of}
 use Rattle.session.specs.declared.Session.{Session}
 use Rattle.session.specs.declared.Took.{Took}
 use Rattle.session.specs.Session.{isStoring, done, saidOf}
-use Rattle.session.specs.Reader.{lowest, closed, ReadReplyCall}
-use Rattle.session.specs.Writer.{crossFor, recordsFor}
-use Rattle.session.proofs.Writers.{record-is}
+use Rattle.recover.specs.Recover.{lowest}
+use Rattle.session.specs.Reader.{closed, ReadReplyCall}
+use Rattle.recover.specs.Records.{crossFor, recordsFor}
+use Rattle.recover.proofs.Records.{record-is}
 use Rattle.client.specs.Endings.{afterReply, deskAfter}
 use Rattle.client.proofs.ComesBack.{read-comes-back}
 use Rattle.client.specs.SameStamp.{Unlike, Bears}
 
 module _ (p : Plan) (t : ℕ) (i : List ℕ) (whole : length i ≡ p .m * p .f) (z : ℕ) (low : z < p .n) (rec : List ℕ) (long : length rec ≡ recordLength p)
     (stamped : stampOf rec ≡ stampMade t (crossFor p i)) (hashed : hashesOk p z rec ≡ true) (unlike : Unlike p i z rec) where
-  checks : (alike (sha256 (crossOf p rec)) (verifierOf rec) ≡ true) × (alike (fragmentHash [] (fragmentOf p rec)) (entryOf z (crossOf p rec)) ≡ true)
+  checks : (alike (sha256 (crossOf p rec)) (verifierOf rec) ≡ true) × (alike (fragmentHash p z (fragmentOf p rec)) (entryOf z (crossOf p rec)) ≡ true)
   unfolding hashesOk
   checks = both (alike (sha256 (crossOf p rec)) (verifierOf rec)) _ hashed
 
@@ -51,18 +52,18 @@ module _ (p : Plan) (t : ℕ) (i : List ℕ) (whole : length i ≡ p .m * p .f) 
   cross-is = unlike .cross (alike-is (sha256 (crossOf p rec)) (verifierOf rec) (checks .0) ∙ verifier-is)
 
   fragment-is : fragmentOf p rec ≡ fragment (p .m) (p .f) i z
-  unfolding crossFor fragmentHash
+  unfolding crossFor
   fragment-is =
       unlike .fragments
-      (alike-is (fragmentHash [] (fragmentOf p rec)) (entryOf z (crossOf p rec)) (checks .1) ∙ ap (entryOf z) cross-is
-      ∙ entry-of (fragment (p .m) (p .f) i) z (p .n) low)
+      (alike-is (fragmentHash p z (fragmentOf p rec)) (entryOf z (crossOf p rec)) (checks .1) ∙ ap (entryOf z) cross-is
+      ∙ entry-of p (fragment (p .m) (p .f) i) z (p .n) low)
 
   parts-are : rec ≡ stampOf rec ++ (crossOf p rec ++ fragmentOf p rec)
   parts-are =
       sym (part-all rec) ∙ ap (λ (n : ℕ). part rec 0 n) (long ∙ record-length p ∙ sum) ∙ part-add rec 0 40 (32 * p .n + p .f)
       ∙ ap (λ (l : List ℕ). stampOf rec ++ l) (part-add rec 40 (32 * p .n) (p .f))
     where
-      sum : 40 + 32 * p .n + p .f ≡ 40 + (32 * p .n + p .f)
+      sum : slotsOf p .head + p .f ≡ 40 + (32 * p .n + p .f)
       sum = omega arith
 
   -- THE RECORD IS THE ONE THAT WAS WRITTEN FOR NODE z
@@ -81,7 +82,7 @@ module _ (p : Plan) (t : ℕ) (i : List ℕ) (ok : planOk p ≡ true) (bytes : O
   -- A READ THAT IS DONE WITH THE TIMESTAMP OF A WRITE LEAVES ITS ITEM: the m lowest-numbered of its set, as their slots hold them with this reply,
   -- bear that timestamp, and their hashes hold
   pub stamp-comes-back : (s : Session) (f d : List ℕ) (took : Took) (d₂ i₂ : List ℕ) → ReadReplyCall p s f d out took d₂ i₂ → (stamp n : ℕ)
-      → saidOf (took .answer) ≡ done stamp n → isStoring (s .stage) ≡ false → length (deskAfter p f d) ≡ p .n * recordLength p
+      → saidOf (took .answer) ≡ done stamp n → isStoring (s .round .stage) ≡ false → length (deskAfter p f d) ≡ p .n * recordLength p
       → All (Bears p t i (deskAfter p f d)) (lowest p (closed p (afterReply p s f) (deskAfter p f d))) → i₂ ≡ i
   stamp-comes-back s f d took d₂ i₂ call stamp n says asks long held =
       read-comes-back p t i ok bytes whole out room s f d took d₂ i₂ call stamp n says asks

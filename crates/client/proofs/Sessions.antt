@@ -46,7 +46,7 @@ module _ (op : Operation) (p : Plan) (a : Ask) (r : Opened) (opens : OpenCall op
   every-session = replies-keep p (r .session) d cs (opened-kept op p a r opens accepted d long) h
 
   -- NO ROUND IS ABOVE W
-  pub every-round : (1 ≤ lastSession (r .session) cs .round) × (lastSession (r .session) cs .round ≤ p .w)
+  pub every-round : (1 ≤ lastSession (r .session) cs .round .number) × (lastSession (r .session) cs .round .number ≤ p .w)
   every-round = round-kept p (lastSession (r .session) cs) (lastDesk d cs) every-session
 
 -- with this plan and this desk, the condition of 9 is that the call is for the other operation

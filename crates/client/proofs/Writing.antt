@@ -16,7 +16,8 @@ use Rattle.rounds.specs.declared.Heard.the-variants.{Record}
 use Rattle.rounds.specs.Rounds.{heardCount}
 use Rattle.session.specs.declared.Session.{Session}
 use Rattle.session.specs.Session.{isStoring, replies, markedOf, endedOf, storingOf, Said, refused, stillOpen, done, neverWritten, aborted, roundsSpent, clockSpent}
-use Rattle.session.specs.Writer.{timedOf, newTime, stampFor, recordsFor, Leaves, leaves, timeEnd, timeTurn, writeTurn, acceptedWrite, writeReply}
+use Rattle.recover.specs.Records.{stampFor, recordsFor}
+use Rattle.session.specs.Writer.{timedOf, newTime, Leaves, leaves, timeEnd, timeTurn, writeTurn, acceptedWrite, writeReply}
 use Rattle.client.specs.Endings.{writeLadder, WriteGives}
 use Rattle.terms.proofs.Ladders as ladders
 
@@ -39,7 +40,7 @@ module _ (p : Plan) (s : Session) (f d i : List ℕ) where
     is-accepted = one-ladder ∙ ladders.is-passed (writeLadder p s f d (length i)) refuse (acceptedWrite p s f d i) n
 
     -- ---- the write round
-    module _ (q : isStoring (s .stage) ≡ true) where
+    module _ (q : isStoring (s .round .stage) ≡ true) where
       pub waits-write : heardCount (kept .marks) < replies p → writeReply p s f d i ≡ leaves stillOpen kept d
       unfolding acceptedWrite writeTurn
       waits-write h = is-accepted ∙ rw (q, lt-ltb (heardCount (kept .marks)) (replies p) h)
@@ -49,7 +50,7 @@ module _ (p : Plan) (s : Session) (f d i : List ℕ) where
       ends-write h = is-accepted ∙ rw (q, le-ltb (heardCount (kept .marks)) (replies p) h)
 
     -- ---- the time round
-    module _ (q : isStoring (s .stage) ≡ false) where
+    module _ (q : isStoring (s .round .stage) ≡ false) where
       pub waits-time : heardCount (asked .marks) < replies p → writeReply p s f d i ≡ leaves stillOpen asked d
       unfolding acceptedWrite timeTurn
       waits-time h = is-accepted ∙ rw (q, lt-ltb (heardCount (asked .marks)) (replies p) h)
@@ -72,16 +73,16 @@ module _ (p : Plan) (s : Session) (f d i : List ℕ) where
     Gives o = WriteGives p s f d (length i) (o .said)
 
     accepted-gives : Gives (acceptedWrite p s f d i)
-    accepted-gives = subst Gives is-accepted (go (isStoring (s .stage)) refl)
+    accepted-gives = subst Gives is-accepted (go (isStoring (s .round .stage)) refl)
       where
-        stores : isStoring (s .stage) ≡ true → (x : Bool) → ltb (heardCount (kept .marks)) (replies p) ≡ x → Gives (writeReply p s f d i)
+        stores : isStoring (s .round .stage) ≡ true → (x : Bool) → ltb (heardCount (kept .marks)) (replies p) ≡ x → Gives (writeReply p s f d i)
         stores q true h =
             let z = ltb-true _ _ h in subst Gives (sym (waits-write q z)) (record { accepted = n; goes = inl (rw q z) })
         stores q false h =
             let z = ltb-false _ _ h in
             subst Gives (sym (ends-write q z)) (record { accepted = n; stores = q; enough = rw q z; of = refl; counted = refl })
 
-        clock : isStoring (s .stage) ≡ false → replies p ≤ heardCount (asked .marks) → (x : Bool) → eqb (asked .greatest .0) top ≡ x
+        clock : isStoring (s .round .stage) ≡ false → replies p ≤ heardCount (asked .marks) → (x : Bool) → eqb (asked .greatest .0) top ≡ x
             → Gives (writeReply p s f d i)
         clock q h true g =
             let z = eqb-true (asked .greatest .0) top g in
@@ -90,11 +91,11 @@ module _ (p : Plan) (s : Session) (f d i : List ℕ) where
             let z = eqb-false (asked .greatest .0) top g in
             subst Gives (sym (opens-write q h z)) (record { accepted = n; goes = inr (q, rw q z) })
 
-        asks : isStoring (s .stage) ≡ false → (x : Bool) → ltb (heardCount (asked .marks)) (replies p) ≡ x → Gives (writeReply p s f d i)
+        asks : isStoring (s .round .stage) ≡ false → (x : Bool) → ltb (heardCount (asked .marks)) (replies p) ≡ x → Gives (writeReply p s f d i)
         asks q true h = let z = ltb-true _ _ h in subst Gives (sym (waits-time q z)) (record { accepted = n; goes = inl (rw q z) })
         asks q false h = clock q (ltb-false _ _ h) (eqb (asked .greatest .0) top) refl
 
-        go : (x : Bool) → isStoring (s .stage) ≡ x → Gives (writeReply p s f d i)
+        go : (x : Bool) → isStoring (s .round .stage) ≡ x → Gives (writeReply p s f d i)
         go true q = stores q (ltb (heardCount (kept .marks)) (replies p)) refl
         go false q = asks q (ltb (heardCount (asked .marks)) (replies p)) refl
 
@@ -109,12 +110,12 @@ module _ (p : Plan) (s : Session) (f d i : List ℕ) where
   pub so-gives : (x : Said) → WriteGives p s f d (length i) x → writeReply p s f d i .said ≡ x
   so-gives (refused k) g =
       ap (λ (o : Leaves). o .said) (one-ladder ∙ ladders.is-given (writeLadder p s f d (length i)) refuse (acceptedWrite p s f d i) k g)
-  so-gives stillOpen g = go (isStoring (s .stage)) refl (ltb (heardCount (asked .marks)) (replies p)) refl (g .goes)
+  so-gives stillOpen g = go (isStoring (s .round .stage)) refl (ltb (heardCount (asked .marks)) (replies p)) refl (g .goes)
     where
       n : None (writeLadder p s f d (length i))
       n = g .accepted
 
-      go : (x : Bool) → isStoring (s .stage) ≡ x → (y : Bool) → ltb (heardCount (asked .marks)) (replies p) ≡ y
+      go : (x : Bool) → isStoring (s .round .stage) ≡ x → (y : Bool) → ltb (heardCount (asked .marks)) (replies p) ≡ y
           → (heardCount (cond x kept asked .marks) < replies p) ⊎ ((x ≡ false) × (cond x kept asked .greatest .0 ≡ top → ⊥))
           → writeReply p s f d i .said ≡ stillOpen
       go true q y k (inl h) = ap (λ (o : Leaves). o .said) (waits-write n q h)

@@ -15,9 +15,9 @@ use Rattle.session.specs.Session.{isEnded, askNow, Said, refused}
 
 -- s is the session that a call was handed, u the one that it handed back
 pub data Goes (s u : Session) : Type 0 where
-  stays : u .stage ≡ s .stage → u .round ≡ s .round → askNow u ≡ askNow s → Goes s u
-  ends : isEnded (u .stage) ≡ true → Goes s u
-  opens : isEnded (s .stage) ≡ false → isEnded (u .stage) ≡ false → askNow u ≡ askNow s + 1 → Goes s u
+  stays : u .round .stage ≡ s .round .stage → u .round .number ≡ s .round .number → askNow u ≡ askNow s → Goes s u
+  ends : isEnded (u .round .stage) ≡ true → Goes s u
+  opens : isEnded (s .round .stage) ≡ false → isEnded (u .round .stage) ≡ false → askNow u ≡ askNow s + 1 → Goes s u
 
 pub record Moves (s u : Session) : Type 0 where
   pub opening : u .opening ≡ s .opening
@@ -25,7 +25,7 @@ pub record Moves (s u : Session) : Type 0 where
 
 -- stage and round number name a round of an operation
 abbrev pub IsOver : Session → Session → Type 0
-IsOver s u = u .stage ≡ s .stage → u .round ≡ s .round → ⊥
+IsOver s u = u .round .stage ≡ s .round .stage → u .round .number ≡ s .round .number → ⊥
 
 pub record NotCounted (said : Said) : Type 0 where
   pub number : ℕ

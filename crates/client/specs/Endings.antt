@@ -17,7 +17,7 @@ use lib.ListN.{length}
 use Rattle.octets.specs.Bytes.{put}
 use Rattle.terms.specs.Ladder.{Rung, None, Given}
 use Rattle.terms.specs.Stamp.{time, stampNumber, top}
-use Rattle.terms.specs.Terms.{recordLength, COMPLETE, INCOMPLETE}
+use Rattle.terms.specs.Terms.{recordLength, COMPLETE, INCOMPLETE, slotsOf}
 use Rattle.terms.specs.declared.Plan.{Plan}
 use Rattle.terms.specs.declared.Member.the-variants.{Repairable, NonRepair}
 use Rattle.frame.specs.Frame.{frameNode, bodyOf}
@@ -30,7 +30,8 @@ use Rattle.session.specs.declared.Operation.the-variants.{Write}
 use Rattle.session.specs.Session.{isStoring, replies, markedOf, Said, refused, stillOpen, done, neverWritten, aborted, roundsSpent, clockSpent}
 use Rattle.session.specs.Reply.{bears, replyLadder}
 pub use Rattle.session.specs.Reply.{readLadder}
-use Rattle.session.specs.Reader.{headLength, closed, sound}
+use Rattle.recover.specs.Recover.{sound}
+use Rattle.session.specs.Reader.{closed}
 use Rattle.session.specs.Writer.{timedOf}
 
 -- one thing exactly when another
@@ -50,16 +51,16 @@ deskAfter p f d = cond (bears p f) (put d (frameNode f * recordLength p) (bodyOf
 -- "At N-t accepted replies"
 pub record Closes (p : Plan) (s : Session) (f d : List ℕ) (item : ℕ) : Type 0 where
   pub accepted : None (readLadder p s f d item)
-  pub asks : isStoring (s .stage) ≡ false
+  pub asks : isStoring (s .round .stage) ≡ false
   pub enough : replies p ≤ heardCount (afterReply p s f .marks)
 
 -- "the candidate is the greatest timestamp": that of node a, the lowest-numbered that bears it
 abbrev pub Candidate : Plan → Session → List ℕ → List ℕ → ℕ → Type 0
-Candidate p s f d a = leadOf (afterReply p s f .marks) (deskAfter p f d) (recordLength p) (p .n) ≡ Node a
+Candidate p s f d a = leadOf (afterReply p s f .marks) (deskAfter p f d) (slotsOf p) (p .n) ≡ Node a
 
 -- "Its set is the replies with this timestamp and the same cross checksum as the lowest-numbered of them"
 abbrev pub size : Plan → Session → List ℕ → List ℕ → ℕ → ℕ
-size p s f d a = length (setOf (afterReply p s f .marks) (deskAfter p f d) (recordLength p) (headLength p) a (p .n))
+size p s f d a = length (setOf (afterReply p s f .marks) (deskAfter p f d) (slotsOf p) a (p .n))
 
 -- validation of that set
 abbrev pub valid : Plan → Session → List ℕ → List ℕ → ℕ → Bool
@@ -73,7 +74,7 @@ Fails p n v = (n < INCOMPLETE p) ⊎ ((v ≡ false) × ((COMPLETE p ≤ n) ⊎ (
 pub record WhenNever (p : Plan) (s : Session) (f d : List ℕ) (item rounds : ℕ) : Type 0 where
   pub closes : Closes p s f d item
   pub first : (k : ℕ) → k < p .n → markOf (afterReply p s f .marks) k ≡ Record → ⊥
-  pub counted : rounds ≡ s .round
+  pub counted : rounds ≡ s .round .number
 
 -- "Unclassifiable: non-repair ends aborted, unvalidated."
 pub record WhenAborted (p : Plan) (s : Session) (f d : List ℕ) (item rounds : ℕ) : Type 0 where
@@ -83,7 +84,7 @@ pub record WhenAborted (p : Plan) (s : Session) (f d : List ℕ) (item rounds : 
   pub low : INCOMPLETE p ≤ size p s f d node
   pub high : size p s f d node < COMPLETE p
   pub member : p .member ≡ NonRepair
-  pub counted : rounds ≡ s .round
+  pub counted : rounds ≡ s .round .number
 
 -- "rounds spent (round W was incomplete or invalid)"
 pub record WhenSpent (p : Plan) (s : Session) (f d : List ℕ) (item rounds : ℕ) : Type 0 where
@@ -91,8 +92,8 @@ pub record WhenSpent (p : Plan) (s : Session) (f d : List ℕ) (item rounds : �
   pub node : ℕ
   pub candidate : Candidate p s f d node
   pub fails : Fails p (size p s f d node) (valid p s f d node)
-  pub last : s .round ≡ p .w
-  pub counted : rounds ≡ s .round
+  pub last : s .round .number ≡ p .w
+  pub counted : rounds ≡ s .round .number
 
 -- "Complete: validate, decode from the m lowest-numbered of the set, done."
 pub record DoneByRead (p : Plan) (s : Session) (f d : List ℕ) (item stamp rounds : ℕ) : Type 0 where
@@ -101,21 +102,21 @@ pub record DoneByRead (p : Plan) (s : Session) (f d : List ℕ) (item stamp roun
   pub candidate : Candidate p s f d node
   pub full : COMPLETE p ≤ size p s f d node
   pub validated : valid p s f d node ≡ true
-  pub of : stamp ≡ slotStamp (deskAfter p f d) (recordLength p) node
-  pub counted : rounds ≡ s .round
+  pub of : stamp ≡ slotStamp (deskAfter p f d) (slotsOf p) node
+  pub counted : rounds ≡ s .round .number
 
 -- "runs a write round, then is done"; "A repair round is not counted."
 pub record DoneByRepair (p : Plan) (s : Session) (f d : List ℕ) (item stamp rounds : ℕ) : Type 0 where
   pub accepted : None (readLadder p s f d item)
-  pub stores : isStoring (s .stage) ≡ true
+  pub stores : isStoring (s .round .stage) ≡ true
   pub enough : replies p ≤ heardCount (markedOf s (frameNode f) Record .marks)
   pub of : stamp ≡ stampNumber (s .stamp)
-  pub counted : rounds ≡ s .round
+  pub counted : rounds ≡ s .round .number
 
 -- the round is not full
 pub record Waits (p : Plan) (s : Session) (f d : List ℕ) (item : ℕ) : Type 0 where
   pub accepted : None (readLadder p s f d item)
-  pub few : heardCount (cond (isStoring (s .stage)) (markedOf s (frameNode f) Record) (afterReply p s f) .marks) < replies p
+  pub few : heardCount (cond (isStoring (s .round .stage)) (markedOf s (frameNode f) Record) (afterReply p s f) .marks) < replies p
 
 -- "Incomplete, or validation failed: … the next round opens"
 pub record NextOpens (p : Plan) (s : Session) (f d : List ℕ) (item : ℕ) : Type 0 where
@@ -123,7 +124,7 @@ pub record NextOpens (p : Plan) (s : Session) (f d : List ℕ) (item : ℕ) : Ty
   pub node : ℕ
   pub candidate : Candidate p s f d node
   pub fails : Fails p (size p s f d node) (valid p s f d node)
-  pub more : s .round < p .w
+  pub more : s .round .number < p .w
 
 -- "Repairable validates, fills the desk with all N records, runs a write round"
 pub record RepairOpens (p : Plan) (s : Session) (f d : List ℕ) (item : ℕ) : Type 0 where
@@ -156,12 +157,12 @@ writeLadder p s f d item = replyLadder Write p s f d item
 
 -- the session after an accepted reply
 abbrev pub wrote : Session → List ℕ → Session
-wrote s f = cond (isStoring (s .stage)) (markedOf s (frameNode f) Record) (timedOf s (frameNode f) (time (bodyOf f)))
+wrote s f = cond (isStoring (s .round .stage)) (markedOf s (frameNode f) Record) (timedOf s (frameNode f) (time (bodyOf f)))
 
 -- "A write round runs to N-t replies bearing that timestamp"; a write counts no read rounds
 pub record WriteDone (p : Plan) (s : Session) (f d : List ℕ) (item stamp rounds : ℕ) : Type 0 where
   pub accepted : None (writeLadder p s f d item)
-  pub stores : isStoring (s .stage) ≡ true
+  pub stores : isStoring (s .round .stage) ≡ true
   pub enough : replies p ≤ heardCount (wrote s f .marks)
   pub of : stamp ≡ stampNumber (s .stamp)
   pub counted : rounds ≡ 0
@@ -169,7 +170,7 @@ pub record WriteDone (p : Plan) (s : Session) (f d : List ℕ) (item stamp round
 -- "clock spent (the greatest time reply is 2^64-1)"
 pub record WriteClock (p : Plan) (s : Session) (f d : List ℕ) (item : ℕ) : Type 0 where
   pub accepted : None (writeLadder p s f d item)
-  pub asks : isStoring (s .stage) ≡ false
+  pub asks : isStoring (s .round .stage) ≡ false
   pub enough : replies p ≤ heardCount (wrote s f .marks)
   pub spent : wrote s f .greatest .0 ≡ top
 
@@ -177,7 +178,7 @@ pub record WriteClock (p : Plan) (s : Session) (f d : List ℕ) (item : ℕ) : T
 pub record WriteOpen (p : Plan) (s : Session) (f d : List ℕ) (item : ℕ) : Type 0 where
   pub accepted : None (writeLadder p s f d item)
   pub goes : (heardCount (wrote s f .marks) < replies p)
-      ⊎ ((isStoring (s .stage) ≡ false) × (wrote s f .greatest .0 ≡ top → ⊥))
+      ⊎ ((isStoring (s .round .stage) ≡ false) × (wrote s f .greatest .0 ≡ top → ⊥))
 
 abbrev pub WriteGives : Plan → Session → List ℕ → List ℕ → ℕ → Said → Type 0
 WriteGives p s f d item (refused k) = Given (writeLadder p s f d item) k

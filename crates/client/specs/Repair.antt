@@ -19,7 +19,7 @@ use Rattle.record.specs.Record.{stampOf, crossOf}
 use Rattle.record.specs.Desk.{slotOf, fragmentIn}
 use Rattle.rounds.specs.Rounds.{Closed}
 use Rattle.session.specs.Session.{done, saidOf}
-use Rattle.session.specs.Reader.{lowest, decoded}
+use Rattle.recover.specs.Recover.{lowest, decoded}
 use Rattle.client.specs.Turns.{Turn}
 
 -- degree below m, and at the point of each of the nodes byte i of the fragment that its slot of the desk d holds

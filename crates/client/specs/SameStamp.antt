@@ -10,14 +10,14 @@ use mathlib.Core.List.{List}
 use Rattle.sha256.specs.Sha256.{sha256}
 use Rattle.terms.specs.declared.Plan.{Plan}
 use Rattle.fragments.specs.Fragments.{fragment}
-use Rattle.record.specs.Record.{stampOf, crossOf, fragmentOf, hashesOk}
+use Rattle.record.specs.Record.{stampOf, crossOf, fragmentOf, fragmentHash, hashesOk}
 use Rattle.record.specs.Desk.{slotOf, stampMade}
-use Rattle.session.specs.Writer.{crossFor}
+use Rattle.recover.specs.Records.{crossFor}
 
 -- rec is a record that node z gave, i the item that was written
 pub record Unlike (p : Plan) (i : List ℕ) (z : ℕ) (rec : List ℕ) : Type 0 where
   pub cross : sha256 (crossOf p rec) ≡ sha256 (crossFor p i) → crossOf p rec ≡ crossFor p i
-  pub fragments : sha256 (fragmentOf p rec) ≡ sha256 (fragment (p .m) (p .f) i z) → fragmentOf p rec ≡ fragment (p .m) (p .f) i z
+  pub fragments : fragmentHash p z (fragmentOf p rec) ≡ fragmentHash p z (fragment (p .m) (p .f) i z) → fragmentOf p rec ≡ fragment (p .m) (p .f) i z
 
 -- what slot z of a desk holds: node z is one of the plan's, the record bears the write's timestamp, refusal 6 does not apply to it, no clash
 pub record Bears (p : Plan) (t : ℕ) (i d : List ℕ) (z : ℕ) : Type 0 where

@@ -46,7 +46,7 @@ Calls C s d [] = Unit {0}
 Calls C s d (t ∷ ts) = C s d t × Calls C (t .took .session) (t .deskLeft) ts
 
 abbrev pub counts : Session → Turn → Bool
-counts s t = isAsking (s .stage) and not (isRefused (saidOf (t .took .answer)))
+counts s t = isAsking (s .round .stage) and not (isRefused (saidOf (t .took .answer)))
 
 unfoldable pub closedRounds : Plan → ℕ → Session → List Turn → ℕ
 closedRounds p k s [] = 0

@@ -122,7 +122,7 @@ write-ends p s f d i t d₂ c =
 pub accepted-taken : (p : Plan) (s : Session) (f d i : List ℕ) → isRefused (accepted p s f d i .said) ≡ false
 unfolding accepted stored
 accepted-taken p s f d i =
-    pick Taken (isStoring (s .stage)) (pick Taken (ltb (heardCount (markedOf s (frameNode f) Record .marks)) (session.replies p)) refl refl)
+    pick Taken (isStoring (s .round .stage)) (pick Taken (ltb (heardCount (markedOf s (frameNode f) Record .marks)) (session.replies p)) refl refl)
     (subst Taken (sym (reading.heard-settles p s f d i)) (settled-taken p (afterReply p s f) (deskAfter p f d) i))
   where
     Taken : Outcome → Type 0

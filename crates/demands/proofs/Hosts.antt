@@ -162,7 +162,7 @@ write-taken : (p : Plan) (s : Session) (f d i : List ℕ) → isRefused (accepte
 unfolding acceptedWrite writeTurn timeTurn timeEnd
 write-taken p s f d i =
     let timed = timedOf s (frameNode f) (time (bodyOf f)) in
-    either Taken (isStoring (s .stage))
+    either Taken (isStoring (s .round .stage))
     (either Taken (ltb (heardCount (markedOf s (frameNode f) Record .marks)) (replies p)) refl refl)
     (either Taken (ltb (heardCount (timed .marks)) (replies p)) refl (either Taken (eqb (timed .greatest .0) top) refl refl))
   where

@@ -13,7 +13,10 @@ use lib.ListN.{length, getD, take, drop, drop-of-length-le, length-drop}
 use lib.Seq.{drop-cons, drop-drop, length-take-le}
 use Rattle.octets.specs.Bytes.{part, put}
 use Rattle.octets.proofs.Laws.{length-part, put-is, slot-fits}
-use Rattle.fragments.specs.Fragments.{among, from, value, tabulate, fragment, regenerated, Sources, laid, encoded, All}
+use Rattle.octets.proofs.Meaning.{put-whole}
+use Rattle.terms.specs.declared.Slots.{Slots}
+use Rattle.terms.specs.Terms.{fragmentAt, runsOf}
+use Rattle.fragments.specs.Fragments.{among, from, value, tabulate, fragment, regenerated, Sources, Room, laid, encoded, All}
 use Rattle.fragments.proofs.Lists.{length-tabulate, tabulate-ext, all-at}
 use Rattle.fragments.proofs.Interp.{all, value-ext}
 
@@ -44,51 +47,48 @@ pub all-among : (P : ℕ → Type 0) (x : ℕ) (qs : List ℕ) → All P qs → 
 all-among P x qs h t = among-all P x qs (all-at P qs h) t
 
 -- a source that is asked for lies within the buffer
-pub source-fits : (src : List ℕ) (first stride F : ℕ) (qs : List ℕ) (x : ℕ) (r : Bool) → Sources src first stride F qs → r ≡ among x qs → r ≡ true
-    → first + x * stride + F ≤ length src
-source-fits src first stride F qs x r s e t = among-all (λ (p : ℕ). first + p * stride + F ≤ length src) x qs s (sym e ∙ t)
+pub source-fits : (src : List ℕ) (s : Slots) (qs : List ℕ) (x : ℕ) (r : Bool) → Sources src s qs → r ≡ among x qs → r ≡ true
+    → fragmentAt s x + s .fragment ≤ length src
+source-fits src s qs x r h e t = among-all (λ (p : ℕ). fragmentAt s p + s .fragment ≤ length src) x qs h (sym e ∙ t)
 
 -- ---- a fragment regenerated
-pub length-regenerated : (src : List ℕ) (first stride F : ℕ) (qs : List ℕ) (x : ℕ) → Sources src first stride F qs
-    → length (regenerated src first stride F qs x) ≡ F
+pub length-regenerated : (src : List ℕ) (s : Slots) (qs : List ℕ) (x : ℕ) → Sources src s qs → length (regenerated src s qs x) ≡ s .fragment
 unfolding regenerated
-length-regenerated src first stride F qs x s = go (among x qs) refl
+length-regenerated src s qs x h = go (among x qs) refl
   where
-    go : (b : Bool) → among x qs ≡ b → length (cond b (part src (first + x * stride) F) (tabulate F (λ i. value qs (λ p. getD src (first + p * stride + i) 0) x))) ≡ F
-    go true e = length-part src (first + x * stride) F (among-all (λ (p : ℕ). first + p * stride + F ≤ length src) x qs s e)
-    go false e = length-tabulate F (λ i. value qs (λ p. getD src (first + p * stride + i) 0) x)
+    go : (b : Bool) → among x qs ≡ b
+        → length (cond b (part src (fragmentAt s x) (s .fragment)) (tabulate (s .fragment) (λ i. value qs (λ p. getD src (fragmentAt s p + i) 0) x))) ≡ s .fragment
+    go true e = length-part src (fragmentAt s x) (s .fragment) (among-all (λ (p : ℕ). fragmentAt s p + s .fragment ≤ length src) x qs h e)
+    go false e = length-tabulate (s .fragment) (λ i. value qs (λ p. getD src (fragmentAt s p + i) 0) x)
 
-pub itself : (src : List ℕ) (first stride F : ℕ) (qs : List ℕ) (x : ℕ) → true ≡ among x qs
-    → part src (first + x * stride) F ≡ regenerated src first stride F qs x
-unfolding regenerated
-itself src first stride F qs x e = rw (← e)
+pub itself : (src : List ℕ) (s : Slots) (qs : List ℕ) (x : ℕ) (out : List ℕ) → true ≡ among x qs → Sources src s qs → length out ≡ s .fragment
+    → put out 0 (part src (fragmentAt s x) (s .fragment)) ≡ regenerated src s qs x
+itself src s qs x out e h l =
+    let g : part src (fragmentAt s x) (s .fragment) ≡ regenerated src s qs x = unfold regenerated in rw (← e) in
+    ap (put out 0) g ∙ put-whole out (regenerated src s qs x) (l ∙ sym (length-regenerated src s qs x h))
 
-pub computed : (src : List ℕ) (first stride F : ℕ) (qs : List ℕ) (x : ℕ) (out v : List ℕ) (at n k : ℕ) → false ≡ among x qs → n ≡ F → k ≡ F
-    → at + F ≤ length out → v ≡ tabulate n (λ i. value qs (λ p. getD src (first + p * stride + i) 0) x)
-    → take at out ++ (v ++ drop k (drop at out)) ≡ put out at (regenerated src first stride F qs x)
+pub computed : (src : List ℕ) (s : Slots) (qs : List ℕ) (x : ℕ) (v : List ℕ) → false ≡ among x qs
+    → v ≡ tabulate (s .fragment) (λ i. value qs (λ p. getD src (fragmentAt s p + i) 0) x) → v ≡ regenerated src s qs x
 unfolding regenerated
-computed src first stride F qs x out v at n k e l m h r =
-    let g : List ℕ = tabulate F (λ i. value qs (λ p. getD src (first + p * stride + i) 0) x) in
-    let lg : length g ≡ F = length-tabulate F (λ i. value qs (λ p. getD src (first + p * stride + i) 0) x) in
-    let vg : v ≡ g = r ∙ ap (λ (c : ℕ). tabulate c (λ i. value qs (λ p. getD src (first + p * stride + i) 0) x)) l in
-    rw (← e, m, vg, drop-drop F at out, put-is out at g, lg)
+computed src s qs x v e r = r ∙ rw (← e)
 
 -- ---- laying fragments one after the other
-pub laid-more : (src : List ℕ) (first stride F : ℕ) (qs : List ℕ) (start step k : ℕ) (out₀ out new : List ℕ)
-    → out ≡ laid src first stride F qs start step k out₀
-    → new ≡ put out (start + k * step) (regenerated src first stride F qs k)
-    → new ≡ laid src first stride F qs start step (k + 1) out₀
+-- a fragment that was regenerated into the part &out[at .. at + f]
+pub laid-more : (src : List ℕ) (s : Slots) (qs : List ℕ) (to : Slots) (k n : ℕ) (out₀ out new : List ℕ) → Sources src s qs → s .fragment ≡ to .fragment
+    → n ≡ to .fragment → out ≡ laid src s qs to k out₀ → new ≡ regenerated src s qs k
+    → take (fragmentAt to k) out ++ (new ++ drop n (drop (fragmentAt to k) out)) ≡ laid src s qs to (k + 1) out₀
 unfolding laid
-laid-more src first stride F qs start step k out₀ out new e r = r ∙ rw (e, add-one)
+laid-more src s qs to k n out₀ out new h f z e r =
+    let l : length (regenerated src s qs k) ≡ n = length-regenerated src s qs k h ∙ f ∙ sym z in
+    rw (r, drop-drop n (fragmentAt to k) out, ← l, ← put-is out (fragmentAt to k) (regenerated src s qs k), e, add-one)
 
 -- the part &l[at .. at + f]
 pub part-length : (at f : ℕ) (l : List ℕ) → at + f ≤ length l → length (take (at + f - at) (drop at l)) ≡ f
 part-length at f l h = length-take-le (at + f - at) (drop at l) (simp length-drop (omega arith)) ∙ omega arith
 
-pub laid-none : (src : List ℕ) (first stride F : ℕ) (qs : List ℕ) (start step : ℕ) (out : List ℕ)
-    → out ≡ laid src first stride F qs start step 0 out
+pub laid-none : (src : List ℕ) (s : Slots) (qs : List ℕ) (to : Slots) (out : List ℕ) → out ≡ laid src s qs to 0 out
 unfolding laid
-laid-none src first stride F qs start step out = refl
+laid-none src s qs to out = refl
 
 -- ---- the points 0 to m - 1
 pub length-from : (a n : ℕ) → length (from a n) ≡ n
@@ -136,7 +136,7 @@ among-from k m = go (ltb k m) refl
     go false e = let h = ltb-false k m e in among-out k 0 m (omega arith)
 
 -- a fragment of an item is the one regenerated from the item's own runs
-pub fragment-is : (m F : ℕ) (item : List ℕ) (k : ℕ) → fragment m F item k ≡ regenerated item 0 F F (from 0 m) k
+pub fragment-is : (m F : ℕ) (item : List ℕ) (k : ℕ) → fragment m F item k ≡ regenerated item (runsOf m F) (from 0 m) k
 unfolding fragment regenerated
 fragment-is m F item k =
     let z : k * F ≡ 0 + k * F = omega arith in
@@ -149,34 +149,34 @@ fragment-is m F item k =
     plus : (x i : ℕ) → x + i ≡ 0 + x + i
     plus x i = omega arith
 
-pub encoded-is : (m F : ℕ) (item : List ℕ) (first stride n : ℕ) (desk : List ℕ)
-    → laid item 0 F F (from 0 m) first stride n desk ≡ encoded m F item first stride n desk
+pub encoded-is : (m : ℕ) (item : List ℕ) (to : Slots) (n : ℕ) (desk : List ℕ)
+    → laid item (runsOf m (to .fragment)) (from 0 m) to n desk ≡ encoded m item to n desk
 unfolding laid encoded
-encoded-is m F item first stride zero desk = refl
-encoded-is m F item first stride (suc k) desk =
-    ap₂ (λ (d r : List ℕ). put d (first + k * stride) r) (encoded-is m F item first stride k desk) (sym (fragment-is m F item k))
+encoded-is m item to zero desk = refl
+encoded-is m item to (suc k) desk =
+    ap₂ (λ (d r : List ℕ). put d (fragmentAt to k) r) (encoded-is m item to k desk) (sym (fragment-is m (to .fragment) item k))
 
 pub points-length : (m : ℕ) → m ≤ 16 → m ≡ length (take m points)
 points-length m h = sym (ap length (points-are m h) ∙ length-from 0 m)
 
+-- an item has room for its runs
+pub runs-room : (m F : ℕ) (item : List ℕ) → length item ≡ m * F → Room (runsOf m F) m item
+runs-room m F item l k h = omega (arith, slot-fits k m F h)
+
 -- the first m slots are sources within the buffer, and so are an item's runs
-pub points-within : (src : List ℕ) (first stride F m : ℕ) → m ≤ 16 → ((k : ℕ) → k < m → first + k * stride + F ≤ length src)
-    → Sources src first stride F (take m points)
-points-within src first stride F m h fit = rw (points-are m h) within
+pub points-within : (src : List ℕ) (s : Slots) (m : ℕ) → m ≤ 16 → Room s m src → Sources src s (take m points)
+points-within src s m h fit = rw (points-are m h) within
   where
-    within : Sources src first stride F (from 0 m)
+    within : Sources src s (from 0 m)
     within k l =
         let hk : k < m = omega (arith, length-from 0 m) in
         let e : getD (from 0 m) k 0 ≡ k = getD-from 0 m k hk ∙ omega arith in
         rw e (fit k hk)
 
-pub runs-within : (m F : ℕ) (item : List ℕ) → m ≤ 16 → length item ≡ m * F → Sources item 0 F F (take m points)
-runs-within m F item h l = points-within item 0 F F m h (λ k hk. omega (arith, slot-fits k m F hk))
+pub points-encode : (m : ℕ) (item : List ℕ) (to : Slots) (n : ℕ) (desk : List ℕ) → m ≤ 16
+    → laid item (runsOf m (to .fragment)) (take m points) to n desk ≡ encoded m item to n desk
+points-encode m item to n desk h = rw (points-are m h) (encoded-is m item to n desk)
 
-pub points-encode : (m F : ℕ) (item : List ℕ) (first stride n : ℕ) (desk : List ℕ) → m ≤ 16
-    → laid item 0 F F (take m points) first stride n desk ≡ encoded m F item first stride n desk
-points-encode m F item first stride n desk h = rw (points-are m h) (encoded-is m F item first stride n desk)
-
-pub points-collect : (desk : List ℕ) (first stride F m : ℕ) (item : List ℕ) → m ≤ 16
-    → laid desk first stride F (take m points) 0 F m item ≡ laid desk first stride F (from 0 m) 0 F m item
-points-collect desk first stride F m item h = rw (points-are m h)
+pub points-collect : (desk : List ℕ) (s : Slots) (m : ℕ) (item : List ℕ) → m ≤ 16
+    → laid desk s (take m points) (runsOf m (s .fragment)) m item ≡ laid desk s (from 0 m) (runsOf m (s .fragment)) m item
+points-collect desk s m item h = rw (points-are m h)

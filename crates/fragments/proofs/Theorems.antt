@@ -20,7 +20,9 @@ use Rattle.field.proofs.Inverse.{div-mul}
 use Rattle.octets.specs.Bytes.{part, put, Octets}
 use Rattle.octets.proofs.Laws.{length-part, length-put, part-put-same, part-put-before, put-is, slot-fits}
 use Rattle.octets.proofs.Meaning.{getD-part, octets-drop}
-use Rattle.fragments.specs.Fragments.{All, Distinct, among, from, tabulate, eval, Column, value, fragment, regenerated, laid, encoded}
+use Rattle.terms.specs.declared.Slots.{Slots}
+use Rattle.terms.specs.Terms.{fragmentAt, runsOf}
+use Rattle.fragments.specs.Fragments.{All, Distinct, among, from, tabulate, eval, Column, value, fragment, regenerated, Room, laid, encoded}
 use Rattle.fragments.proofs.Lists.{tabulate-ext, to-tabulate, getD-tabulate, length-tabulate}
 use Rattle.fragments.proofs.Interp.{all, all-map, Bytes, eval-lt, value-ext, only, again, newton, length-newton, bytes-newton, newton-at}
 use Rattle.fragments.proofs.Laws.{length-from, all-among}
@@ -163,26 +165,30 @@ module _ (m F : ℕ) (item : List ℕ) (few : m ≤ 256) (octets : Octets item) 
         ap (λ (f : List ℕ). getD f i 0) (fragment-values k) ∙ getD-tabulate F (λ i. value (from 0 m) (byte F item i) k) i l
         ∙ column-only i cs col k h
 
-    -- ANY m DISTINCT FRAGMENTS GIVE EVERY FRAGMENT, wherever in a buffer they lie
-    pub any-fragment : (desk : List ℕ) (first stride : ℕ) (zs : List ℕ) → Distinct zs → All (λ (z : ℕ). z < 256) zs → length zs ≡ m
-        → All (λ (z : ℕ). part desk (first + z * stride) F ≡ fragment m F item z) zs
-        → (k : ℕ) → k < 256 → regenerated desk first stride F zs k ≡ fragment m F item k
-    any-fragment desk first stride zs d b l slots k h = unfold regenerated in go (among k zs) refl
-      where
-        held : (z i : ℕ) → i < F → part desk (first + z * stride) F ≡ fragment m F item z
-            → getD desk (first + z * stride + i) 0 ≡ value (from 0 m) (byte F item i) z
-        held z i hi e =
-            sym (getD-part desk (first + z * stride) F i hi) ∙ ap (λ (f : List ℕ). getD f i 0) (e ∙ fragment-values z)
-            ∙ getD-tabulate F (λ i. value (from 0 m) (byte F item i) z) i hi
+-- ANY m DISTINCT FRAGMENTS GIVE EVERY FRAGMENT, in whatever slots of a buffer they lie
+module _ (m : ℕ) (s : Slots) (item : List ℕ) (few : m ≤ 256) (octets : Octets item) (whole : length item ≡ m * s .fragment) where
+  pub any-fragment : (desk : List ℕ) (zs : List ℕ) → Distinct zs → All (λ (z : ℕ). z < 256) zs → length zs ≡ m
+      → All (λ (z : ℕ). part desk (fragmentAt s z) (s .fragment) ≡ fragment m (s .fragment) item z) zs
+      → (k : ℕ) → k < 256 → regenerated desk s zs k ≡ fragment m (s .fragment) item k
+  any-fragment desk zs d b l slots k h = unfold regenerated in go (among k zs) refl
+    where
+      values : (k : ℕ) → fragment m (s .fragment) item k ≡ tabulate (s .fragment) (λ i. value (from 0 m) (byte (s .fragment) item i) k)
+      values = fragment-values m (s .fragment) item few octets whole
 
-        go : (t : Bool) → among k zs ≡ t
-            → cond t (part desk (first + k * stride) F) (tabulate F (λ i. value zs (λ p. getD desk (first + p * stride + i) 0) k)) ≡ fragment m F item k
-        go true e = all-among (λ (z : ℕ). part desk (first + z * stride) F ≡ fragment m F item z) k zs slots e
-        go false e =
-            tabulate-ext F (λ i. value zs (λ p. getD desk (first + p * stride + i) 0) k) (λ i. value (from 0 m) (byte F item i) k)
-            (λ i hi. value-ext zs (λ p. getD desk (first + p * stride + i) 0) (value (from 0 m) (byte F item i)) k (all-map (λ z s. held z i hi s) zs slots)
-            ∙ again (from 0 m) (byte F item i) (distinct-from 0 m) (bytes-from m few) (points-bytes i) zs d b (omega (arith, length-from 0 m)) k h)
-            ∙ sym (fragment-values k)
+      held : (z i : ℕ) → i < s .fragment → part desk (fragmentAt s z) (s .fragment) ≡ fragment m (s .fragment) item z
+          → getD desk (fragmentAt s z + i) 0 ≡ value (from 0 m) (byte (s .fragment) item i) z
+      held z i hi e =
+          sym (getD-part desk (fragmentAt s z) (s .fragment) i hi) ∙ ap (λ (f : List ℕ). getD f i 0) (e ∙ values z)
+          ∙ getD-tabulate (s .fragment) (λ i. value (from 0 m) (byte (s .fragment) item i) z) i hi
+
+      go : (t : Bool) → among k zs ≡ t
+          → cond t (part desk (fragmentAt s k) (s .fragment)) (tabulate (s .fragment) (λ i. value zs (λ p. getD desk (fragmentAt s p + i) 0) k)) ≡ fragment m (s .fragment) item k
+      go true e = all-among (λ (z : ℕ). part desk (fragmentAt s z) (s .fragment) ≡ fragment m (s .fragment) item z) k zs slots e
+      go false e =
+          tabulate-ext (s .fragment) (λ i. value zs (λ p. getD desk (fragmentAt s p + i) 0) k) (λ i. value (from 0 m) (byte (s .fragment) item i) k)
+          (λ i hi. value-ext zs (λ p. getD desk (fragmentAt s p + i) 0) (value (from 0 m) (byte (s .fragment) item i)) k (all-map (λ z q. held z i hi q) zs slots)
+          ∙ again (from 0 m) (byte (s .fragment) item i) (distinct-from 0 m) (bytes-from m few) (points-bytes m (s .fragment) item few octets i) zs d b (omega (arith, length-from 0 m)) k h)
+          ∙ sym (values k)
 
 -- a fragment has F bytes
 pub length-fragment : (m F : ℕ) (item : List ℕ) → length item ≡ m * F → (k : ℕ) → length (fragment m F item k) ≡ F
@@ -194,48 +200,48 @@ length-fragment m F item whole k = unfold fragment in go (ltb k m) refl
 
 -- ---- a buffer that holds fragments
 -- how long it stays, and what a place that was written holds afterwards
-module _ (m F : ℕ) (item : List ℕ) (whole : length item ≡ m * F) (first stride : ℕ) (wide : F ≤ stride) where
-  length-encoded : (n : ℕ) (desk : List ℕ) → ((k : ℕ) → k < n → first + k * stride + F ≤ length desk)
-      → length (encoded m F item first stride n desk) ≡ length desk
+module _ (m : ℕ) (s : Slots) (item : List ℕ) (whole : length item ≡ m * s .fragment) (wide : s .fragment ≤ s .size) where
+  length-encoded : (n : ℕ) (desk : List ℕ) → Room s n desk → length (encoded m item s n desk) ≡ length desk
   unfolding encoded
   length-encoded zero desk fit = refl
   length-encoded (suc n) desk fit =
-      let e : length (encoded m F item first stride n desk) ≡ length desk = length-encoded n desk (λ k h. fit k (omega arith)) in
-      length-put (encoded m F item first stride n desk) (first + n * stride) (fragment m F item n)
-      (omega (arith, length-fragment m F item whole n, fit n (omega arith)))
+      let e : length (encoded m item s n desk) ≡ length desk = length-encoded n desk (λ k h. fit k (omega arith)) in
+      length-put (encoded m item s n desk) (fragmentAt s n) (fragment m (s .fragment) item n)
+      (omega (arith, length-fragment m (s .fragment) item whole n, fit n (omega arith)))
       ∙ e
 
   -- an encoding holds fragment k at its place
-  pub encoded-at : (n : ℕ) (desk : List ℕ) → ((k : ℕ) → k < n → first + k * stride + F ≤ length desk) → (k : ℕ) → k < n
-      → part (encoded m F item first stride n desk) (first + k * stride) F ≡ fragment m F item k
+  pub encoded-at : (n : ℕ) (desk : List ℕ) → Room s n desk → (k : ℕ) → k < n
+      → part (encoded m item s n desk) (fragmentAt s k) (s .fragment) ≡ fragment m (s .fragment) item k
   unfolding encoded
   encoded-at zero desk fit k h = absurd (not-suc-le-zero h)
   encoded-at (suc n) desk fit k h =
-      let e : length (encoded m F item first stride n desk) ≡ length desk = length-encoded n desk (λ k l. fit k (omega arith)) in
-      let room : first + n * stride + F ≤ length desk = fit n (omega arith) in
+      let e : length (encoded m item s n desk) ≡ length desk = length-encoded n desk (λ k l. fit k (omega arith)) in
+      let room : fragmentAt s n + s .fragment ≤ length desk = fit n (omega arith) in
       go (ℕ-discrete k n) (λ l. encoded-at n desk (λ k l. fit k (omega arith)) k l) e room
     where
-      go : Dec (k ≡ n) → (k < n → part (encoded m F item first stride n desk) (first + k * stride) F ≡ fragment m F item k)
-          → length (encoded m F item first stride n desk) ≡ length desk → first + n * stride + F ≤ length desk
-          → part (put (encoded m F item first stride n desk) (first + n * stride) (fragment m F item n)) (first + k * stride) F ≡ fragment m F item k
+      go : Dec (k ≡ n) → (k < n → part (encoded m item s n desk) (fragmentAt s k) (s .fragment) ≡ fragment m (s .fragment) item k)
+          → length (encoded m item s n desk) ≡ length desk → fragmentAt s n + s .fragment ≤ length desk
+          → part (put (encoded m item s n desk) (fragmentAt s n) (fragment m (s .fragment) item n)) (fragmentAt s k) (s .fragment) ≡ fragment m (s .fragment) item k
       go (yes q) more e room =
-          rw q (part-put-same (encoded m F item first stride n desk) (first + n * stride) (fragment m F item n) F (length-fragment m F item whole n) (omega arith))
+          rw q (part-put-same (encoded m item s n desk) (fragmentAt s n) (fragment m (s .fragment) item n) (s .fragment) (length-fragment m (s .fragment) item whole n) (omega arith))
       go (no q) more e room =
           let l : k < n = omega arith in
-          part-put-before (encoded m F item first stride n desk) (first + n * stride) (fragment m F item n) (first + k * stride) F
-          (omega (arith, slot-fits k n stride l)) (omega arith)
+          part-put-before (encoded m item s n desk) (fragmentAt s n) (fragment m (s .fragment) item n) (fragmentAt s k) (s .fragment)
+          (omega (arith, slot-fits k n (s .size) l)) (omega arith)
           ∙ more l
 
 -- runs one after the other fill a buffer that is as long as they are
-laid-runs : (desk : List ℕ) (first stride F : ℕ) (zs : List ℕ) (item out : List ℕ) (n : ℕ) → length item ≡ length out → n * F ≤ length out
-    → ((k : ℕ) → k < n → regenerated desk first stride F zs k ≡ part item (k * F) F)
-    → laid desk first stride F zs 0 F n out ≡ take (n * F) item ++ drop (n * F) out
+laid-runs : (desk : List ℕ) (s : Slots) (zs : List ℕ) (m : ℕ) (item out : List ℕ) (n : ℕ) → length item ≡ length out → n * s .fragment ≤ length out
+    → ((k : ℕ) → k < n → regenerated desk s zs k ≡ part item (k * s .fragment) (s .fragment))
+    → laid desk s zs (runsOf m (s .fragment)) n out ≡ take (n * s .fragment) item ++ drop (n * s .fragment) out
 unfolding laid
-laid-runs desk first stride F zs item out zero l r e = rw zero-mul
-laid-runs desk first stride F zs item out (suc n) l r e =
+laid-runs desk s zs m item out zero l r e = rw zero-mul
+laid-runs desk s zs m item out (suc n) l r e =
+    let F : ℕ = s .fragment in
     let fits : n * F + F ≤ length out = omega (arith, suc-mul n F) in
-    let before : laid desk first stride F zs 0 F n out ≡ take (n * F) item ++ drop (n * F) out =
-    laid-runs desk first stride F zs item out n l (omega arith) (λ k h. e k (omega arith)) in
+    let before : laid desk s zs (runsOf m F) n out ≡ take (n * F) item ++ drop (n * F) out =
+    laid-runs desk s zs m item out n l (omega arith) (λ k h. e k (omega arith)) in
     let z : 0 + n * F ≡ n * F = omega arith in
     let lp : length (part item (n * F) F) ≡ F = length-part item (n * F) F (omega arith) in
     let lt : length (take (n * F) item) ≡ n * F = length-take-le (n * F) item (omega arith) in
@@ -253,21 +259,21 @@ laid-runs desk first stride F zs item out (suc n) l r e =
         ap (λ (k : ℕ). drop (k + F) (take (n * F) item ++ drop (n * F) out)) (sym lt)
         ∙ drop-append-add (take (n * F) item) (drop (n * F) out) F ∙ drop-drop F (n * F) out
 
-module _ (m F : ℕ) (item : List ℕ) (few : m ≤ 256) (octets : Octets item) (whole : length item ≡ m * F) where
+module _ (m : ℕ) (s : Slots) (item : List ℕ) (few : m ≤ 256) (octets : Octets item) (whole : length item ≡ m * s .fragment) where
   -- ANY m DISTINCT FRAGMENTS GIVE THE ITEM
-  pub any-item : (desk : List ℕ) (first stride : ℕ) (zs : List ℕ) → Distinct zs → All (λ (z : ℕ). z < 256) zs → length zs ≡ m
-      → All (λ (z : ℕ). part desk (first + z * stride) F ≡ fragment m F item z) zs
-      → (out : List ℕ) → length out ≡ m * F → laid desk first stride F zs 0 F m out ≡ item
-  any-item desk first stride zs d b l slots out lo =
-      let end : length out ≤ m * F = omega arith in
-      laid-runs desk first stride F zs item out m (whole ∙ sym lo) (omega arith)
-      (λ k h. any-fragment m F item few octets whole desk first stride zs d b l slots k (omega arith) ∙ fragment-run m F item k h)
-      ∙ ap₂ _++_ (take-all (m * F) item (omega arith)) (drop-of-length-le out end) ∙ append-nil item
+  pub any-item : (desk : List ℕ) (zs : List ℕ) → Distinct zs → All (λ (z : ℕ). z < 256) zs → length zs ≡ m
+      → All (λ (z : ℕ). part desk (fragmentAt s z) (s .fragment) ≡ fragment m (s .fragment) item z) zs
+      → (out : List ℕ) → length out ≡ m * s .fragment → laid desk s zs (runsOf m (s .fragment)) m out ≡ item
+  any-item desk zs d b l slots out lo =
+      let end : length out ≤ m * s .fragment = omega arith in
+      laid-runs desk s zs m item out m (whole ∙ sym lo) (omega arith)
+      (λ k h. any-fragment m s item few octets whole desk zs d b l slots k (omega arith) ∙ fragment-run m (s .fragment) item k h)
+      ∙ ap₂ _++_ (take-all (m * s .fragment) item (omega arith)) (drop-of-length-le out end) ∙ append-nil item
 
   -- AN ENCODED ITEM COMES BACK FROM ANY m OF ITS n FRAGMENTS
-  pub any-m-of-n : (n : ℕ) (desk : List ℕ) (first stride : ℕ) → F ≤ stride → ((k : ℕ) → k < n → first + k * stride + F ≤ length desk) → n ≤ 256
+  pub any-m-of-n : (n : ℕ) (desk : List ℕ) → s .fragment ≤ s .size → Room s n desk → n ≤ 256
       → (zs : List ℕ) → Distinct zs → All (λ (z : ℕ). z < n) zs → length zs ≡ m
-      → (out : List ℕ) → length out ≡ m * F → laid (encoded m F item first stride n desk) first stride F zs 0 F m out ≡ item
-  any-m-of-n n desk first stride wide fit big zs d b l out lo =
-      any-item (encoded m F item first stride n desk) first stride zs d (all-map (λ z h. omega arith) zs b) l
-      (all-map (λ z h. encoded-at m F item whole first stride wide n desk fit z h) zs b) out lo
+      → (out : List ℕ) → length out ≡ m * s .fragment → laid (encoded m item s n desk) s zs (runsOf m (s .fragment)) m out ≡ item
+  any-m-of-n n desk wide fit big zs d b l out lo =
+      any-item (encoded m item s n desk) zs d (all-map (λ z h. omega arith) zs b) l
+      (all-map (λ z h. encoded-at m s item whole wide n desk fit z h) zs b) out lo

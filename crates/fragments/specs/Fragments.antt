@@ -3,9 +3,9 @@
 --   Column                 the polynomial that the document takes for one byte position of an item
 --   value ps f x           the value at x of the polynomial of degree below the number of points ps that is f p at each point p
 --   fragment m F item k    fragment k
---   regenerated            fragment x, from those of the points qs that lie in a buffer: the one of point p at first + p·stride
---   laid                   a buffer with the first n fragments so regenerated, k at start + k·step
---   encoded                a buffer with the first n fragments of an item, k at first + k·stride
+--   regenerated            fragment x, from those of the points qs that lie in the slots of a buffer
+--   laid                   a buffer with the first n fragments so regenerated, each in its slot
+--   encoded                a buffer with the first n fragments of an item, each in its slot
 -- That the polynomial exists, is the only one, and is the one evaluated, and that any m fragments give the item, stands in
 -- proofs/Theorems.antt. Assumes nothing.
 use mathlib.Core.Path.{_≡_}
@@ -17,6 +17,8 @@ use lib.Dec.{eqb, ltb}
 use lib.ListN.{length, getD}
 use Rattle.octets.specs.Bytes.{part, put, Octets}
 use Rattle.field.specs.Field.{mul, div}
+use Rattle.terms.specs.declared.Slots.{Slots}
+use Rattle.terms.specs.Terms.{fragmentAt}
 
 -- ---- lists
 -- P holds of every element; no number stands in a list twice
@@ -77,19 +79,24 @@ fragment m F item k =
     cond (ltb k m) (part item (k * F) F) (tabulate F (λ i. value (from 0 m) (λ j. getD item (j * F + i) 0) k))
 
 -- itself where it is among the sources, else the value at x
-unfoldable pub regenerated : List ℕ → ℕ → ℕ → ℕ → List ℕ → ℕ → List ℕ
-regenerated src first stride F qs x =
-    cond (among x qs) (part src (first + x * stride) F) (tabulate F (λ i. value qs (λ p. getD src (first + p * stride + i) 0) x))
+unfoldable pub regenerated : List ℕ → Slots → List ℕ → ℕ → List ℕ
+regenerated src s qs x =
+    cond (among x qs) (part src (fragmentAt s x) (s .fragment)) (tabulate (s .fragment) (λ i. value qs (λ p. getD src (fragmentAt s p + i) 0) x))
 
 -- every source lies within the buffer
-abbrev pub Sources : List ℕ → ℕ → ℕ → ℕ → List ℕ → Type 0
-Sources src first stride F qs = (k : ℕ) → k < length qs → first + getD qs k 0 * stride + F ≤ length src
+abbrev pub Sources : List ℕ → Slots → List ℕ → Type 0
+Sources src s qs = (k : ℕ) → k < length qs → fragmentAt s (getD qs k 0) + s .fragment ≤ length src
 
-unfoldable pub laid : List ℕ → ℕ → ℕ → ℕ → List ℕ → ℕ → ℕ → ℕ → List ℕ → List ℕ
-laid src first stride F qs start step zero out = out
-laid src first stride F qs start step (suc k) out =
-    put (laid src first stride F qs start step k out) (start + k * step) (regenerated src first stride F qs k)
+-- the fragments of the first n slots lie within the buffer
+abbrev pub Room : Slots → ℕ → List ℕ → Type 0
+Room s n out = (k : ℕ) → k < n → fragmentAt s k + s .fragment ≤ length out
 
-unfoldable pub encoded : ℕ → ℕ → List ℕ → ℕ → ℕ → ℕ → List ℕ → List ℕ
-encoded m F item first stride zero desk = desk
-encoded m F item first stride (suc k) desk = put (encoded m F item first stride k desk) (first + k * stride) (fragment m F item k)
+-- fragments in the slots s, to slots of fragments as long
+unfoldable pub laid : List ℕ → Slots → List ℕ → Slots → ℕ → List ℕ → List ℕ
+laid src s qs to zero out = out
+laid src s qs to (suc k) out = put (laid src s qs to k out) (fragmentAt to k) (regenerated src s qs k)
+
+-- an item of m runs
+unfoldable pub encoded : ℕ → List ℕ → Slots → ℕ → List ℕ → List ℕ
+encoded m item to zero desk = desk
+encoded m item to (suc k) desk = put (encoded m item to k desk) (fragmentAt to k) (fragment m (to .fragment) item k)

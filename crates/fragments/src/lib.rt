@@ -1,10 +1,11 @@
-// The fragments of an item: document 01, "Fragments". Sources and results lie at places of lent buffers, so that no fragment is copied
+// The fragments of an item: document 01, "Fragments". Sources and results lie in the slots of lent buffers, so that no fragment is copied
 // to be used; a fragment that is among its sources is copied and not computed.
 ghost use mathlib.Core.Path.{_≡_};
 ghost use Prim.Native.Nat.{ℕ, _+_, _*_, _≤_, _<_};
 ghost use lib.ListN.{length, getD};
-ghost use Rattle.octets.specs.Bytes.{put};
-ghost use Rattle.fragments.specs.Fragments.{among, weightOf, value, tabulate, regenerated, Sources, laid, encoded, from};
+ghost use Rattle.terms.specs.Terms.{fragmentAt, runsOf};
+ghost use Rattle.fragments.specs.Fragments.{among, weightOf, value, tabulate, regenerated, Sources, Room, laid, encoded, from};
+use terms::Slots;
 
 // The points of fragments 0 to 15.
 const POINTS: [u8; 16] = [0, 1, 2, 3, 4, 5, 6, 7, 8, 9, 10, 11, 12, 13, 14, 15];
@@ -42,12 +43,14 @@ fn weight(qs: &[u8], x: u8, p: u8) -> u8
 }
 
 // The value at x, for each byte of out, through the fragments of the points qs.
-fn combine(src: &[u8], first: usize, stride: usize, qs: &[u8], x: u8, out: &mut [u8])
-    requires { ⌜ Sources (now src) first stride (length (now out)) (now qs) ⌝ }
+fn combine(src: &[u8], s: Slots, qs: &[u8], x: u8, out: &mut [u8])
+    requires { ⌜ (Sources (now src) s (now qs)) × (length (now out) ≡ s .fragment) ⌝ }
     ensures { λ r. ⌜ now (out .exit)
-        ≡ tabulate (length (now (out .entry))) (λ i. value (now (qs .entry)) (λ p. getD (now (src .entry)) (first + p * stride + i) 0) x) ⌝ }
+        ≡ tabulate (s .fragment) (λ i. value (now (qs .entry)) (λ p. getD (now (src .entry)) (fragmentAt s p + i) 0) x) ⌝ }
 {
     let n = out.len();
+    let first = s.head;
+    let stride = s.size;
     let mut i: usize = 0;
     while i < n {
         out[i] = 0;
@@ -64,90 +67,56 @@ fn combine(src: &[u8], first: usize, stride: usize, qs: &[u8], x: u8, out: &mut 
     }
 }
 
-// Fragment x, of f bytes, from those of the points qs, into out at `at`.
-pub fn regenerate(
-    src: &[u8],
-    first: usize,
-    stride: usize,
-    f: usize,
-    qs: &[u8],
-    x: u8,
-    out: &mut [u8],
-    at: usize,
-)
-    requires { ⌜ (Sources (now src) first stride f (now qs)) × (at + f ≤ length (now out)) ⌝ }
-    ensures { λ r. ⌜ now (out .exit) ≡ put (now (out .entry)) at (regenerated (now (src .entry)) first stride f (now (qs .entry)) x) ⌝ }
+// Fragment x, from those of the points qs in the slots s, as the whole of out.
+pub fn regenerate(src: &[u8], s: Slots, qs: &[u8], x: u8, out: &mut [u8])
+    requires { ⌜ (Sources (now src) s (now qs)) × (length (now out) ≡ s .fragment) ⌝ }
+    ensures { λ r. ⌜ now (out .exit) ≡ regenerated (now (src .entry)) s (now (qs .entry)) x ⌝ }
 {
     if is_among(qs, x) {
-        octets::copy(src, first + (x as usize) * stride, f, out, at);
+        octets::copy(src, s.head + (x as usize) * s.size, s.fragment, out, 0);
     } else {
-        let e = at + f;
-        combine(src, first, stride, qs, x, &mut out[at..e]);
+        combine(src, s, qs, x, out);
     }
 }
 
-// The first n fragments, from those of the points qs, into out: fragment k at start + k * step.
-fn lay(
-    src: &[u8],
-    first: usize,
-    stride: usize,
-    f: usize,
-    qs: &[u8],
-    n: usize,
-    out: &mut [u8],
-    start: usize,
-    step: usize,
-)
-    requires { ⌜ (Sources (now src) first stride f (now qs)) × (n ≤ 16)
-        × ((k : ℕ) → k < n → start + k * step + f ≤ length (now out)) ⌝ }
-    ensures { λ r. ⌜ now (out .exit) ≡ laid (now (src .entry)) first stride f (now (qs .entry)) start step n (now (out .entry)) ⌝ }
+// A fragment for each of the slots to, from those of the points qs in the slots s.
+fn lay(src: &[u8], s: Slots, qs: &[u8], out: &mut [u8], to: Slots)
+    requires { ⌜ (Sources (now src) s (now qs)) × (s .fragment ≡ to .fragment) × (to .n ≤ 16) × (Room to (to .n) (now out)) ⌝ }
+    ensures { λ r. ⌜ now (out .exit) ≡ laid (now (src .entry)) s (now (qs .entry)) to (to .n) (now (out .entry)) ⌝ }
 {
     let mut k: usize = 0;
-    while k < n {
-        regenerate(src, first, stride, f, qs, k as u8, out, start + k * step);
+    while k < to.n {
+        let a = to.head + k * to.size;
+        let e = a + to.fragment;
+        regenerate(src, s, qs, k as u8, &mut out[a..e]);
         k += 1;
     }
 }
 
-// The first n fragments of an item of m runs of f bytes, into desk: fragment k at first + k * stride.
-pub fn encode(
-    item: &[u8],
-    m: usize,
-    f: usize,
-    n: usize,
-    desk: &mut [u8],
-    first: usize,
-    stride: usize,
-)
-    requires { ⌜ (length (now item) ≡ m * f) × (m ≤ 16) × (n ≤ 16)
-        × ((k : ℕ) → k < n → first + k * stride + f ≤ length (now desk)) ⌝ }
-    ensures { λ r. ⌜ now (desk .exit) ≡ encoded m f (now (item .entry)) first stride n (now (desk .entry)) ⌝ }
+// A fragment of an item of m runs for each of the slots to of desk.
+pub fn encode(item: &[u8], m: usize, desk: &mut [u8], to: Slots)
+    requires { ⌜ (length (now item) ≡ m * to .fragment) × (m ≤ 16) × (to .n ≤ 16) × (Room to (to .n) (now desk)) ⌝ }
+    ensures { λ r. ⌜ now (desk .exit) ≡ encoded m (now (item .entry)) to (to .n) (now (desk .entry)) ⌝ }
 {
     let points = POINTS;
-    lay(item, 0, f, f, &points[..m], n, desk, first, stride);
+    let runs = terms::runs_of(m, to.fragment);
+    lay(item, runs, &points[..m], desk, to);
 }
 
-// The m runs of f bytes of an item, from the fragments of the points qs in desk: that of point p at first + p * stride.
-pub fn decode(
-    desk: &[u8],
-    first: usize,
-    stride: usize,
-    f: usize,
-    qs: &[u8],
-    m: usize,
-    item: &mut [u8],
-)
-    requires { ⌜ (Sources (now desk) first stride f (now qs)) × (m ≤ 16) × (length (now item) ≡ m * f) ⌝ }
-    ensures { λ r. ⌜ now (item .exit) ≡ laid (now (desk .entry)) first stride f (now (qs .entry)) 0 f m (now (item .entry)) ⌝ }
+// The m runs of an item, from the fragments of the points qs in the slots s of desk.
+pub fn decode(desk: &[u8], s: Slots, qs: &[u8], m: usize, item: &mut [u8])
+    requires { ⌜ (Sources (now desk) s (now qs)) × (m ≤ 16) × (length (now item) ≡ m * s .fragment) ⌝ }
+    ensures { λ r. ⌜ now (item .exit) ≡ laid (now (desk .entry)) s (now (qs .entry)) (runsOf m (s .fragment)) m (now (item .entry)) ⌝ }
 {
-    lay(desk, first, stride, f, qs, m, item, 0, f);
+    let runs = terms::runs_of(m, s.fragment);
+    lay(desk, s, qs, item, runs);
 }
 
 // The item from the first m slots of desk, those of points 0 to m - 1.
-pub fn collect(desk: &[u8], first: usize, stride: usize, f: usize, m: usize, item: &mut [u8])
-    requires { ⌜ (m ≤ 16) × (length (now item) ≡ m * f) × ((k : ℕ) → k < m → first + k * stride + f ≤ length (now desk)) ⌝ }
-    ensures { λ r. ⌜ now (item .exit) ≡ laid (now (desk .entry)) first stride f (from 0 m) 0 f m (now (item .entry)) ⌝ }
+pub fn collect(desk: &[u8], s: Slots, m: usize, item: &mut [u8])
+    requires { ⌜ (m ≤ 16) × (length (now item) ≡ m * s .fragment) × (Room s m (now desk)) ⌝ }
+    ensures { λ r. ⌜ now (item .exit) ≡ laid (now (desk .entry)) s (from 0 m) (runsOf m (s .fragment)) m (now (item .entry)) ⌝ }
 {
     let points = POINTS;
-    lay(desk, first, stride, f, &points[..m], m, item, 0, f);
+    decode(desk, s, &points[..m], m, item);
 }

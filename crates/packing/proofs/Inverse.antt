@@ -35,12 +35,13 @@ use Rattle.session.specs.declared.Operation.{Operation}
 use Rattle.session.specs.declared.Operation.the-variants.{Write, Read}
 use Rattle.session.specs.declared.Stage.{Stage}
 use Rattle.session.specs.declared.Stage.the-variants.{Asking, Storing, Ended}
+use Rattle.session.specs.declared.Round.{Round}
 use Rattle.session.specs.declared.Session.{Session}
 use Rattle.session.specs.Opening.{noSession}
 use Rattle.session.specs.Ranges.{inRange}
 use Rattle.session.proofs.Openings.{none-in-range}
 use Rattle.packing.specs.PlanBytes.{field, memberByte, clientsByte, memberOf, clientsOf, planBytes, planShaped, planAt, planOf}
-use Rattle.packing.specs.SessionBytes.{operationByte, stageByte, markByte, boundBytes, markBytes, sessionBytes, operationOf, stageOf, heardOf, boundShaped, boundOf, marksShaped, marksOf, sessionShaped, sessionAt, sessionOf}
+use Rattle.packing.specs.SessionBytes.{operationByte, stageByte, markByte, boundBytes, markBytes, roundBytes, askBytes, heardBytes, sessionBytes, operationOf, stageOf, heardOf, boundShaped, boundOf, marksShaped, marksOf, sessionShaped, roundAt, sessionAt, sessionOf}
 use Rattle.packing.proofs.Laws.{length-marks, length-session, plan-length, session-length}
 
 -- ---- fields that follow one another
@@ -222,8 +223,8 @@ WideBound (Under u) = Wide u
 
 -- a session whose numbers have the widths of their fields
 pub record Fits (s : Session) : Type 0 where
-  pub round : s .round < 256 ^ 2
-  pub bound : WideBound (s .bound)
+  pub round : s .round .number < 256 ^ 2
+  pub bound : WideBound (s .round .bound)
   pub opening : s .opening .0 < 256 ^ 8
   pub greatest : s .greatest .0 < 256 ^ 8
   pub stamp : Wide (s .stamp)
@@ -298,7 +299,7 @@ stage-most Ended = refl
 
 -- bytes that code a session are those of the session that they code
 pub session-again : (x : List ℕ) → Octets x → sessionShaped x ≡ true → sessionBytes (sessionOf x) ≡ x
-unfolding sessionOf sessionBytes sessionAt sessionShaped all
+unfolding sessionOf sessionBytes askBytes heardBytes roundBytes sessionAt roundAt sessionShaped all
 session-again x o e =
     let l : length x ≡ 117 = session-length x e in
     let a = both (eqb (length x) 117) _ e in
@@ -314,39 +315,58 @@ session-again x o e =
     let f53 = field-again x 53 8 (field x 53 8) (omega arith) o refl in
     let f61 = stamp-again x 61 (omega arith) o in
     let f101 = marks-again (part x 101 16) (g .0) in
-    rw (e, f0, f1, f2, f4, f45, f53, f61, f101, ← part-add x 61 40 16, ← part-add x 53 8 56, ← part-add x 45 8 64, ← part-add x 4 41 72, ← part-add x 2 2 113, ← part-add x 1 1 115, ← part-add x 0 1 116)
+    rw (e, f0, f1, f2, f4, f45, f53, f61, f101, ← part-add x 2 2 41, ← part-add x 1 1 43, ← part-add x 1 44 8, ← part-add x 0 1 52, ← part-add x 61 40 16, ← part-add x 53 8 56, ← part-add x 0 53 64)
     (ap (part x 0) (sym l) ∙ part-all x)
+
+-- the round read back, and what follows it
+record RoundBack (x : List ℕ) (r : Round) (z : List ℕ) : Type 0 where
+  stage : leb (field x 1 1) 2 ≡ true
+  bound : boundShaped (field x 4 1) (field x 5 40) ≡ true
+  is : roundAt x ≡ r
+  rest : drop 45 x ≡ z
+
+cut-round : (x : List ℕ) (r : Round) (z : List ℕ) → drop 1 x ≡ roundBytes r ++ z → r .number < 256 ^ 2 → WideBound (r .bound) → RoundBack x r z
+unfolding roundBytes roundAt
+cut-round x r z e h w =
+    let z3 : List ℕ = boundBytes (r .bound) ++ z in
+    let z2 : List ℕ = be 2 (r .number) ++ z3 in
+    let hs : stageByte (r .stage) ≤ 2 = leb-true _ _ (stage-most (r .stage)) in
+    let apart : (be 1 (stageByte (r .stage)) ++ (be 2 (r .number) ++ boundBytes (r .bound))) ++ z ≡ be 1 (stageByte (r .stage)) ++ z2 = simp append-assoc in
+    let c1 = cut x 1 1 2 (stageByte (r .stage)) z2 refl (e ∙ apart) (omega arith) in
+    let c2 = cut x 2 2 4 (r .number) z3 refl (c1 .1) h in
+    let c3 = cut-bound x (r .bound) z (c2 .1) w in
+    let stage = ap stageOf (c1 .0) ∙ stage-back (r .stage) in
+    record {
+      stage = ap (λ (k : ℕ). leb k 2) (c1 .0) ∙ stage-most (r .stage);
+      bound = c3 .shaped;
+      is = λ i. record { stage = stage i; number = c2 .0 i; bound = c3 .is i };
+      rest = c3 .rest;
+    }
 
 -- a session whose numbers have the widths of their fields is coded by its bytes
 pub session-back : (s : Session) → Fits s → sessionOf (sessionBytes s) ≡ s
-unfolding sessionOf sessionAt sessionShaped all sessionBytes part
+unfolding sessionOf sessionAt sessionShaped all sessionBytes askBytes heardBytes part
 session-back s w =
     let x = sessionBytes s in
-    let z7 : List ℕ = markBytes (s .marks) in
-    let z6 : List ℕ = be 40 (stampNumber (s .stamp)) ++ z7 in
-    let z5 : List ℕ = be 8 (s .greatest .0) ++ z6 in
-    let z4 : List ℕ = be 8 (s .opening .0) ++ z5 in
-    let z3 : List ℕ = boundBytes (s .bound) ++ z4 in
-    let z2 : List ℕ = be 2 (s .round) ++ z3 in
-    let z1 : List ℕ = be 1 (stageByte (s .stage)) ++ z2 in
+    let z4 : List ℕ = markBytes (s .marks) in
+    let z3 : List ℕ = be 40 (stampNumber (s .stamp)) ++ z4 in
+    let z2 : List ℕ = be 8 (s .greatest .0) ++ z3 in
+    let z1 : List ℕ = be 8 (s .opening .0) ++ z2 in
+    let z0 : List ℕ = roundBytes (s .round) ++ z1 in
     let ho : operationByte (s .operation) ≤ 1 = leb-true _ _ (operation-most (s .operation)) in
-    let hs : stageByte (s .stage) ≤ 2 = leb-true _ _ (stage-most (s .stage)) in
-    let c0 = cut x 0 1 1 (operationByte (s .operation)) z1 refl refl (omega arith) in
-    let c1 = cut x 1 1 2 (stageByte (s .stage)) z2 refl (c0 .1) (omega arith) in
-    let c2 = cut x 2 2 4 (s .round) z3 refl (c1 .1) (w .round) in
-    let c3 = cut-bound x (s .bound) z4 (c2 .1) (w .bound) in
-    let c4 = cut x 45 8 53 (s .opening .0) z5 refl (c3 .rest) (w .opening) in
-    let c5 = cut x 53 8 61 (s .greatest .0) z6 refl (c4 .1) (w .greatest) in
-    let c6 = cut-stamp x 61 (s .stamp) z7 (c5 .1) (w .stamp) in
-    let marks-at : take 16 (drop 101 x) ≡ z7 = ap (take 16) (c6 .1) ∙ take-all 16 z7 (omega (arith, length-marks (s .marks), w .marks)) in
+    let apart : (be 1 (operationByte (s .operation)) ++ (roundBytes (s .round) ++ be 8 (s .opening .0))) ++ z2 ≡ be 1 (operationByte (s .operation)) ++ z0 = simp append-assoc in
+    let c0 = cut x 0 1 1 (operationByte (s .operation)) z0 refl apart (omega arith) in
+    let c1 = cut-round x (s .round) z1 (c0 .1) (w .round) (w .bound) in
+    let c2 = cut x 45 8 53 (s .opening .0) z2 refl (c1 .rest) (w .opening) in
+    let c3 = cut x 53 8 61 (s .greatest .0) z3 refl (c2 .1) (w .greatest) in
+    let c4 = cut-stamp x 61 (s .stamp) z4 (c3 .1) (w .stamp) in
+    let marks-at : take 16 (drop 101 x) ≡ z4 = ap (take 16) (c4 .1) ∙ take-all 16 z4 (omega (arith, length-marks (s .marks), w .marks)) in
     let operation = ap operationOf (c0 .0) ∙ operation-back (s .operation) in
-    let stage = ap stageOf (c1 .0) ∙ stage-back (s .stage) in
     let marks = ap marksOf marks-at ∙ marks-back (s .marks) in
     let shaped0 = ap (λ (k : ℕ). leb k 1) (c0 .0) ∙ operation-most (s .operation) in
-    let shaped1 = ap (λ (k : ℕ). leb k 2) (c1 .0) ∙ stage-most (s .stage) in
-    let shaped7 = ap marksShaped marks-at ∙ marks-shape (s .marks) in
-    rw (eq-eqb (length x) 117 (length-session s (w .marks)), shaped0, shaped1, c3 .shaped, shaped7)
-    (λ i. record { operation = operation i; stage = stage i; round = c2 .0 i; bound = c3 .is i; opening = record { 0 = c4 .0 i }; greatest = record { 0 = c5 .0 i }; stamp = c6 .0 i; marks = marks i })
+    let shaped4 = ap marksShaped marks-at ∙ marks-shape (s .marks) in
+    rw (eq-eqb (length x) 117 (length-session s (w .marks)), shaped0, c1 .stage, c1 .bound, shaped4)
+    (λ i. record { operation = operation i; round = c1 .is i; opening = record { 0 = c2 .0 i }; greatest = record { 0 = c3 .0 i }; stamp = c4 .0 i; marks = marks i })
 
 -- bytes that code no session are in no range
 pub no-session : (p : Plan) (x d : List ℕ) → sessionShaped x ≡ false → inRange p (sessionOf x) d ≡ false

@@ -9,9 +9,9 @@ use borrow.Author.Tests.{le-leb, lt-leb, eq-eqb, ne-eqb, eqb-true}
 use lib.ListN.{length, getD, take, drop, set, drop-of-length-le, length-append}
 use lib.Seq.{drop-cons, take-suc, take-all, take-suc-set, length-take-le}
 use lib.Dec.{eqb}
-use Rattle.octets.specs.Bytes.{put, be, over}
+use Rattle.octets.specs.Bytes.{put, be}
 use Rattle.octets.proofs.Laws.{length-be, put-snoc, put-nil, put-then}
-use Rattle.octets.proofs.Meaning.{over-start, over-more, over-whole}
+use Rattle.octets.proofs.Meaning.{over-start, over-whole}
 use Rattle.terms.specs.Ladder.{all}
 use Rattle.terms.specs.Stamp.{stampNumber, stampAt, zeroStamp}
 use Rattle.terms.specs.declared.Timestamp.{Timestamp}
@@ -20,10 +20,11 @@ use Rattle.terms.proofs.Stamps.{stamp-at-number, zero-number}
 use Rattle.rounds.specs.declared.Mark.{Mark}
 use Rattle.rounds.specs.declared.Bound.{Bound}
 use Rattle.rounds.specs.declared.Bound.the-variants.{Free, Under}
+use Rattle.session.specs.declared.Round.{Round}
 use Rattle.session.specs.declared.Session.{Session}
 use Rattle.session.proofs.Rules.{or-holds, or-last, and-fails, and-last}
 use Rattle.packing.specs.PlanBytes.{field, planShaped}
-use Rattle.packing.specs.SessionBytes.{operationByte, stageByte, markByte, boundBytes, markBytes, sessionBytes, heardOf, boundShaped, marksShaped, marksOf, sessionShaped}
+use Rattle.packing.specs.SessionBytes.{operationByte, stageByte, markByte, boundBytes, markBytes, roundBytes, askBytes, heardBytes, sessionBytes, heardOf, boundShaped, marksShaped, marksOf, sessionShaped}
 
 -- ---- a case by its number
 module _ {A : Type 0} (k c : ℕ) (x y : A) where
@@ -134,27 +135,48 @@ pub bound-under : (x y : List ℕ) (b : Bound) (u : Timestamp) → b ≡ Under u
 unfolding boundBytes
 bound-under x y b u e g = g ∙ ap (λ (c : Bound). put x 4 (boundBytes c)) (sym e)
 
--- ---- fields written one after the other, from the start on
-next : (old l s y : List ℕ) (at : ℕ) → length s ≡ at → l ≡ over s old → put l at y ≡ over (s ++ y) old
-next old l s y at z e = ap (λ (k : List ℕ). put k at y) e ∙ over-more old s y at z
+-- ---- fields written one after the other
+three : (x x₁ x₂ x₃ s t u : List ℕ) (a b c : ℕ) → a + length s ≡ b → b + length t ≡ c → a ≤ length x → x₁ ≡ put x a s → x₂ ≡ put x₁ b t → x₃ ≡ put x₂ c u
+    → x₃ ≡ put x a (s ++ (t ++ u))
+three x x₁ x₂ x₃ s t u a b c h k l e1 e2 e3 =
+    let f2 : x₂ ≡ put x a (s ++ t) = e2 ∙ ap (λ (y : List ℕ). put y b t) e1 ∙ put-then x a b s t h l in
+    e3 ∙ ap (λ (y : List ℕ). put y c u) f2 ∙ put-then x a c (s ++ t) u (simp length-append (omega arith)) l ∙ ap (put x a) (append-assoc s t u)
+
+length-round : (r : Round) → length (roundBytes r) ≡ 44
+unfolding roundBytes
+length-round r = simp (length-append, length-be, length-bound)
+
+length-ask : (s : Session) → length (askBytes s) ≡ 53
+unfolding askBytes
+length-ask s = simp (length-append, length-be, length-round)
 
 pub length-session : (s : Session) → length (s .marks) ≡ 16 → length (sessionBytes s) ≡ 117
-unfolding sessionBytes
-length-session s e = simp (length-append, length-be, length-bound, length-marks, e)
+unfolding sessionBytes heardBytes
+length-session s e = simp (length-append, length-be, length-ask, length-marks, e)
 
-pub session-put : (s : Session) (o g : ℕ) (x x₁ x₂ x₃ x₄ x₅ x₆ x₇ x₈ : List ℕ) → length (s .marks) ≡ 16 → length x ≡ 117 → o ≡ operationByte (s .operation) → g ≡ stageByte (s .stage)
-    → x₁ ≡ put x 0 (be 1 o) → x₂ ≡ put x₁ 1 (be 1 g) → x₃ ≡ put x₂ 2 (be 2 (s .round)) → x₄ ≡ put x₃ 4 (boundBytes (s .bound))
-    → x₅ ≡ put x₄ 45 (be 8 (s .opening .0)) → x₆ ≡ put x₅ 53 (be 8 (s .greatest .0)) → x₇ ≡ put x₆ 61 (be 40 (stampNumber (s .stamp)))
-    → x₈ ≡ put x₇ 101 (markBytes (s .marks)) → x₈ ≡ sessionBytes s
-session-put s o g x x₁ x₂ x₃ x₄ x₅ x₆ x₇ x₈ k l eo eg e1 e2 e3 e4 e5 e6 e7 e8 =
-    let f1 = e1 ∙ over-start x (be 1 o) in
-    let f2 = e2 ∙ next x x₁ _ (be 1 g) 1 (simp length-be) f1 in
-    let f3 = e3 ∙ next x x₂ _ (be 2 (s .round)) 2 (simp (length-append, length-be)) f2 in
-    let f4 = e4 ∙ next x x₃ _ (boundBytes (s .bound)) 4 (simp (length-append, length-be)) f3 in
-    let f5 = e5 ∙ next x x₄ _ (be 8 (s .opening .0)) 45 (simp (length-append, length-be, length-bound)) f4 in
-    let f6 = e6 ∙ next x x₅ _ (be 8 (s .greatest .0)) 53 (simp (length-append, length-be, length-bound)) f5 in
-    let f7 = e7 ∙ next x x₆ _ (be 40 (stampNumber (s .stamp))) 61 (simp (length-append, length-be, length-bound)) f6 in
-    let f8 = e8 ∙ next x x₇ _ (markBytes (s .marks)) 101 (simp (length-append, length-be, length-bound)) f7 in
-    let whole : be 1 o ++ be 1 g ++ be 2 (s .round) ++ boundBytes (s .bound) ++ be 8 (s .opening .0) ++ be 8 (s .greatest .0) ++ be 40 (stampNumber (s .stamp)) ++ markBytes (s .marks) ≡ sessionBytes s =
-    unfold sessionBytes in rw (eo, eg) (simp append-assoc) in
-    f8 ∙ ap (λ (y : List ℕ). over y x) whole ∙ over-whole (sessionBytes s) x (l ∙ sym (length-session s k))
+pub round-put : (r : Round) (g : ℕ) (x x₁ x₂ x₃ : List ℕ) → 45 ≤ length x → g ≡ stageByte (r .stage) → x₁ ≡ put x 1 (be 1 g) → x₂ ≡ put x₁ 2 (be 2 (r .number))
+    → x₃ ≡ put x₂ 4 (boundBytes (r .bound)) → x₃ ≡ put x 1 (roundBytes r)
+unfolding roundBytes
+round-put r g x x₁ x₂ x₃ l eg e1 e2 e3 =
+    three x x₁ x₂ x₃ (be 1 (stageByte (r .stage))) (be 2 (r .number)) (boundBytes (r .bound)) 1 2 4 (simp length-be) (simp length-be) (omega arith)
+    (e1 ∙ ap (λ (k : ℕ). put x 1 (be 1 k)) eg) e2 e3
+
+pub asks-put : (s : Session) (o : ℕ) (x x₁ x₂ x₃ : List ℕ) → o ≡ operationByte (s .operation) → x₁ ≡ put x 0 (be 1 o) → x₂ ≡ put x₁ 1 (roundBytes (s .round))
+    → x₃ ≡ put x₂ 45 (be 8 (s .opening .0)) → x₃ ≡ put x 0 (askBytes s)
+unfolding askBytes
+asks-put s o x x₁ x₂ x₃ eo e1 e2 e3 =
+    three x x₁ x₂ x₃ (be 1 (operationByte (s .operation))) (roundBytes (s .round)) (be 8 (s .opening .0)) 0 1 45 (simp length-be) (simp length-round) (omega arith)
+    (e1 ∙ ap (λ (k : ℕ). put x 0 (be 1 k)) eo) e2 e3
+
+pub heard-put : (s : Session) (x x₁ x₂ x₃ : List ℕ) → 117 ≤ length x → x₁ ≡ put x 53 (be 8 (s .greatest .0)) → x₂ ≡ put x₁ 61 (be 40 (stampNumber (s .stamp)))
+    → x₃ ≡ put x₂ 101 (markBytes (s .marks)) → x₃ ≡ put x 53 (heardBytes s)
+unfolding heardBytes
+heard-put s x x₁ x₂ x₃ l e1 e2 e3 =
+    three x x₁ x₂ x₃ (be 8 (s .greatest .0)) (be 40 (stampNumber (s .stamp))) (markBytes (s .marks)) 53 61 101 (simp length-be) (simp length-be) (omega arith) e1 e2 e3
+
+pub session-put : (s : Session) (x x₁ x₂ : List ℕ) → length (s .marks) ≡ 16 → length x ≡ 117 → x₁ ≡ put x 0 (askBytes s) → x₂ ≡ put x₁ 53 (heardBytes s)
+    → x₂ ≡ sessionBytes s
+session-put s x x₁ x₂ k l e1 e2 =
+    let whole : askBytes s ++ heardBytes s ≡ sessionBytes s = unfold sessionBytes in refl in
+    e2 ∙ ap (λ (y : List ℕ). put y 53 (heardBytes s)) e1 ∙ put-then x 0 53 (askBytes s) (heardBytes s) (simp length-ask) (omega arith)
+    ∙ ap (put x 0) whole ∙ over-start x (sessionBytes s) ∙ over-whole (sessionBytes s) x (l ∙ sym (length-session s k))

@@ -3,9 +3,9 @@
 -- written 40, 16 marks (0 unheard, 1 first triple, 2 record). Document 01, "The client": "Beside the marks a session holds operation,
 -- stage, round, bound, opening ask number, and the greatest time so far or the timestamp being written."
 --   operationByte stageByte markByte   the cases as bytes; operationOf stageOf heardOf, bytes as cases
---   boundBytes markBytes sessionBytes  laid out
+--   boundBytes markBytes roundBytes askBytes heardBytes sessionBytes   laid out
 --   boundShaped marksShaped sessionShaped   whether some bytes code a bound, marks, a session
---   boundOf marksOf sessionAt          what they code
+--   boundOf marksOf roundAt sessionAt  what they code
 --   sessionOf                          any bytes as a session: those that code none give one in no range, so that every call refuses it 9
 -- Assumes nothing.
 use Prim.Native.Nat.{ℕ}
@@ -26,6 +26,7 @@ use Rattle.session.specs.declared.Operation.{Operation}
 use Rattle.session.specs.declared.Operation.the-variants.{Write, Read}
 use Rattle.session.specs.declared.Stage.{Stage}
 use Rattle.session.specs.declared.Stage.the-variants.{Asking, Storing, Ended}
+use Rattle.session.specs.declared.Round.{Round}
 use Rattle.session.specs.declared.Session.{Session}
 use Rattle.session.specs.Opening.{noSession}
 use Rattle.packing.specs.PlanBytes.{field}
@@ -54,10 +55,18 @@ unfoldable pub markBytes : List Mark → List ℕ
 markBytes [] = []
 markBytes (m ∷ ms) = markByte (m .is) ∷ markBytes ms
 
+unfoldable pub roundBytes : Round → List ℕ
+roundBytes r = be 1 (stageByte (r .stage)) ++ (be 2 (r .number) ++ boundBytes (r .bound))
+
+-- in two parts, as they are written: what a session asks with, and what it has heard
+unfoldable pub askBytes : Session → List ℕ
+askBytes s = be 1 (operationByte (s .operation)) ++ (roundBytes (s .round) ++ be 8 (s .opening .0))
+
+unfoldable pub heardBytes : Session → List ℕ
+heardBytes s = be 8 (s .greatest .0) ++ (be 40 (stampNumber (s .stamp)) ++ markBytes (s .marks))
+
 unfoldable pub sessionBytes : Session → List ℕ
-sessionBytes s =
-    be 1 (operationByte (s .operation)) ++ (be 1 (stageByte (s .stage)) ++ (be 2 (s .round) ++ (boundBytes (s .bound)
-    ++ (be 8 (s .opening .0) ++ (be 8 (s .greatest .0) ++ (be 40 (stampNumber (s .stamp)) ++ markBytes (s .marks)))))))
+sessionBytes s = askBytes s ++ heardBytes s
 
 -- ---- read back
 unfoldable pub operationOf : ℕ → Operation
@@ -93,13 +102,14 @@ sessionShaped x =
     boundShaped (field x 4 1) (field x 5 40) ∷
     marksShaped (part x 101 16) ∷ [])
 
+unfoldable pub roundAt : List ℕ → Round
+roundAt x = record { stage = stageOf (field x 1 1); number = field x 2 2; bound = boundOf (field x 4 1) (stampAt x 5) }
+
 unfoldable pub sessionAt : List ℕ → Session
 sessionAt x =
     record {
       operation = operationOf (field x 0 1);
-      stage = stageOf (field x 1 1);
-      round = field x 2 2;
-      bound = boundOf (field x 4 1) (stampAt x 5);
+      round = roundAt x;
       opening = record { 0 = field x 45 8 };
       greatest = record { 0 = field x 53 8 };
       stamp = stampAt x 61;

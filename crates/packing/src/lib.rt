@@ -4,6 +4,7 @@ use rounds::Bound;
 use rounds::Heard;
 use rounds::Mark;
 use session::Operation;
+use session::Round;
 use session::Session;
 use session::Stage;
 use terms::Ask;
@@ -18,10 +19,8 @@ ghost use Prim.Native.Nat.{_≤_};
 ghost use lib.ListN.{length};
 ghost use Rattle.octets.specs.Bytes.{put, be};
 ghost use Rattle.terms.specs.Stamp.{stampNumber, stampAt};
-ghost use Rattle.session.specs.Opening.{noSession};
-ghost use Rattle.session.specs.declared.Operation.the-variants.{Read};
 ghost use Rattle.packing.specs.PlanBytes.{field, memberOf, clientsOf, planShaped, planAt, noPlan, planOf};
-ghost use Rattle.packing.specs.SessionBytes.{operationByte, stageByte, markByte, boundBytes, markBytes, sessionBytes, operationOf, stageOf, heardOf, boundShaped, boundOf, marksShaped, marksOf, sessionShaped, sessionAt, sessionOf};
+ghost use Rattle.packing.specs.SessionBytes.{operationByte, stageByte, markByte, boundBytes, markBytes, roundBytes, askBytes, heardBytes, sessionBytes, operationOf, stageOf, heardOf, boundShaped, boundOf, marksShaped, marksOf, sessionShaped, roundAt, sessionAt, sessionOf};
 
 fn member_of(k: u64) -> Member
     ensures { λ r. ⌜ r ≡ memberOf k ⌝ }
@@ -219,15 +218,28 @@ fn session_shaped(x: &[u8]) -> bool
     marks_shaped(&x[from..to])
 }
 
+// The round of a session's bytes.
+fn round_at(x: &[u8]) -> Round
+    requires { ⌜ 45 ≤ length (now x) ⌝ }
+    ensures { λ r. ⌜ r ≡ roundAt (now (x .entry)) ⌝ }
+{
+    let stage = stage_of(octets::get(x, 1, 1));
+    let number = octets::get(x, 2, 2);
+    let bound = bound_at(x);
+    Round {
+        stage: stage,
+        number: number,
+        bound: bound,
+    }
+}
+
 // The session of 117 bytes.
 fn session_at(x: &[u8]) -> Session
     requires { ⌜ length (now x) ≡ 117 ⌝ }
     ensures { λ r. ⌜ r ≡ sessionAt (now (x .entry)) ⌝ }
 {
     let operation = operation_of(octets::get(x, 0, 1));
-    let stage = stage_of(octets::get(x, 1, 1));
-    let round = octets::get(x, 2, 2);
-    let bound = bound_at(x);
+    let round = round_at(x);
     let opening = Ask(octets::get(x, 45, 8));
     let greatest = Time(octets::get(x, 53, 8));
     let stamp = terms::stamp_at(x, 61);
@@ -236,32 +248,11 @@ fn session_at(x: &[u8]) -> Session
     let marks = marks_of(&x[from..to]);
     Session {
         operation: operation,
-        stage: stage,
         round: round,
-        bound: bound,
         opening: opening,
         greatest: greatest,
         stamp: stamp,
         marks: marks,
-    }
-}
-
-// A session in no range: its round is 0.
-fn no_session() -> Session
-    ensures { λ r. ⌜ r ≡ noSession Read ⌝ }
-{
-    let opening = Ask(0);
-    let greatest = Time(0);
-    let stamp = terms::zero_stamp();
-    Session {
-        operation: Operation::Read,
-        stage: Stage::Asking,
-        round: 0,
-        bound: Bound::Free,
-        opening: opening,
-        greatest: greatest,
-        stamp: stamp,
-        marks: [Mark { is: Heard::Unheard }; 16],
     }
 }
 
@@ -270,7 +261,7 @@ pub fn session_of(x: &[u8]) -> Session
     ensures { λ r. ⌜ r ≡ sessionOf (now (x .entry)) ⌝ }
 {
     if !session_shaped(x) {
-        return no_session();
+        return Session::none(Operation::Read);
     }
     session_at(x)
 }
@@ -343,24 +334,49 @@ fn write_marks(x: &mut [u8], marks: [Mark; 16])
     }
 }
 
+// A round, in its place.
+fn write_round(x: &mut [u8], r: Round)
+    requires { ⌜ 45 ≤ length (now x) ⌝ }
+    ensures { λ _. ⌜ now (x .exit) ≡ put (now (x .entry)) 1 (roundBytes r) ⌝ }
+{
+    let stage = r.stage;
+    let bound = r.bound;
+    octets::put_num(x, 1, 1, stage_byte(stage));
+    octets::put_num(x, 2, 2, r.number);
+    write_bound(x, bound);
+}
+
+// What a session asks with: the first 53 bytes.
+fn write_asks(x: &mut [u8], s: Session)
+    requires { ⌜ 117 ≤ length (now x) ⌝ }
+    ensures { λ _. ⌜ now (x .exit) ≡ put (now (x .entry)) 0 (askBytes s) ⌝ }
+{
+    let operation = s.operation;
+    let round = s.round;
+    let opening = s.opening;
+    octets::put_num(x, 0, 1, operation_byte(operation));
+    write_round(x, round);
+    octets::put_num(x, 45, 8, opening.0);
+}
+
+// What it has heard: the other 64. The second fact is for the length of the whole.
+fn write_heard(x: &mut [u8], s: Session)
+    requires { ⌜ 117 ≤ length (now x) ⌝ }
+    ensures { λ _. ⌜ (now (x .exit) ≡ put (now (x .entry)) 53 (heardBytes s)) × (length (s .marks) ≡ 16) ⌝ }
+{
+    let greatest = s.greatest;
+    let stamp = s.stamp;
+    let marks = s.marks;
+    octets::put_num(x, 53, 8, greatest.0);
+    terms::put_stamp(x, 61, stamp);
+    write_marks(x, marks);
+}
+
 // A session as 117 bytes.
 pub fn write_session(s: Session, x: &mut [u8])
     requires { ⌜ length (now x) ≡ 117 ⌝ }
     ensures { λ _. ⌜ now (x .exit) ≡ sessionBytes s ⌝ }
 {
-    let operation = s.operation;
-    let stage = s.stage;
-    let bound = s.bound;
-    let opening = s.opening;
-    let greatest = s.greatest;
-    let stamp = s.stamp;
-    let marks = s.marks;
-    octets::put_num(x, 0, 1, operation_byte(operation));
-    octets::put_num(x, 1, 1, stage_byte(stage));
-    octets::put_num(x, 2, 2, s.round);
-    write_bound(x, bound);
-    octets::put_num(x, 45, 8, opening.0);
-    octets::put_num(x, 53, 8, greatest.0);
-    terms::put_stamp(x, 61, stamp);
-    write_marks(x, marks);
+    write_asks(x, s);
+    write_heard(x, s);
 }

@@ -26,79 +26,80 @@ use Rattle.session.specs.declared.Session.{Session}
 use Rattle.session.specs.declared.Operation.the-variants.{Write, Read}
 use Rattle.session.specs.Session.{isStoring, replies, markedOf, endedOf, nextOf, refused, stillOpen, roundsSpent}
 use Rattle.session.specs.Reply.{bears, replyLadder, recordLadder}
-use Rattle.session.specs.Reader.{Outcome, outcome, sound, failing, actOn, actFor, closed, settled, heard, stored, accepted, readReply}
+use Rattle.recover.specs.Recover.{sound}
+use Rattle.session.specs.Reader.{Outcome, outcome, failing, actOn, actFor, closed, settled, heard, stored, accepted, readReply}
 use Rattle.session.specs.Writer.{Leaves, leaves, timedOf, timeEnd, timeTurn, writeTurn, acceptedWrite, writeReply}
 use Rattle.session.proofs.Checks.{outcome-all}
 
 -- ---- a writer's
 record Same (n : ℕ) (o : Leaves) : Type 0 where
-  same : o .session .round ≡ n
+  same : o .session .round .number ≡ n
 
 module _ (p : Plan) where
-  write-turn-same : (s : Session) (d : List ℕ) → Same (s .round) (writeTurn p s d)
+  write-turn-same : (s : Session) (d : List ℕ) → Same (s .round .number) (writeTurn p s d)
   unfolding writeTurn
-  write-turn-same s d = either (Same (s .round)) (ltb (heardCount (s .marks)) (replies p)) (record { same = refl }) (record { same = refl })
+  write-turn-same s d = either (Same (s .round .number)) (ltb (heardCount (s .marks)) (replies p)) (record { same = refl }) (record { same = refl })
 
-  time-end-same : (s : Session) (d i : List ℕ) → Same (s .round) (timeEnd p s d i)
+  time-end-same : (s : Session) (d i : List ℕ) → Same (s .round .number) (timeEnd p s d i)
   unfolding timeEnd
-  time-end-same s d i = either (Same (s .round)) (eqb (s .greatest .0) top) (record { same = refl }) (record { same = refl })
+  time-end-same s d i = either (Same (s .round .number)) (eqb (s .greatest .0) top) (record { same = refl }) (record { same = refl })
 
-  time-turn-same : (s : Session) (d i : List ℕ) → Same (s .round) (timeTurn p s d i)
+  time-turn-same : (s : Session) (d i : List ℕ) → Same (s .round .number) (timeTurn p s d i)
   unfolding timeTurn
-  time-turn-same s d i = either (Same (s .round)) (ltb (heardCount (s .marks)) (replies p)) (record { same = refl }) (time-end-same s d i)
+  time-turn-same s d i = either (Same (s .round .number)) (ltb (heardCount (s .marks)) (replies p)) (record { same = refl }) (time-end-same s d i)
 
-  accepted-same : (s : Session) (f d i : List ℕ) → Same (s .round) (acceptedWrite p s f d i)
+  accepted-same : (s : Session) (f d i : List ℕ) → Same (s .round .number) (acceptedWrite p s f d i)
   unfolding acceptedWrite
   accepted-same s f d i =
-      either (Same (s .round)) (isStoring (s .stage)) (write-turn-same (markedOf s (frameNode f) Record) d)
+      either (Same (s .round .number)) (isStoring (s .round .stage)) (write-turn-same (markedOf s (frameNode f) Record) d)
       (time-turn-same (timedOf s (frameNode f) (time (bodyOf f))) d i)
 
-  pub write-round : (s : Session) (f d i : List ℕ) → writeReply p s f d i .session .round ≡ s .round
+  pub write-round : (s : Session) (f d i : List ℕ) → writeReply p s f d i .session .round .number ≡ s .round .number
   unfolding writeReply
   write-round s f d i =
-      outcome-all (Same (s .round)) (replyLadder Write p s f d (length i)) (λ (k : ℕ). leaves (refused k) s d) (acceptedWrite p s f d i)
+      outcome-all (Same (s .round .number)) (replyLadder Write p s f d (length i)) (λ (k : ℕ). leaves (refused k) s d) (acceptedWrite p s f d i)
       (λ k. record { same = refl }) (λ e. accepted-same s f d i) .same
 
 -- ---- a reader's
 record Low (o : Outcome) : Type 0 where
-  low : o .session .round < 65536
+  low : o .session .round .number < 65536
 
 module _ (p : Plan) (ok : planOk p ≡ true) where
-  failing-low : (s : Session) (t : Timestamp) (d i : List ℕ) → s .round < 65536 → Low (failing p s t d i)
+  failing-low : (s : Session) (t : Timestamp) (d i : List ℕ) → s .round .number < 65536 → Low (failing p s t d i)
   unfolding failing
-  failing-low s t d i h = go (leb (p .w) (s .round)) refl
+  failing-low s t d i h = go (leb (p .w) (s .round .number)) refl
     where
-      go : (c : Bool) → leb (p .w) (s .round) ≡ c → Low (cond c (outcome (roundsSpent (s .round)) (endedOf s) d i) (outcome stillOpen (nextOf s t) d i))
+      go : (c : Bool) → leb (p .w) (s .round .number) ≡ c → Low (cond c (outcome (roundsSpent (s .round .number)) (endedOf s) d i) (outcome stillOpen (nextOf s t) d i))
       go true e = record { low = h }
       go false e =
-          let k : s .round < p .w = leb-false (p .w) (s .round) e in
+          let k : s .round .number < p .w = leb-false (p .w) (s .round .number) e in
           let q = plan-is p ok in
           record { low = omega arith }
 
-  act-on-low : (v : Verdict) (s : Session) (c : Closed) (a : ℕ) (d i : List ℕ) → s .round < 65536 → Low (actOn v p s c a d i)
+  act-on-low : (v : Verdict) (s : Session) (c : Closed) (a : ℕ) (d i : List ℕ) → s .round .number < 65536 → Low (actOn v p s c a d i)
   unfolding actOn
   act-on-low Complete s c a d i h = either Low (sound p c a d) (record { low = h }) (failing-low s (c .stamp) d i h)
   act-on-low Repair s c a d i h = either Low (sound p c a d) (record { low = h }) (failing-low s (c .stamp) d i h)
   act-on-low Aborted s c a d i h = record { low = h }
   act-on-low Incomplete s c a d i h = failing-low s (c .stamp) d i h
 
-  act-for-low : (l : Lead) (s : Session) (c : Closed) (d i : List ℕ) → s .round < 65536 → Low (actFor l p s c d i)
+  act-for-low : (l : Lead) (s : Session) (c : Closed) (d i : List ℕ) → s .round .number < 65536 → Low (actFor l p s c d i)
   unfolding actFor
   act-for-low Nobody s c d i h = record { low = h }
   act-for-low (Node a) s c d i h = act-on-low (c .verdict) s c a d i h
 
-  settled-low : (s : Session) (d i : List ℕ) → s .round < 65536 → Low (settled p s d i)
+  settled-low : (s : Session) (d i : List ℕ) → s .round .number < 65536 → Low (settled p s d i)
   unfolding settled
   settled-low s d i h = either Low (ltb (heardCount (s .marks)) (replies p)) (record { low = h }) (act-for-low (closed p s d .lead) s (closed p s d) d i h)
 
-  accepted-low : (s : Session) (f d i : List ℕ) → s .round < 65536 → Low (accepted p s f d i)
+  accepted-low : (s : Session) (f d i : List ℕ) → s .round .number < 65536 → Low (accepted p s f d i)
   unfolding accepted stored heard
   accepted-low s f d i h =
-      either Low (isStoring (s .stage))
+      either Low (isStoring (s .round .stage))
       (either Low (ltb (heardCount (markedOf s (frameNode f) Record .marks)) (replies p)) (record { low = h }) (record { low = h }))
       (either Low (bears p f) (settled-low (markedOf s (frameNode f) Record) _ i h) (settled-low (markedOf s (frameNode f) First) d i h))
 
-  pub read-round : (s : Session) (f d i : List ℕ) → s .round < 65536 → readReply p s f d i .session .round < 65536
+  pub read-round : (s : Session) (f d i : List ℕ) → s .round .number < 65536 → readReply p s f d i .session .round .number < 65536
   unfolding readReply first
   read-round s f d i h =
       outcome-all Low (replyLadder Read p s f d (length i)) (λ (k : ℕ). outcome (refused k) s d i) _ (λ k. record { low = h })

@@ -12,6 +12,7 @@ use lib.Dec.{eqb}
 use borrow.Author.Tests.{lt-ltb, ltb-true, le-leb, leb-true, eq-eqb, eqb-true}
 use Rattle.octets.proofs.Laws.{slot-fits}
 use Rattle.terms.specs.Ladder.{all}
+use Rattle.terms.specs.Terms.{fragmentAt, runsOf}
 use Rattle.terms.proofs.Rungs.{both}
 use Rattle.terms.proofs.Plans.{not-ok}
 use Rattle.fragments.specs.Fragments.{among, Sources}
@@ -105,7 +106,7 @@ module _ (n m F item desk : ℕ) where
   unfolding encodeFits
   encode-yes a b = sym (on _ (le-leb _ _ a) ∙ on _ b ∙ last _)
 
-  pub encode-room : encodeFits n m F item desk ≡ true → (k : ℕ) → k < n → 0 + k * F + F ≤ desk
+  pub encode-room : encodeFits n m F item desk ≡ true → (k : ℕ) → k < n → fragmentAt (runsOf n F) k + F ≤ desk
   encode-room e k h = let r = encode-is e .2 in omega (arith, slot-fits k n F h, r .length-is)
 
 -- ---- decoding
@@ -145,7 +146,7 @@ module _ (F desk : ℕ) (nodes : List ℕ) (k : ℕ) where
   unfolding named
   named-end h = rw (drop-of-length-le nodes h)
 
-pub named-within : (F : ℕ) (desk nodes : List ℕ) → named F (length desk) nodes ≡ true → Sources desk 0 F F nodes
+pub named-within : (F : ℕ) (desk nodes : List ℕ) → named F (length desk) nodes ≡ true → Sources desk (runsOf 16 F) nodes
 unfolding named
 named-within F desk [] e k h = absurd (not-suc-le-zero h)
 named-within F desk (p ∷ ps) e zero h =

@@ -5,6 +5,7 @@ ghost use mathlib.Core.Path.{_≡_};
 ghost use Prim.Native.Nat.{_+_, _<_, _≤_};
 ghost use lib.ListN.{length, getD, drop};
 ghost use Rattle.sha256.specs.Sha256.{sha256};
+ghost use Rattle.terms.specs.Terms.{runsOf};
 ghost use Rattle.fragments.specs.Fragments.{encoded, laid};
 ghost use Rattle.primitives.specs.Calls.{Told, hashFits, runsFit, encodeFits, apart, named, decodeFits};
 
@@ -82,7 +83,7 @@ pub extern "C" fn primitives_encode(
 ) -> u32
     ensures { λ r. ⌜ Told
         (encodeFits n m f (length (now (item .entry))) (length (now (desk .entry))))
-        (encoded m f (now (item .entry)) 0 f n (now (desk .entry)))
+        (encoded m (now (item .entry)) (runsOf n f) n (now (desk .entry)))
         r
         (now (desk .entry))
         (now (desk .exit)) ⌝ }
@@ -90,7 +91,8 @@ pub extern "C" fn primitives_encode(
     if !encode_fits(n, m, f, item.len(), desk.len()) {
         return 2;
     }
-    fragments::encode(item, m, f, n, desk, 0, f);
+    let slots = terms::runs_of(n, f);
+    fragments::encode(item, m, desk, slots);
     0
 }
 
@@ -149,7 +151,7 @@ pub extern "C" fn primitives_decode(
 ) -> u32
     ensures { λ r. ⌜ Told
         (decodeFits m f (now (nodes .entry)) (length (now (desk .entry))) (length (now (item .entry))))
-        (laid (now (desk .entry)) 0 f f (now (nodes .entry)) 0 f m (now (item .entry)))
+        (laid (now (desk .entry)) (runsOf 16 f) (now (nodes .entry)) (runsOf m f) m (now (item .entry)))
         r
         (now (item .entry))
         (now (item .exit)) ⌝ }
@@ -157,6 +159,7 @@ pub extern "C" fn primitives_decode(
     if !decode_fits(m, f, nodes, desk.len(), item.len()) {
         return 2;
     }
-    fragments::decode(desk, 0, f, f, nodes, m, item);
+    let slots = terms::runs_of(16, f);
+    fragments::decode(desk, slots, nodes, m, item);
     0
 }

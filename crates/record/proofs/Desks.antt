@@ -15,15 +15,17 @@ use Rattle.octets.proofs.Laws.{length-part, length-put, put-nil, put-then, part
 use Rattle.octets.proofs.Meaning.{part-add, alike-refl, num-be}
 use Rattle.sha256.specs.Sha256.{sha256}
 use Rattle.sha256.proofs.Laws.{sha256-length, whole}
-use Rattle.terms.specs.Terms.{planOk, recordLength}
+use Rattle.terms.specs.Terms.{planOk, recordLength, slotsOf, slotAt, fragmentAt}
+use Rattle.terms.specs.declared.Slots.{Slots}
 use Rattle.terms.specs.declared.Plan.{Plan}
 use Rattle.terms.specs.Stamp.{stampNumber, stampAt}
 use Rattle.terms.specs.declared.Timestamp.{Timestamp}
 use Rattle.terms.proofs.Plans.{plan-is}
+use Rattle.terms.proofs.Places.{record-length, slots-are}
 use Rattle.terms.proofs.Stamps.{Words, stamp-hash}
-use Rattle.record.specs.Record.{stampOf, verifierOf, crossOf, fragmentOf, entryOf, fragmentHash, hashesOk}
+use Rattle.record.specs.Record.{stampOf, verifierOf, crossOf, fragmentOf, entryOf, prefixOf, fragmentHash, hashesOk}
 use Rattle.record.specs.Desk.{slotOf, fragmentIn, row, crossMade, deskOf, stampMade}
-use Rattle.record.proofs.Records.{record-length, taken, fragment-at, cross-at, start-of}
+use Rattle.record.proofs.Records.{taken, fragment-at, cross-at, start-of}
 
 -- ---- blocks of r bytes, one after the other
 length-row : (block : ℕ → List ℕ) (r k : ℕ) → ((j : ℕ) → j < k → length (block j) ≡ r) → length (row block k) ≡ k * r
@@ -57,81 +59,85 @@ row-same a b (suc n) h = let ih = row-same a b n (λ k i. h k (omega arith)) in 
 
 -- fragments that are the same one by one
 module _ (a b : ℕ → List ℕ) (n : ℕ) (h : (k : ℕ) → k < n → a k ≡ b k) where
-  pub cross-same : crossMade a n ≡ crossMade b n
+  pub cross-same : (p : Plan) → crossMade p a n ≡ crossMade p b n
   unfolding crossMade
-  cross-same = row-same (λ k. fragmentHash [] (a k)) (λ k. fragmentHash [] (b k)) n (λ k i. ap (fragmentHash []) (h k i))
+  cross-same p = row-same (λ k. fragmentHash p k (a k)) (λ k. fragmentHash p k (b k)) n (λ k i. ap (fragmentHash p k) (h k i))
 
   pub desk-same : (s c : List ℕ) → deskOf s c a n ≡ deskOf s c b n
   unfolding deskOf
   desk-same s c = row-same (λ k. s ++ (c ++ a k)) (λ k. s ++ (c ++ b k)) n (λ k i. ap (λ (l : List ℕ). s ++ (c ++ l)) (h k i))
 
--- the last f bytes of slot k, after the first h
-abbrev pub restOf : List ℕ → ℕ → ℕ → ℕ → ℕ → List ℕ
-restOf d r h f k = part d (k * r + h) f
+-- the fragment of slot k
+abbrev pub restOf : List ℕ → Slots → ℕ → List ℕ
+restOf d s k = part d (fragmentAt s k) (s .fragment)
 
 -- ---- slots filled one after the other: d is what is done, and then the rest as it was
-module _ (d₀ head : List ℕ) (r h f n : ℕ) (ld : length d₀ ≡ n * r) (lh : length head ≡ h) (hr : h + f ≡ r) where
-  length-heads : (k : ℕ) → k ≤ n → length (deskOf head [] (restOf d₀ r h f) k) ≡ k * r
+module _ (d₀ head : List ℕ) (s : Slots) (ld : length d₀ ≡ s .n * s .size) (lh : length head ≡ s .head) (hr : s .size ≡ s .head + s .fragment) where
+  length-heads : (k : ℕ) → k ≤ s .n → length (deskOf head [] (restOf d₀ s) k) ≡ slotAt s k
   unfolding deskOf
-  length-heads k i = length-row _ r k (λ j y. let l = length-part d₀ (j * r + h) f (omega (arith, slot-fits j n r (omega arith))) in simp length-append (omega arith))
+  length-heads k i =
+      length-row _ (s .size) k (λ j y. let l = length-part d₀ (fragmentAt s j) (s .fragment) (omega (arith, slot-fits j (s .n) (s .size) (omega arith))) in simp length-append (omega arith))
 
-  pub start : d₀ ≡ deskOf head [] (restOf d₀ r h f) 0 ++ drop (0 * r) d₀
+  pub start : d₀ ≡ deskOf head [] (restOf d₀ s) 0 ++ drop (slotAt s 0) d₀
   unfolding deskOf row
   start = rw zero-mul
 
-  pub turn : (k : ℕ) (d : List ℕ) → k < n → d ≡ deskOf head [] (restOf d₀ r h f) k ++ drop (k * r) d₀
-      → put d (k * r) head ≡ deskOf head [] (restOf d₀ r h f) (k + 1) ++ drop ((k + 1) * r) d₀
+  pub turn : (k : ℕ) (d : List ℕ) → k < s .n → d ≡ deskOf head [] (restOf d₀ s) k ++ drop (slotAt s k) d₀
+      → put d (slotAt s k) head ≡ deskOf head [] (restOf d₀ s) (k + 1) ++ drop (slotAt s (k + 1)) d₀
   unfolding put deskOf row part
   turn k d i e =
-      let X : List ℕ = deskOf head [] (restOf d₀ r h f) k in
-      let Y : List ℕ = drop (k * r) d₀ in
-      let lx : length X ≡ k * r = length-heads k (omega arith) in
-      let a : drop (k * r + length head) (X ++ Y) ≡ drop (k * r + h) d₀ =
-      ap (λ (j : ℕ). drop (j + length head) (X ++ Y)) (sym lx) ∙ drop-append-add X Y (length head) ∙ ap (λ (j : ℕ). drop j Y) lh ∙ drop-drop h (k * r) d₀ in
-      let z : k * r + h + f ≡ suc k * r = omega (arith, suc-mul k r) in
-      let b : drop (k * r + h) d₀ ≡ take f (drop (k * r + h) d₀) ++ drop (suc k * r) d₀ =
-      sym (take-append-drop f (drop (k * r + h) d₀))
-      ∙ ap (λ (l : List ℕ). take f (drop (k * r + h) d₀) ++ l) (drop-drop f (k * r + h) d₀ ∙ ap (λ (j : ℕ). drop j d₀) z) in
-      rw (e, take-at X Y (k * r) lx, a, b, add-one) (simp append-assoc)
+      let at : ℕ = slotAt s k in
+      let X : List ℕ = deskOf head [] (restOf d₀ s) k in
+      let Y : List ℕ = drop at d₀ in
+      let lx : length X ≡ at = length-heads k (omega arith) in
+      let y : at + s .head ≡ fragmentAt s k = omega arith in
+      let a : drop (at + length head) (X ++ Y) ≡ drop (fragmentAt s k) d₀ =
+      ap (λ (j : ℕ). drop (j + length head) (X ++ Y)) (sym lx) ∙ drop-append-add X Y (length head) ∙ ap (λ (j : ℕ). drop j Y) lh ∙ drop-drop (s .head) at d₀
+      ∙ ap (λ (j : ℕ). drop j d₀) y in
+      let z : fragmentAt s k + s .fragment ≡ suc k * s .size = omega (arith, suc-mul k (s .size)) in
+      let b : drop (fragmentAt s k) d₀ ≡ take (s .fragment) (drop (fragmentAt s k) d₀) ++ drop (suc k * s .size) d₀ =
+      sym (take-append-drop (s .fragment) (drop (fragmentAt s k) d₀))
+      ∙ ap (λ (l : List ℕ). take (s .fragment) (drop (fragmentAt s k) d₀) ++ l) (drop-drop (s .fragment) (fragmentAt s k) d₀ ∙ ap (λ (j : ℕ). drop j d₀) z) in
+      rw (e, take-at X Y at lx, a, b, add-one) (simp append-assoc)
 
-  pub done : (k : ℕ) (d : List ℕ) → k ≡ n → d ≡ deskOf head [] (restOf d₀ r h f) k ++ drop (k * r) d₀ → d ≡ deskOf head [] (restOf d₀ r h f) n
-  done k d z e = e ∙ rw (z, ← ld, drop-length d₀) (append-nil (deskOf head [] (restOf d₀ r h f) n))
+  pub done : (k : ℕ) (d : List ℕ) → k ≡ s .n → d ≡ deskOf head [] (restOf d₀ s) k ++ drop (slotAt s k) d₀ → d ≡ deskOf head [] (restOf d₀ s) (s .n)
+  done k d z e = e ∙ rw (z, ← ld, drop-length d₀) (append-nil (deskOf head [] (restOf d₀ s) (s .n)))
 
 -- the head of slot a stays while it is put into slot k
-pub head-stays : (d head : List ℕ) (a k n r h : ℕ) → length d ≡ n * r → length head ≡ h → h ≤ r → k < n → part d (a * r) h ≡ head
-    → part (put d (k * r) head) (a * r) h ≡ head
-head-stays d head a k n r h ld lh hr kn e = go (ltb a k) (ltb k a) refl refl
+pub head-stays : (d head : List ℕ) (a k : ℕ) (s : Slots) → length d ≡ s .n * s .size → length head ≡ s .head → s .size ≡ s .head + s .fragment → k < s .n
+    → part d (slotAt s a) (s .head) ≡ head → part (put d (slotAt s k) head) (slotAt s a) (s .head) ≡ head
+head-stays d head a k s ld lh hr kn e = go (ltb a k) (ltb k a) refl refl
   where
-    fk : k * r + r ≤ length d
-    fk = omega (arith, slot-fits k n r kn)
+    fk : slotAt s k + s .size ≤ length d
+    fk = omega (arith, slot-fits k (s .n) (s .size) kn)
 
-    go : (s t : Bool) → ltb a k ≡ s → ltb k a ≡ t → part (put d (k * r) head) (a * r) h ≡ head
-    go true t u v = part-put-before d (k * r) head (a * r) h (omega (arith, slot-fits a k r (ltb-true a k u))) (omega (arith, fk)) ∙ e
-    go false true u v = part-put-after d (k * r) head (a * r) h (omega (arith, slot-fits k a r (ltb-true k a v))) (omega (arith, fk)) ∙ e
+    go : (t u : Bool) → ltb a k ≡ t → ltb k a ≡ u → part (put d (slotAt s k) head) (slotAt s a) (s .head) ≡ head
+    go true t u v = part-put-before d (slotAt s k) head (slotAt s a) (s .head) (omega (arith, slot-fits a k (s .size) (ltb-true a k u))) (omega (arith, fk)) ∙ e
+    go false true u v = part-put-after d (slotAt s k) head (slotAt s a) (s .head) (omega (arith, slot-fits k a (s .size) (ltb-true k a v))) (omega (arith, fk)) ∙ e
     go false false u v =
         let z : a ≡ k = omega (arith, ltb-false a k u, ltb-false k a v) in
-        rw z (part-put-same d (k * r) head h lh (omega (arith, fk)))
+        rw z (part-put-same d (slotAt s k) head (s .head) lh (omega (arith, fk)))
 
 -- ---- entries of a cross checksum, one after the other
-pub length-cross : (fragment : ℕ → List ℕ) (k : ℕ) → length (crossMade fragment k) ≡ 32 * k
-unfolding crossMade fragmentHash
-length-cross fragment k = length-row _ 32 k (λ j y. sha256-length ([] ++ fragment j)) ∙ omega arith
+module _ (p : Plan) (fragment : ℕ → List ℕ) where
+  pub length-cross : (k : ℕ) → length (crossMade p fragment k) ≡ 32 * k
+  unfolding crossMade fragmentHash
+  length-cross k = length-row _ 32 k (λ j y. sha256-length (prefixOf p j ++ fragment j)) ∙ omega arith
 
-pub cross-start : (fragment : ℕ → List ℕ) (out : List ℕ) (at : ℕ) → out ≡ put out at (crossMade fragment 0)
-unfolding crossMade row
-cross-start fragment out at = sym (put-nil out at)
+  pub cross-start : (out : List ℕ) (at : ℕ) → out ≡ put out at (crossMade p fragment 0)
+  unfolding crossMade row
+  cross-start out at = sym (put-nil out at)
 
-pub cross-turn : (fragment : ℕ → List ℕ) (out out₀ : List ℕ) (at k : ℕ) → at ≤ length out₀ → out ≡ put out₀ at (crossMade fragment k)
-    → put out (at + 32 * k) (fragmentHash [] (fragment k)) ≡ put out₀ at (crossMade fragment (k + 1))
-unfolding crossMade row
-cross-turn fragment out out₀ at k h e =
-    rw (e, put-then out₀ at (at + 32 * k) (crossMade fragment k) (fragmentHash [] (fragment k)) (ap (λ (j : ℕ). at + j) (length-cross fragment k)) h, add-one)
+  pub cross-turn : (out out₀ : List ℕ) (at k : ℕ) → at ≤ length out₀ → out ≡ put out₀ at (crossMade p fragment k)
+      → put out (at + 32 * k) (fragmentHash p k (fragment k)) ≡ put out₀ at (crossMade p fragment (k + 1))
+  unfolding crossMade row
+  cross-turn out out₀ at k h e =
+      rw (e, put-then out₀ at (at + 32 * k) (crossMade p fragment k) (fragmentHash p k (fragment k)) (ap (λ (j : ℕ). at + j) (length-cross k)) h, add-one)
 
--- an entry that was hashed from a part that was lent
-pub entry-is : (s out new : List ℕ) (from f at : ℕ) → new ≡ put out at (sha256 (take (from + f - from) (drop from s)))
-    → new ≡ put out at (fragmentHash [] (part s from f))
+-- the hash of what stands before a fragment and the fragment
+pub hashed : (p : Plan) (node : ℕ) (before fragment : List ℕ) → before ≡ prefixOf p node → sha256 (before ++ fragment) ≡ fragmentHash p node fragment
 unfolding fragmentHash
-entry-is s out new from f at e = e ∙ ap (λ (l : List ℕ). put out at (sha256 l)) (taken s from (from + f - from) f (omega arith))
+hashed p node before fragment e = rw e
 
 -- a head is a timestamp and a cross checksum
 split : (s c : List ℕ) (fragment : ℕ → List ℕ) (n : ℕ) → deskOf (s ++ c) [] fragment n ≡ deskOf s c fragment n
@@ -166,38 +172,51 @@ stamp-made t s d at n h e0 e1 e2 e3 e =
         let z : d ≡ sha256 (part s at (32 * n)) = e ∙ ap sha256 (taken s at (at + 32 * n - at) (32 * n) (omega arith)) in
         ap num (ap (λ (l : List ℕ). part l k 8) z ∙ sym (part-past (be 8 (t .time .0)) (sha256 (part s at (32 * n))) 8 k 8 (length-be 8 (t .time .0))))
 
--- ---- by plan: r is R, and the first h bytes of a slot are timestamp and cross checksum
-module _ (p : Plan) (d : List ℕ) (r : ℕ) (er : r ≡ recordLength p) where
-  pub sources : (n : ℕ) → length d ≡ n * recordLength p → (k : ℕ) → k < n → 40 + 32 * p .n + k * r + p .f ≤ length d
-  sources n ld k h = omega (arith, slot-fits k n (recordLength p) h, ap (λ (x : ℕ). k * x) er, record-length p)
+-- ---- by plan
+module _ (p : Plan) (d : List ℕ) where
+  pub sources : (n : ℕ) → length d ≡ n * recordLength p → (k : ℕ) → k < n → fragmentAt (slotsOf p) k + p .f ≤ length d
+  sources n ld k h = omega (arith, slot-fits k n (recordLength p) h, record-length p)
 
-  pub cross-is : (n : ℕ) → crossMade (λ k. part d (40 + 32 * p .n + k * r) (p .f)) n ≡ crossMade (fragmentIn p d) n
-  cross-is n = λ i. crossMade (λ k. same k i) n
-    where
-      same : (k : ℕ) → part d (40 + 32 * p .n + k * r) (p .f) ≡ fragmentIn p d k
-      same k =
-          let z : 40 + 32 * p .n + k * r ≡ k * recordLength p + 40 + 32 * p .n = omega (arith, ap (λ (x : ℕ). k * x) er) in
-          ap (λ (q : ℕ). part d q (p .f)) z ∙ sym (fragment-at p d (k * recordLength p))
+  pub fragment-in : (k : ℕ) → part d (fragmentAt (slotsOf p) k) (p .f) ≡ fragmentIn p d k
+  fragment-in k =
+      let z : fragmentAt (slotsOf p) k ≡ slotAt (slotsOf p) k + slotsOf p .head = omega arith in
+      ap (λ (q : ℕ). part d q (p .f)) z ∙ sym (fragment-at p d (slotAt (slotsOf p) k))
 
-  rest-is : (k : ℕ) → restOf d r (40 + 32 * p .n) (p .f) k ≡ fragmentIn p d k
-  rest-is k =
-      let z : k * r + (40 + 32 * p .n) ≡ k * recordLength p + 40 + 32 * p .n = omega (arith, ap (λ (x : ℕ). k * x) er) in
-      ap (λ (q : ℕ). part d q (p .f)) z ∙ sym (fragment-at p d (k * recordLength p))
-
-  pub spread-is : (a n : ℕ) → deskOf (part d (a * r) (40 + 32 * p .n)) [] (restOf d r (40 + 32 * p .n) (p .f)) n
+  pub spread-is : (a n : ℕ) → deskOf (part d (slotAt (slotsOf p) a) (slotsOf p .head)) [] (restOf d (slotsOf p)) n
       ≡ deskOf (stampOf (slotOf p d a)) (crossOf p (slotOf p d a)) (fragmentIn p d) n
   spread-is a n =
-      let q : a * r ≡ a * recordLength p = ap (λ (x : ℕ). a * x) er in
-      let e : part d (a * r) (40 + 32 * p .n) ≡ stampOf (slotOf p d a) ++ crossOf p (slotOf p d a) =
-      ap (λ (x : ℕ). part d x (40 + 32 * p .n)) q ∙ part-add d (a * recordLength p) 40 (32 * p .n)
-      ∙ (λ i. sym (start-of p d (a * recordLength p) 40 (omega (arith, record-length p))) i ++ sym (cross-at p d (a * recordLength p)) i) in
-      (λ i. deskOf (e i) [] (λ k. rest-is k i) n) ∙ split (stampOf (slotOf p d a)) (crossOf p (slotOf p d a)) (fragmentIn p d) n
+      let at : ℕ = slotAt (slotsOf p) a in
+      let e : part d at (slotsOf p .head) ≡ stampOf (slotOf p d a) ++ crossOf p (slotOf p d a) =
+      part-add d at 40 (32 * p .n) ∙ (λ i. sym (start-of p d at 40 (omega (arith, record-length p))) i ++ sym (cross-at p d at) i) in
+      (λ i. deskOf (e i) [] (λ k. fragment-in k i) n) ∙ split (stampOf (slotOf p d a)) (crossOf p (slotOf p d a)) (fragmentIn p d) n
 
-pub room : (p : Plan) (l : ℕ) → planOk p ≡ true → l ≡ p .n * recordLength p → 40 + 32 * p .n ≤ l
+-- the fragments of a desk, lent one by one by the numbers of the plan's slots
+module _ (p : Plan) (d : List ℕ) (s : Slots) (ok : planOk p ≡ true) (ld : length d ≡ p .n * recordLength p) (es : s ≡ slotsOf p) where
+  pub entry-fits : (k : ℕ) → k < s .n → fragmentAt s k + s .fragment ≤ length d
+  entry-fits k h =
+      let q = slots-are p s ok es in
+      rw es (sources p d (p .n) ld k (omega (arith, q .n-is)))
+
+  pub entry-length : (k : ℕ) → k < s .n → length (take (fragmentAt s k + s .fragment - fragmentAt s k) (drop (fragmentAt s k) d)) ≡ p .f
+  entry-length k h =
+      let q = slots-are p s ok es in
+      let z : fragmentAt s k + s .fragment - fragmentAt s k ≡ p .f = omega (arith, q .fragment-is) in
+      ap length (taken d (fragmentAt s k) (fragmentAt s k + s .fragment - fragmentAt s k) (p .f) z)
+      ∙ length-part d (fragmentAt s k) (p .f) (omega (arith, entry-fits k h, q .fragment-is))
+
+pub entry-turn : (p : Plan) (d : List ℕ) (s : Slots) → s ≡ slotsOf p → (out out₀ : List ℕ) (at k : ℕ) → at ≤ length out₀
+    → out ≡ put out₀ at (crossMade p (fragmentIn p d) k)
+    → put out (at + 32 * k) (fragmentHash p k (take (fragmentAt s k + s .fragment - fragmentAt s k) (drop (fragmentAt s k) d)))
+    ≡ put out₀ at (crossMade p (fragmentIn p d) (k + 1))
+entry-turn p d s es out out₀ at k h e =
+    let a : ℕ = fragmentAt (slotsOf p) k in
+    rw (es, taken d a (a + p .f - a) (p .f) (omega arith), fragment-in p d k) (cross-turn p (fragmentIn p d) out out₀ at k h e)
+
+pub room : (p : Plan) (l : ℕ) → planOk p ≡ true → l ≡ p .n * recordLength p → slotsOf p .head ≤ l
 room p l k ld = let q = plan-is p k in omega (arith, slot-fits 0 (p .n) (recordLength p) (q .n-low), record-length p)
 
 -- timestamp and cross checksum written into slot 0, and then spread
-pub fill-is : (p : Plan) (d d₁ d₂ s c : List ℕ) (n : ℕ) → 40 + 32 * p .n ≤ length d → length s ≡ 40 → length c ≡ 32 * p .n
+pub fill-is : (p : Plan) (d d₁ d₂ s c : List ℕ) (n : ℕ) → slotsOf p .head ≤ length d → length s ≡ 40 → length c ≡ 32 * p .n
     → d₁ ≡ put d 0 s → d₂ ≡ put d₁ 40 c
     → deskOf (stampOf (slotOf p d₂ 0)) (crossOf p (slotOf p d₂ 0)) (fragmentIn p d₂) n ≡ deskOf s c (fragmentIn p d) n
 fill-is p d d₁ d₂ s c n h ls lc e₁ e₂ = λ i. deskOf (stamped i) (crossed i) (λ k. kept k i) n
@@ -217,7 +236,7 @@ fill-is p d d₁ d₂ s c n h ls lc e₁ e₂ = λ i. deskOf (stamped i) (crosse
 
     kept : (k : ℕ) → fragmentIn p d₂ k ≡ fragmentIn p d k
     kept k =
-        let q : ℕ = k * recordLength p + 40 + 32 * p .n in
+        let q : ℕ = slotAt (slotsOf p) k + slotsOf p .head in
         fragment-at p d₂ (k * recordLength p)
         ∙ rw (e₂, part-put-after d₁ 40 c q (p .f) (omega arith) (omega (arith, l₁)), e₁, part-put-after d 0 s q (p .f) (omega arith) (omega arith))
         (sym (fragment-at p d (k * recordLength p)))
@@ -238,25 +257,25 @@ length-desk p s c fragment ls lc lf =
     length-row (λ j. s ++ (c ++ fragment j)) (recordLength p) (p .n) (λ j y. let l = lf j y in simp length-append (omega (arith, record-length p)))
 
 -- entry k of a cross checksum is the hash of fragment k
-pub entry-of : (fragment : ℕ → List ℕ) (k n : ℕ) → k < n → entryOf k (crossMade fragment n) ≡ fragmentHash [] (fragment k)
+pub entry-of : (p : Plan) (fragment : ℕ → List ℕ) (k n : ℕ) → k < n → entryOf k (crossMade p fragment n) ≡ fragmentHash p k (fragment k)
 unfolding crossMade fragmentHash
-entry-of fragment k n h =
+entry-of p fragment k n h =
     let z : 32 * k ≡ k * 32 = omega arith in
-    rw z (part-row (λ j. sha256 ([] ++ fragment j)) 32 k n (λ j y. sha256-length ([] ++ fragment j)) h)
+    rw z (part-row (λ j. sha256 (prefixOf p j ++ fragment j)) 32 k n (λ j y. sha256-length (prefixOf p j ++ fragment j)) h)
 
 -- a record of a timestamp and a cross checksum that were made for these fragments passes both hash checks at its node
 pub made-ok : (p : Plan) (time : ℕ) (fragment : ℕ → List ℕ) (k : ℕ) → k < p .n → length (fragment k) ≡ p .f
-    → hashesOk p k (stampMade time (crossMade fragment (p .n)) ++ (crossMade fragment (p .n) ++ fragment k)) ≡ true
+    → hashesOk p k (stampMade time (crossMade p fragment (p .n)) ++ (crossMade p fragment (p .n) ++ fragment k)) ≡ true
 unfolding hashesOk
 made-ok p time fragment k h lf =
-    let c : List ℕ = crossMade fragment (p .n) in
+    let c : List ℕ = crossMade p fragment (p .n) in
     let rec : List ℕ = stampMade time c ++ (c ++ fragment k) in
-    let lc : length c ≡ 32 * p .n = length-cross fragment (p .n) in
+    let lc : length c ≡ 32 * p .n = length-cross p fragment (p .n) in
     let lv = sha256-length c in
     let v : verifierOf rec ≡ sha256 c =
     part-middle rec (be 8 time) (sha256 c) (c ++ fragment k) 8 32 (append-assoc (be 8 time) (sha256 c) (c ++ fragment k)) (length-be 8 time) lv in
     let x : crossOf p rec ≡ c = part-middle rec (stampMade time c) c (fragment k) 40 (32 * p .n) refl (simp (length-append, length-be) (omega arith)) lc in
     let f : fragmentOf p rec ≡ fragment k =
-    ap (λ (l : List ℕ). part l (40 + 32 * p .n) (p .f)) (sym (append-assoc (stampMade time c) c (fragment k)))
-    ∙ part-last (stampMade time c ++ c) (fragment k) (40 + 32 * p .n) (p .f) (simp (length-append, length-be) (omega arith)) lf in
-    rw (x, v, f, entry-of fragment k (p .n) h, alike-refl (sha256 c)) (alike-refl (fragmentHash [] (fragment k)))
+    ap (λ (l : List ℕ). part l (slotsOf p .head) (p .f)) (sym (append-assoc (stampMade time c) c (fragment k)))
+    ∙ part-last (stampMade time c ++ c) (fragment k) (slotsOf p .head) (p .f) (simp (length-append, length-be) (omega arith)) lf in
+    rw (x, v, f, entry-of p fragment k (p .n) h, alike-refl (sha256 c)) (alike-refl (fragmentHash p k (fragment k)))

@@ -8,16 +8,16 @@
 --   deskOf             the records of nodes 0 to n - 1, one after the other
 --   stampMade          the timestamp of a time and a cross checksum
 -- Assumes nothing.
-use Prim.Native.Nat.{ℕ, zero, suc, _*_}
+use Prim.Native.Nat.{ℕ, zero, suc}
 use mathlib.Core.List.{List, [], _++_}
 use Rattle.octets.specs.Bytes.{part, be}
 use Rattle.sha256.specs.Sha256.{sha256}
-use Rattle.terms.specs.Terms.{recordLength}
+use Rattle.terms.specs.Terms.{recordLength, slotsOf, slotAt}
 use Rattle.terms.specs.declared.Plan.{Plan}
 use Rattle.record.specs.Record.{fragmentOf, fragmentHash}
 
 abbrev pub slotOf : Plan → List ℕ → ℕ → List ℕ
-slotOf p desk k = part desk (k * recordLength p) (recordLength p)
+slotOf p desk k = part desk (slotAt (slotsOf p) k) (recordLength p)
 
 abbrev pub fragmentIn : Plan → List ℕ → ℕ → List ℕ
 fragmentIn p desk k = fragmentOf p (slotOf p desk k)
@@ -27,8 +27,8 @@ unfoldable pub row : (ℕ → List ℕ) → ℕ → List ℕ
 row block zero = []
 row block (suc k) = row block k ++ block k
 
-unfoldable pub crossMade : (ℕ → List ℕ) → ℕ → List ℕ
-crossMade fragment n = row (λ k. fragmentHash [] (fragment k)) n
+unfoldable pub crossMade : Plan → (ℕ → List ℕ) → ℕ → List ℕ
+crossMade p fragment n = row (λ k. fragmentHash p k (fragment k)) n
 
 unfoldable pub deskOf : List ℕ → List ℕ → (ℕ → List ℕ) → ℕ → List ℕ
 deskOf stamp cross fragment n = row (λ k. stamp ++ (cross ++ fragment k)) n

@@ -3,31 +3,83 @@
 ghost use mathlib.Core.Path.{_≡_};
 ghost use mathlib.Core.Bool.{Bool, true};
 ghost use mathlib.Core.List.{[]};
-ghost use Prim.Native.Nat.{ℕ, _+_, _*_, _≤_, _<_};
-ghost use lib.ListN.{length, drop};
-ghost use Rattle.octets.specs.Bytes.{part, put, be};
-ghost use Rattle.terms.specs.Terms.{planOk, recordLength};
+ghost use Prim.Native.Nat.{ℕ, _+_, _-_, _*_, _≤_, _<_};
+ghost use lib.ListN.{length, take, drop};
+ghost use Rattle.octets.specs.Bytes.{part, put, be, alike};
+ghost use Rattle.sha256.specs.Sha256.{sha256};
+ghost use Rattle.terms.specs.Terms.{planOk, recordLength, fragmentAt};
 ghost use Rattle.terms.specs.Stamp.{stampNumber, stampAt};
-ghost use Rattle.record.specs.Record.{stampOf, crossOf, fragmentHash, hashesOk, timeZero};
+ghost use Rattle.record.specs.Record.{stampOf, crossOf, prefixOf, fragmentHash, hashesOk, timeZero};
 ghost use Rattle.record.specs.Desk.{slotOf, fragmentIn, crossMade, deskOf, stampMade};
 use terms::Hash;
 use terms::Plan;
+use terms::Slots;
 use terms::Time;
 use terms::Timestamp;
+
+// What is hashed before a fragment: the first `size` of the array.
+pub struct Prefix {
+    pub bytes: [u8; 16],
+    pub size: usize,
+}
+
+// What is hashed before the fragment of a node: nothing, under every plan.
+fn prefix_of(p: Plan, node: usize) -> Prefix
+    ensures { λ r. ⌜ (take (r .size) (r .bytes) ≡ prefixOf p node) × (length (r .bytes) ≡ 16) × (r .size ≤ 16) ⌝ }
+{
+    Prefix {
+        bytes: [0; 16],
+        size: 0,
+    }
+}
+
+// The hash of a node's fragment, as an entry of a cross checksum, into out at `at`.
+fn entry(p: Plan, node: usize, fragment: &[u8], out: &mut [u8], at: usize)
+    requires { ⌜ (length (now fragment) ≤ 1024) × (at + 32 ≤ length (now out)) ⌝ }
+    ensures { λ _. ⌜ now (out .exit) ≡ put (now (out .entry)) at (fragmentHash p node (now (fragment .entry))) ⌝ }
+{
+    let x = prefix_of(p, node);
+    let b = x.bytes;
+    let n = x.size;
+    sha256::digest_into(&b[..n], fragment, out, at);
+}
+
+// Whether the entry at `at` is the hash of a node's fragment.
+pub fn entry_ok(p: Plan, node: usize, fragment: &[u8], s: &[u8], at: usize) -> bool
+    requires { ⌜ (length (now fragment) ≤ 1024) × (at + 32 ≤ length (now s)) ⌝ }
+    ensures { λ r. ⌜ r ≡ alike (fragmentHash p node (now (fragment .entry))) (part (now (s .entry)) at 32) ⌝ }
+{
+    let x = prefix_of(p, node);
+    let b = x.bytes;
+    let n = x.size;
+    sha256::matches(&b[..n], fragment, s, at)
+}
+
+// Whether the verifier of the record at `at` is the hash of its cross checksum, where the two and the time are `head` bytes.
+fn verifier_ok(s: &[u8], at: usize, head: usize) -> bool
+    requires { ⌜ (40 ≤ head) × (head ≤ 552) × (at + head ≤ length (now s)) ⌝ }
+    ensures { λ r. ⌜ r ≡ alike (sha256 (part (now (s .entry)) (at + 40) (head - 40))) (part (now (s .entry)) (at + 8) 32) ⌝ }
+{
+    let from = at + 40;
+    let end = at + head;
+    let d = sha256::digest(&s[from..end]);
+    octets::same(&d, 0, s, at + 8, 32)
+}
 
 // Refusal 6: the two hash checks, for a node, of the record at `at`.
 pub fn hashes_ok(p: Plan, node: u64, s: &[u8], at: usize) -> bool
     requires { ⌜ (planOk p ≡ true) × (at + recordLength p ≤ length (now s)) × (node < p .n) ⌝ }
     ensures { λ r. ⌜ r ≡ hashesOk p node (part (now (s .entry)) at (recordLength p)) ⌝ }
 {
-    let cross = at + 40;
-    let from = cross + 32 * (p.n as usize);
-    let end = from + p.f as usize;
-    let entry = cross + 32 * (node as usize);
-    if !sha256::matches(&s[..0], &s[cross..from], s, at + 8) {
+    let slots = terms::slots_of(p);
+    let head = slots.head;
+    let from = at + head;
+    let end = at + slots.size;
+    let entry = at + 40 + 32 * (node as usize);
+    if !verifier_ok(s, at, head) {
         return false;
     }
-    sha256::matches(&s[..0], &s[from..end], s, entry)
+    entry_ok(p, node as usize, &s[from..end], s, entry)
 }
 
 // Refusal 5: whether the time at `at`, where a record or a bound starts, is 0.
@@ -38,36 +90,23 @@ pub fn time_zero(s: &[u8], at: usize) -> bool
     octets::get(s, at, 8) == 0
 }
 
-// The hash of the f bytes at `from`, as an entry of a cross checksum, into out at `at`.
-fn entry(s: &[u8], from: usize, f: usize, out: &mut [u8], at: usize)
-    requires { ⌜ (from + f ≤ length (now s)) × (f ≤ 1024) × (at + 32 ≤ length (now out)) ⌝ }
-    ensures { λ _. ⌜ now (out .exit) ≡ put (now (out .entry)) at (fragmentHash [] (part (now (s .entry)) from f)) ⌝ }
-{
-    let end = from + f;
-    sha256::digest_into(&s[..0], &s[from..end], out, at);
-}
-
-// The hashes of n fragments of f bytes, fragment k at first + k * stride, into out from `at` on.
-fn entries(s: &[u8], first: usize, stride: usize, f: usize, n: usize, out: &mut [u8], at: usize)
-    requires { ⌜ (n ≤ 16) × (f ≤ 1024) × (at + 32 * n ≤ length (now out)) × ((k : ℕ) → k < n → first + k * stride + f ≤ length (now s)) ⌝ }
-    ensures { λ _. ⌜ now (out .exit) ≡ put (now (out .entry)) at (crossMade (λ k. part (now (s .entry)) (first + k * stride) f) n) ⌝ }
-{
-    let mut k: usize = 0;
-    while k < n {
-        entry(s, first + k * stride, f, out, at + 32 * k);
-        k += 1;
-    }
-}
-
 // The cross checksum of the N fragments in the slots of a desk, into out at `at`.
 pub fn cross(p: Plan, desk: &[u8], out: &mut [u8], at: usize)
     requires { ⌜ (planOk p ≡ true) × (length (now desk) ≡ p .n * recordLength p) × (at + 32 * p .n ≤ length (now out)) ⌝ }
-    ensures { λ _. ⌜ now (out .exit) ≡ put (now (out .entry)) at (crossMade (fragmentIn p (now (desk .entry))) (p .n)) ⌝ }
+    ensures { λ _. ⌜ now (out .exit) ≡ put (now (out .entry)) at (crossMade p (fragmentIn p (now (desk .entry))) (p .n)) ⌝ }
 {
-    let r = terms::record_length(p);
-    let n = p.n as usize;
-    let f = p.f as usize;
-    entries(desk, 40 + 32 * n, r, f, n, out, at);
+    let slots = terms::slots_of(p);
+    let n = slots.n;
+    let head = slots.head;
+    let size = slots.size;
+    let f = slots.fragment;
+    let mut k: usize = 0;
+    while k < n {
+        let from = head + k * size;
+        let end = from + f;
+        entry(p, k, &desk[from..end], out, at + 32 * k);
+        k += 1;
+    }
 }
 
 // Writing: the timestamp of a time and the cross checksum at `at`, whose hash is its verifier.
@@ -89,14 +128,14 @@ pub fn stamp_of(p: Plan, time: Time, cross: &[u8], at: usize) -> Timestamp
     }
 }
 
-// Each of n slots of r bytes gets the first h bytes of slot a; the other f of each stay.
-fn heads(desk: &mut [u8], a: usize, h: usize, f: usize, r: usize, n: usize)
-    requires { ⌜ (h + f ≡ r) × (length (now desk) ≡ n * r) × (a < n) ⌝ }
-    ensures { λ _. ⌜ now (desk .exit) ≡ deskOf (part (now (desk .entry)) (a * r) h) [] (λ k. part (now (desk .entry)) (k * r + h) f) n ⌝ }
+// Each slot gets the head of slot a; its fragment stays.
+fn heads(desk: &mut [u8], slots: Slots, a: usize)
+    requires { ⌜ (slots .size ≡ slots .head + slots .fragment) × (length (now desk) ≡ slots .n * slots .size) × (a < slots .n) ⌝ }
+    ensures { λ _. ⌜ now (desk .exit) ≡ deskOf (part (now (desk .entry)) (a * slots .size) (slots .head)) [] (λ k. part (now (desk .entry)) (fragmentAt slots k) (slots .fragment)) (slots .n) ⌝ }
 {
     let mut k: usize = 0;
-    while k < n {
-        octets::within(desk, a * r, h, k * r);
+    while k < slots.n {
+        octets::within(desk, a * slots.size, slots.head, k * slots.size);
         k += 1;
     }
 }
@@ -106,10 +145,8 @@ pub fn spread(p: Plan, desk: &mut [u8], a: usize)
     requires { ⌜ (planOk p ≡ true) × (length (now desk) ≡ p .n * recordLength p) × (a < p .n) ⌝ }
     ensures { λ _. ⌜ now (desk .exit) ≡ deskOf (stampOf (slotOf p (now (desk .entry)) a)) (crossOf p (slotOf p (now (desk .entry)) a)) (fragmentIn p (now (desk .entry))) (p .n) ⌝ }
 {
-    let r = terms::record_length(p);
-    let n = p.n as usize;
-    let f = p.f as usize;
-    heads(desk, a, 40 + 32 * n, f, r, n);
+    let slots = terms::slots_of(p);
+    heads(desk, slots, a);
 }
 
 // Writing: every slot gets this timestamp and the cross checksum at `at` of another buffer, beside the fragment that it holds.

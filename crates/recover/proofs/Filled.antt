@@ -18,6 +18,8 @@ use lib.ListN.{length, getD, length-append}
 use Rattle.octets.specs.Bytes.{part, put}
 use Rattle.octets.proofs.Laws.{length-part, length-put, part-part, part-put-same, part-put-before, part-put-after, slot-room, slot-fits}
 use Rattle.octets.proofs.Meaning.{getD-part, part-add}
+use Rattle.terms.specs.declared.Slots.{Slots}
+use Rattle.terms.specs.Terms.{slotAt, fragmentAt}
 use Rattle.fragments.specs.Fragments.{All, among, tabulate, value, regenerated, Sources}
 use Rattle.fragments.proofs.Lists.{tabulate-ext, all-at}
 use Rattle.fragments.proofs.Interp.{all-map, value-ext}
@@ -55,60 +57,60 @@ slot-part : (d e : List ℕ) (r k at n y : ℕ) → y ≡ k * r + at → part e 
 slot-part d e r k at n y w s u =
     rw w (sym (part-part e (k * r) r at n u) ∙ ap (λ (l : List ℕ). part l at n) s ∙ part-part d (k * r) r at n u)
 
-module _ (d : List ℕ) (h r f : ℕ) (qs : List ℕ) (a n : ℕ) (sz : h + f ≡ r) (room : n * r ≤ length d) (below : All (λ (q : ℕ). q < n) qs)
-    (lead : among a qs ≡ true) where
+module _ (d : List ℕ) (slots : Slots) (qs : List ℕ) (a n : ℕ) (sz : slots .size ≡ slots .head + slots .fragment) (room : n * slots .size ≤ length d)
+    (below : All (λ (q : ℕ). q < n) qs) (lead : among a qs ≡ true) where
   source-low : (k : ℕ) → among k qs ≡ true → k < n
   source-low k s = among-all (λ (q : ℕ). q < n) k qs (all-at (λ (q : ℕ). q < n) qs below) s
 
-  within : Sources d h r f qs
-  within k l = let y = slot-room (getD qs k 0) n r (length d) (all-at (λ (q : ℕ). q < n) qs below k l) room in omega (arith, y)
+  within : Sources d slots qs
+  within k l = let y = slot-room (getD qs k 0) n (slots .size) (length d) (all-at (λ (q : ℕ). q < n) qs below k l) room in omega (arith, y)
 
-  record-long : (k : ℕ) → length (recordFrom d h r f qs a k) ≡ r
+  record-long : (k : ℕ) → length (recordFrom d slots qs a k) ≡ slots .size
   record-long k =
-      let y = slot-room a n r (length d) (source-low a lead) room in
-      length-append (part d (a * r) h) (regenerated d h r f qs k)
-      ∙ ap₂ _+_ (length-part d (a * r) h (omega (arith, y))) (length-regenerated d h r f qs k within) ∙ sz
+      let y = slot-room a n (slots .size) (length d) (source-low a lead) room in
+      length-append (part d (slotAt slots a) (slots .head)) (regenerated d slots qs k)
+      ∙ ap₂ _+_ (length-part d (slotAt slots a) (slots .head) (omega (arith, y))) (length-regenerated d slots qs k within) ∙ sym sz
 
   -- a record is made of the sources' slots alone
-  module _ (e : List ℕ) (kept : (q : ℕ) → among q qs ≡ true → part e (q * r) r ≡ part d (q * r) r) where
-    same-fragment : (k : ℕ) → regenerated e h r f qs k ≡ regenerated d h r f qs k
+  module _ (e : List ℕ) (kept : (q : ℕ) → among q qs ≡ true → part e (slotAt slots q) (slots .size) ≡ part d (slotAt slots q) (slots .size)) where
+    same-fragment : (k : ℕ) → regenerated e slots qs k ≡ regenerated d slots qs k
     same-fragment k = unfold regenerated in go (among k qs) refl
       where
-        byte : (i : ℕ) → i < f → (q : ℕ) → part e (q * r) r ≡ part d (q * r) r → getD e (h + q * r + i) 0 ≡ getD d (h + q * r + i) 0
+        byte : (i : ℕ) → i < slots .fragment → (q : ℕ) → part e (slotAt slots q) (slots .size) ≡ part d (slotAt slots q) (slots .size) → getD e (fragmentAt slots q + i) 0 ≡ getD d (fragmentAt slots q + i) 0
         byte i u q s =
-            let z : h + q * r + i ≡ q * r + (h + i) = omega arith in
-            rw z (sym (getD-part e (q * r) r (h + i) (omega arith)) ∙ ap (λ (l : List ℕ). getD l (h + i) 0) s ∙ getD-part d (q * r) r (h + i) (omega arith))
+            let z : fragmentAt slots q + i ≡ slotAt slots q + (slots .head + i) = omega arith in
+            rw z (sym (getD-part e (slotAt slots q) (slots .size) (slots .head + i) (omega arith)) ∙ ap (λ (l : List ℕ). getD l (slots .head + i) 0) s ∙ getD-part d (slotAt slots q) (slots .size) (slots .head + i) (omega arith))
 
         go : (t : Bool) → among k qs ≡ t
-            → cond t (part e (h + k * r) f) (tabulate f (λ i. value qs (λ p. getD e (h + p * r + i) 0) k))
-            ≡ cond t (part d (h + k * r) f) (tabulate f (λ i. value qs (λ p. getD d (h + p * r + i) 0) k))
-        go true s = slot-part d e r k h f (h + k * r) (omega arith) (kept k s) (omega arith)
+            → cond t (part e (fragmentAt slots k) (slots .fragment)) (tabulate (slots .fragment) (λ i. value qs (λ p. getD e (fragmentAt slots p + i) 0) k))
+            ≡ cond t (part d (fragmentAt slots k) (slots .fragment)) (tabulate (slots .fragment) (λ i. value qs (λ p. getD d (fragmentAt slots p + i) 0) k))
+        go true s = slot-part d e (slots .size) k (slots .head) (slots .fragment) (fragmentAt slots k) (omega arith) (kept k s) (omega arith)
         go false s =
-            tabulate-ext f (λ i. value qs (λ p. getD e (h + p * r + i) 0) k) (λ i. value qs (λ p. getD d (h + p * r + i) 0) k)
-            (λ i u. value-ext qs (λ p. getD e (h + p * r + i) 0) (λ p. getD d (h + p * r + i) 0) k
-            (all-map (λ q z. byte i u q z) qs (each-source (λ (q : ℕ). part e (q * r) r ≡ part d (q * r) r) qs kept)))
+            tabulate-ext (slots .fragment) (λ i. value qs (λ p. getD e (fragmentAt slots p + i) 0) k) (λ i. value qs (λ p. getD d (fragmentAt slots p + i) 0) k)
+            (λ i u. value-ext qs (λ p. getD e (fragmentAt slots p + i) 0) (λ p. getD d (fragmentAt slots p + i) 0) k
+            (all-map (λ q z. byte i u q z) qs (each-source (λ (q : ℕ). part e (slotAt slots q) (slots .size) ≡ part d (slotAt slots q) (slots .size)) qs kept)))
 
-    same-record : (k : ℕ) → recordFrom e h r f qs a k ≡ recordFrom d h r f qs a k
-    same-record k = ap₂ _++_ (slot-part d e r a 0 h (a * r) (omega arith) (kept a lead) (omega arith)) (same-fragment k)
+    same-record : (k : ℕ) → recordFrom e slots qs a k ≡ recordFrom d slots qs a k
+    same-record k = ap₂ _++_ (slot-part d e (slots .size) a 0 (slots .head) (slotAt slots a) (omega arith) (kept a lead) (omega arith)) (same-fragment k)
 
   -- slot k as it is to be
   abbrev made : ℕ → List ℕ
-  made k = cond (among k qs) (part d (k * r) r) (recordFrom d h r f qs a k)
+  made k = cond (among k qs) (part d (slotAt slots k) (slots .size)) (recordFrom d slots qs a k)
 
   -- the desk with j slots done: those below j as they are to be, the others as they were
   record Upto (e : List ℕ) (j : ℕ) : Type 0 where
     long : length e ≡ length d
-    slots-done : (k : ℕ) → k < j → part e (k * r) r ≡ made k
-    slots-left : (k : ℕ) → j ≤ k → k < n → part e (k * r) r ≡ part d (k * r) r
+    slots-done : (k : ℕ) → k < j → part e (slotAt slots k) (slots .size) ≡ made k
+    slots-left : (k : ℕ) → j ≤ k → k < n → part e (slotAt slots k) (slots .size) ≡ part d (slotAt slots k) (slots .size)
 
-  kept-so-far : (e : List ℕ) (j : ℕ) → Upto e j → (k : ℕ) → among k qs ≡ true → part e (k * r) r ≡ part d (k * r) r
+  kept-so-far : (e : List ℕ) (j : ℕ) → Upto e j → (k : ℕ) → among k qs ≡ true → part e (slotAt slots k) (slots .size) ≡ part d (slotAt slots k) (slots .size)
   kept-so-far e j u k s = side (ltb k j) refl
     where
-      side : (t : Bool) → ltb k j ≡ t → part e (k * r) r ≡ part d (k * r) r
+      side : (t : Bool) → ltb k j ≡ t → part e (slotAt slots k) (slots .size) ≡ part d (slotAt slots k) (slots .size)
       side true w = u .slots-done k (ltb-true k j w) ∙ rw s
       side false w = u .slots-left k (ltb-false k j w) (source-low k s)
 
-  step : (e : List ℕ) (j : ℕ) → j < n → Upto e j → (t : Bool) → among j qs ≡ t → Upto (cond t e (put e (j * r) (recordFrom e h r f qs a j))) (suc j)
+  step : (e : List ℕ) (j : ℕ) → j < n → Upto e j → (t : Bool) → among j qs ≡ t → Upto (cond t e (put e (slotAt slots j) (recordFrom e slots qs a j))) (suc j)
   step e j jn u true s =
       record {
         long = u .long;
@@ -116,61 +118,61 @@ module _ (d : List ℕ) (h r f : ℕ) (qs : List ℕ) (a n : ℕ) (sz : h + f �
         slots-left = λ k l kn. u .slots-left k (omega arith) kn;
       }
     where
-      at : (k : ℕ) → k < suc j → Dec (k ≡ j) → part e (k * r) r ≡ made k
+      at : (k : ℕ) → k < suc j → Dec (k ≡ j) → part e (slotAt slots k) (slots .size) ≡ made k
       at k l (yes q) = rw (q, s) (u .slots-left j (omega arith) jn)
       at k l (no q) = u .slots-done k (omega arith)
   step e j jn u false s =
       record {
-        long = length-put e (j * r) x (omega (arith, u .long, lx, fits)) ∙ u .long;
+        long = length-put e (slotAt slots j) x (omega (arith, u .long, lx, fits)) ∙ u .long;
         slots-done = λ k l. at k l (ℕ-discrete k j);
         slots-left = λ k l kn. other k (λ q. omega arith) ∙ u .slots-left k (omega arith) kn;
       }
     where
       x : List ℕ
-      x = recordFrom e h r f qs a j
+      x = recordFrom e slots qs a j
 
-      ex : x ≡ recordFrom d h r f qs a j
+      ex : x ≡ recordFrom d slots qs a j
       ex = same-record e (kept-so-far e j u) j
 
-      lx : length x ≡ r
+      lx : length x ≡ slots .size
       lx = ap length ex ∙ record-long j
 
-      fits : j * r + r ≤ length e
-      fits = let y = slot-room j n r (length d) jn room in omega (arith, y, u .long)
+      fits : slotAt slots j + slots .size ≤ length e
+      fits = let y = slot-room j n (slots .size) (length d) jn room in omega (arith, y, u .long)
 
-      other : (k : ℕ) → (k ≡ j → ⊥) → part (put e (j * r) x) (k * r) r ≡ part e (k * r) r
+      other : (k : ℕ) → (k ≡ j → ⊥) → part (put e (slotAt slots j) x) (slotAt slots k) (slots .size) ≡ part e (slotAt slots k) (slots .size)
       other k ne =
-          let z : k * r ≡ k * r + 0 = omega arith in
-          ap (λ (y : ℕ). part (put e (j * r) x) y r) z ∙ slot-stays e x r j k lx fits ne 0 r (omega arith) ∙ ap (λ (y : ℕ). part e y r) (sym z)
+          let z : slotAt slots k ≡ slotAt slots k + 0 = omega arith in
+          ap (λ (y : ℕ). part (put e (slotAt slots j) x) y (slots .size)) z ∙ slot-stays e x (slots .size) j k lx fits ne 0 (slots .size) (omega arith) ∙ ap (λ (y : ℕ). part e y (slots .size)) (sym z)
 
-      at : (k : ℕ) → k < suc j → Dec (k ≡ j) → part (put e (j * r) x) (k * r) r ≡ made k
-      at k l (yes q) = rw (q, s) (part-put-same e (j * r) x r lx (omega (arith, fits)) ∙ ex)
+      at : (k : ℕ) → k < suc j → Dec (k ≡ j) → part (put e (slotAt slots j) x) (slotAt slots k) (slots .size) ≡ made k
+      at k l (yes q) = rw (q, s) (part-put-same e (slotAt slots j) x (slots .size) lx (omega (arith, fits)) ∙ ex)
       at k l (no q) = other k q ∙ u .slots-done k (omega arith)
 
-  upto : (j : ℕ) → j ≤ n → Upto (refilled d h r f qs a j) j
+  upto : (j : ℕ) → j ≤ n → Upto (refilled d slots qs a j) j
   unfolding refilled slotFilled
   upto zero l = record { long = refl; slots-done = λ k u. absurd (omega arith); slots-left = λ k u kn. refl }
-  upto (suc j) l = step (refilled d h r f qs a j) j l (upto j (omega arith)) (among j qs) refl
+  upto (suc j) l = step (refilled d slots qs a j) j l (upto j (omega arith)) (among j qs) refl
 
-  pub length-filled : length (refilled d h r f qs a n) ≡ length d
+  pub length-filled : length (refilled d slots qs a n) ≡ length d
   length-filled = upto n (omega arith) .long
 
   pub filled-slot : (k : ℕ) → k < n
-      → part (refilled d h r f qs a n) (k * r) r ≡ cond (among k qs) (part d (k * r) r) (recordFrom d h r f qs a k)
+      → part (refilled d slots qs a n) (slotAt slots k) (slots .size) ≡ cond (among k qs) (part d (slotAt slots k) (slots .size)) (recordFrom d slots qs a k)
   filled-slot k l = upto n (omega arith) .slots-done k l
 
   -- a source's slot is its record already, where its head is the lead's
-  pub filled-record : All (λ (q : ℕ). part d (q * r) h ≡ part d (a * r) h) qs → (k : ℕ) → k < n
-      → part (refilled d h r f qs a n) (k * r) r ≡ recordFrom d h r f qs a k
+  pub filled-record : All (λ (q : ℕ). part d (slotAt slots q) (slots .head) ≡ part d (slotAt slots a) (slots .head)) qs → (k : ℕ) → k < n
+      → part (refilled d slots qs a n) (slotAt slots k) (slots .size) ≡ recordFrom d slots qs a k
   filled-record heads k l = filled-slot k l ∙ go (among k qs) refl
     where
-      own : among k qs ≡ true → part d (k * r) r ≡ recordFrom d h r f qs a k
+      own : among k qs ≡ true → part d (slotAt slots k) (slots .size) ≡ recordFrom d slots qs a k
       own s =
-          let z : k * r + h ≡ h + k * r = omega arith in
-          ap (part d (k * r)) (sym sz) ∙ part-add d (k * r) h f
-          ∙ ap₂ _++_ (among-all (λ (q : ℕ). part d (q * r) h ≡ part d (a * r) h) k qs (all-at (λ (q : ℕ). part d (q * r) h ≡ part d (a * r) h) qs heads) s)
-          (ap (λ (y : ℕ). part d y f) z ∙ unfold regenerated in rw s)
+          let z : slotAt slots k + slots .head ≡ fragmentAt slots k = omega arith in
+          ap (part d (slotAt slots k)) sz ∙ part-add d (slotAt slots k) (slots .head) (slots .fragment)
+          ∙ ap₂ _++_ (among-all (λ (q : ℕ). part d (slotAt slots q) (slots .head) ≡ part d (slotAt slots a) (slots .head)) k qs (all-at (λ (q : ℕ). part d (slotAt slots q) (slots .head) ≡ part d (slotAt slots a) (slots .head)) qs heads) s)
+          (ap (λ (y : ℕ). part d y (slots .fragment)) z ∙ unfold regenerated in rw s)
 
-      go : (t : Bool) → among k qs ≡ t → cond t (part d (k * r) r) (recordFrom d h r f qs a k) ≡ recordFrom d h r f qs a k
+      go : (t : Bool) → among k qs ≡ t → cond t (part d (slotAt slots k) (slots .size)) (recordFrom d slots qs a k) ≡ recordFrom d slots qs a k
       go true s = own s
       go false s = refl

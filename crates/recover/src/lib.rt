@@ -1,53 +1,38 @@
-// Fragments of one set: validated, and written back into all slots of the desk. The sources lie in their slots and stay there, so that
-// every other fragment can be made from them in place, by way of one scratch fragment. Decoding is `fragments::decode`, and
-// after a repair round `fragments::collect`.
+// What a client does with an item and its records: the set of a close validated, decoded, and written back into all slots of the desk; the
+// item read from a desk so filled; and all N records of an item made. The sources lie in their slots and stay there, so that every other
+// fragment can be made from them in place, by way of one scratch fragment.
 ghost use mathlib.Core.Path.{_≡_};
-ghost use mathlib.Core.List.{[]};
-ghost use Prim.Native.Nat.{_+_, _*_, _≤_, _<_};
+ghost use mathlib.Core.Bool.{true};
+ghost use mathlib.Core.List.{_++_};
+ghost use Prim.Native.Nat.{ℕ, _+_, _*_, _≤_, _<_};
 ghost use lib.ListN.{length};
-ghost use Rattle.octets.specs.Bytes.{part, put, alike};
-ghost use Rattle.fragments.specs.Fragments.{Sources, regenerated};
-ghost use Rattle.record.specs.Record.{fragmentHash};
-ghost use Rattle.recover.specs.Recover.{validates, recordFrom, slotFilled, refilled};
+ghost use Rattle.octets.specs.Bytes.{part, put};
+ghost use Rattle.terms.specs.Terms.{planOk, recordLength, slotsOf, slotAt};
+ghost use Rattle.fragments.specs.Fragments.{Sources};
+ghost use Rattle.rounds.specs.Rounds.{told};
+ghost use Rattle.recover.specs.Recover.{validates, slotFilled, refilled, sound, decoded, collected, repaired, Usable};
+ghost use Rattle.recover.specs.Records.{stampFor, recordsFor};
+use rounds::Close;
+use terms::Clients;
+use terms::Plan;
+use terms::Slots;
+use terms::Time;
+use terms::Timestamp;
 
-// Whether fragment i, regenerated into scratch, has the hash that entry i of the cross checksum in slot a is.
-fn proves(
-    desk: &[u8],
-    h: usize,
-    r: usize,
-    f: usize,
-    qs: &[u8],
-    a: usize,
-    i: usize,
-    scratch: &mut [u8],
-) -> bool
-    requires { ⌜ (Sources (now desk) h r f (now qs)) × (f ≤ 1024) × (length (now scratch) ≡ f) × (i < 16)
-        × (a * r + 40 + 32 * i + 32 ≤ length (now desk)) ⌝ }
-    ensures { λ x. ⌜ x ≡ alike (fragmentHash [] (regenerated (now (desk .entry)) h r f (now (qs .entry)) i)) (part (now (desk .entry)) (a * r + 40 + 32 * i) 32) ⌝ }
+// Validation, each fragment computed into scratch and hashed once: its hash is its entry of the cross checksum in slot a.
+fn valid(p: Plan, desk: &[u8], qs: &[u8], a: usize, scratch: &mut [u8]) -> bool
+    requires { ⌜ (planOk p ≡ true) × (Sources (now desk) (slotsOf p) (now qs)) × (length (now scratch) ≡ p .f)
+        × (slotAt (slotsOf p) a + slotsOf p .head ≤ length (now desk)) ⌝ }
+    ensures { λ x. ⌜ x ≡ validates p (now (desk .entry)) (now (qs .entry)) a ⌝ }
 {
-    let at = a * r + 40 + 32 * i;
-    fragments::regenerate(desk, h, r, f, qs, i as u8, scratch, 0);
-    sha256::matches(&desk[..0], scratch, desk, at)
-}
-
-// Validation, each fragment computed and hashed once.
-fn valid(
-    desk: &[u8],
-    h: usize,
-    r: usize,
-    f: usize,
-    qs: &[u8],
-    a: usize,
-    n: usize,
-    scratch: &mut [u8],
-) -> bool
-    requires { ⌜ (Sources (now desk) h r f (now qs)) × (f ≤ 1024) × (length (now scratch) ≡ f) × (n ≤ 16)
-        × (a * r + 40 + 32 * n ≤ length (now desk)) ⌝ }
-    ensures { λ x. ⌜ x ≡ validates (now (desk .entry)) h r f (now (qs .entry)) a n ⌝ }
-{
+    let slots = terms::slots_of(p);
+    let n = slots.n;
+    let size = slots.size;
+    let at = a * size + 40;
     let mut i: usize = 0;
     while i < n {
-        if !proves(desk, h, r, f, qs, a, i, scratch) {
+        fragments::regenerate(desk, slots, qs, i as u8, scratch);
+        if !record::entry_ok(p, i, scratch, desk, at + 32 * i) {
             return false;
         }
         i += 1;
@@ -55,84 +40,127 @@ fn valid(
     true
 }
 
-// Slot k gets the timestamp and the cross checksum of slot a, and its own fragment.
-fn write_slot(
-    desk: &mut [u8],
-    h: usize,
-    r: usize,
-    f: usize,
-    qs: &[u8],
-    a: usize,
-    k: usize,
-    scratch: &mut [u8],
-)
-    requires { ⌜ (Sources (now desk) h r f (now qs)) × (length (now scratch) ≡ f) × (h + f ≡ r) × (k < 16)
-        × (k * r + r ≤ length (now desk)) × (a * r + r ≤ length (now desk)) ⌝ }
-    ensures { λ _. ⌜ now (desk .exit) ≡ put (now (desk .entry)) (k * r) (recordFrom (now (desk .entry)) h r f (now (qs .entry)) a k) ⌝ }
+// Slot k gets the head of slot a, and a fragment.
+fn write_slot(desk: &mut [u8], slots: Slots, a: usize, k: usize, fragment: &[u8])
+    requires { ⌜ (length (now fragment) ≡ slots .fragment) × (slots .size ≡ slots .head + slots .fragment)
+        × (slotAt slots k + slots .size ≤ length (now desk)) × (slotAt slots a + slots .size ≤ length (now desk)) ⌝ }
+    ensures { λ _. ⌜ now (desk .exit) ≡ put (now (desk .entry)) (slotAt slots k) (part (now (desk .entry)) (slotAt slots a) (slots .head) ++ now (fragment .entry)) ⌝ }
 {
+    let h = slots.head;
+    let r = slots.size;
+    let f = slots.fragment;
     let at = k * r;
-    fragments::regenerate(&desk[..], h, r, f, qs, k as u8, scratch, 0);
-    octets::copy(scratch, 0, f, desk, at + h);
+    octets::copy(fragment, 0, f, desk, at + h);
     octets::within(desk, a * r, h, at);
 }
 
-// The slot of a source stays.
-fn fill_slot(
-    desk: &mut [u8],
-    h: usize,
-    r: usize,
-    f: usize,
-    qs: &[u8],
-    a: usize,
-    k: usize,
-    scratch: &mut [u8],
-)
-    requires { ⌜ (Sources (now desk) h r f (now qs)) × (length (now scratch) ≡ f) × (h + f ≡ r) × (k < 16)
-        × (k * r + r ≤ length (now desk)) × (a * r + r ≤ length (now desk)) ⌝ }
-    ensures { λ _. ⌜ now (desk .exit) ≡ slotFilled (now (desk .entry)) h r f (now (qs .entry)) a k ⌝ }
+// Slot k gets its record of the set of slot a; the slot of a source stays.
+fn fill_slot(desk: &mut [u8], slots: Slots, qs: &[u8], a: usize, k: usize, scratch: &mut [u8])
+    requires { ⌜ (Sources (now desk) slots (now qs)) × (length (now scratch) ≡ slots .fragment) × (slots .size ≡ slots .head + slots .fragment) × (k < 16)
+        × (slotAt slots k + slots .size ≤ length (now desk)) × (slotAt slots a + slots .size ≤ length (now desk)) ⌝ }
+    ensures { λ _. ⌜ now (desk .exit) ≡ slotFilled (now (desk .entry)) slots (now (qs .entry)) a k ⌝ }
 {
     if fragments::is_among(qs, k as u8) {
         return;
     }
-    write_slot(desk, h, r, f, qs, a, k, scratch);
+    fragments::regenerate(&desk[..], slots, qs, k as u8, scratch);
+    write_slot(desk, slots, a, k, scratch);
 }
 
-// All n slots, in place.
-fn refill(
-    desk: &mut [u8],
-    h: usize,
-    r: usize,
-    f: usize,
-    qs: &[u8],
-    a: usize,
-    n: usize,
-    scratch: &mut [u8],
-)
-    requires { ⌜ (Sources (now desk) h r f (now qs)) × (length (now scratch) ≡ f) × (h + f ≡ r) × (n ≤ 16)
-        × (n * r ≤ length (now desk)) × (a < n) ⌝ }
-    ensures { λ _. ⌜ now (desk .exit) ≡ refilled (now (desk .entry)) h r f (now (qs .entry)) a n ⌝ }
+// All slots, in place.
+fn refill(desk: &mut [u8], slots: Slots, qs: &[u8], a: usize, scratch: &mut [u8])
+    requires { ⌜ (Sources (now desk) slots (now qs)) × (length (now scratch) ≡ slots .fragment) × (slots .size ≡ slots .head + slots .fragment) × (slots .n ≤ 16)
+        × (slots .n * slots .size ≤ length (now desk)) × (a < slots .n) ⌝ }
+    ensures { λ _. ⌜ now (desk .exit) ≡ refilled (now (desk .entry)) slots (now (qs .entry)) a (slots .n) ⌝ }
 {
+    let n = slots.n;
     let mut k: usize = 0;
     while k < n {
-        fill_slot(desk, h, r, f, qs, a, k, scratch);
+        fill_slot(desk, slots, qs, a, k, scratch);
         k += 1;
     }
 }
 
 // Whether the set of slot a validates, with room of its own for one fragment.
-pub fn validated(desk: &[u8], h: usize, r: usize, f: usize, qs: &[u8], a: usize, n: usize) -> bool
-    requires { ⌜ (Sources (now desk) h r f (now qs)) × (f ≤ 1024) × (n ≤ 16) × (a * r + 40 + 32 * n ≤ length (now desk)) ⌝ }
-    ensures { λ x. ⌜ x ≡ validates (now (desk .entry)) h r f (now (qs .entry)) a n ⌝ }
+fn validated(p: Plan, desk: &[u8], qs: &[u8], a: usize) -> bool
+    requires { ⌜ (planOk p ≡ true) × (Sources (now desk) (slotsOf p) (now qs)) × (slotAt (slotsOf p) a + slotsOf p .head ≤ length (now desk)) ⌝ }
+    ensures { λ x. ⌜ x ≡ validates p (now (desk .entry)) (now (qs .entry)) a ⌝ }
 {
+    let f = p.f as usize;
     let mut scratch = [0u8; 1024];
-    valid(desk, h, r, f, qs, a, n, &mut scratch[..f])
+    valid(p, desk, qs, a, &mut scratch[..f])
 }
 
-// The desk filled with all n records of the set of slot a, with room of its own for one fragment.
-pub fn mend(desk: &mut [u8], h: usize, r: usize, f: usize, qs: &[u8], a: usize, n: usize)
-    requires { ⌜ (Sources (now desk) h r f (now qs)) × (f ≤ 1024) × (h + f ≡ r) × (n ≤ 16) × (n * r ≤ length (now desk)) × (a < n) ⌝ }
-    ensures { λ _. ⌜ now (desk .exit) ≡ refilled (now (desk .entry)) h r f (now (qs .entry)) a n ⌝ }
+// The desk filled with all records of the set of slot a, with room of its own for one fragment.
+fn mend(desk: &mut [u8], slots: Slots, qs: &[u8], a: usize)
+    requires { ⌜ (Sources (now desk) slots (now qs)) × (slots .fragment ≤ 1024) × (slots .size ≡ slots .head + slots .fragment) × (slots .n ≤ 16)
+        × (slots .n * slots .size ≤ length (now desk)) × (a < slots .n) ⌝ }
+    ensures { λ _. ⌜ now (desk .exit) ≡ refilled (now (desk .entry)) slots (now (qs .entry)) a (slots .n) ⌝ }
 {
+    let f = slots.fragment;
     let mut scratch = [0u8; 1024];
-    refill(desk, h, r, f, qs, a, n, &mut scratch[..f]);
+    refill(desk, slots, qs, a, &mut scratch[..f]);
+}
+
+// Validation: the clients of the plan are trusted, or the cross checksum agrees.
+pub fn validate(p: Plan, c: Close, a: usize, desk: &[u8]) -> bool
+    requires { ⌜ Usable p c a (now desk) ⌝ }
+    ensures { λ r. ⌜ r ≡ sound p (told c) a (now (desk .entry)) ⌝ }
+{
+    let k = p.clients;
+    match k {
+        Clients::Crash => true,
+        Clients::Byzantine => {
+            let m = p.m as usize;
+            let set = c.set;
+            let nodes = set.nodes;
+            validated(p, desk, &nodes[..m], a)
+        }
+    }
+}
+
+// The item, from the m lowest-numbered of the set.
+pub fn decode(p: Plan, c: Close, a: usize, desk: &[u8], item: &mut [u8])
+    requires { ⌜ (Usable p c a (now desk)) × (length (now item) ≡ p .m * p .f) ⌝ }
+    ensures { λ _. ⌜ now (item .exit) ≡ decoded p (told c) (now (desk .entry)) (now (item .entry)) ⌝ }
+{
+    let slots = terms::slots_of(p);
+    let m = p.m as usize;
+    let set = c.set;
+    let nodes = set.nodes;
+    fragments::decode(desk, slots, &nodes[..m], m, item);
+}
+
+// All N records of the set, in place.
+pub fn repair(p: Plan, c: Close, a: usize, desk: &mut [u8])
+    requires { ⌜ Usable p c a (now desk) ⌝ }
+    ensures { λ _. ⌜ now (desk .exit) ≡ repaired p (told c) a (now (desk .entry)) ⌝ }
+{
+    let slots = terms::slots_of(p);
+    let m = p.m as usize;
+    let set = c.set;
+    let nodes = set.nodes;
+    mend(desk, slots, &nodes[..m], a);
+}
+
+// The item from the desk's first m slots, after a repair round.
+pub fn collect(p: Plan, desk: &[u8], item: &mut [u8])
+    requires { ⌜ (planOk p ≡ true) × (length (now desk) ≡ p .n * recordLength p) × (length (now item) ≡ p .m * p .f) ⌝ }
+    ensures { λ _. ⌜ now (item .exit) ≡ collected p (now (desk .entry)) (now (item .entry)) ⌝ }
+{
+    let slots = terms::slots_of(p);
+    fragments::collect(desk, slots, p.m as usize, item);
+}
+
+// All N records of an item at a time, into the desk, by way of a cross checksum; their timestamp.
+pub fn write_records(p: Plan, at: Time, item: &[u8], desk: &mut [u8], cross: &mut [u8]) -> Timestamp
+    requires { ⌜ (planOk p ≡ true) × (length (now item) ≡ p .m * p .f) × (length (now desk) ≡ p .n * recordLength p) × (512 ≤ length (now cross)) ⌝ }
+    ensures { λ r. ⌜ (r ≡ stampFor p (at .0) (now (item .entry))) × (now (desk .exit) ≡ recordsFor p (at .0) (now (item .entry))) ⌝ }
+{
+    let slots = terms::slots_of(p);
+    fragments::encode(item, p.m as usize, desk, slots);
+    record::cross(p, &desk[..], cross, 0);
+    let t = record::stamp_of(p, at, &cross[..], 0);
+    record::fill(p, t, &cross[..], 0, desk);
+    t
 }

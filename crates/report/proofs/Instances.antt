@@ -23,7 +23,7 @@ use Rattle.record.specs.Record.{fragmentHash, hashesOk, timeZero}
 use Rattle.record.specs.Desk.{row, crossMade}
 use Rattle.rounds.specs.declared.Bound.the-variants.{Free}
 use Rattle.rounds.specs.Rounds.{heardCount, every, slotStamp, slotsFit, slotFits, underOf, leadOf, stepOf, aheadOf, joinsOf, setOf, closeWith}
-use Rattle.recover.specs.Recover.{validates}
+use Rattle.recover.specs.Recover.{validates, sound}
 use Rattle.session.specs.declared.Answer.the-variants.{Done, Open}
 use Rattle.session.specs.declared.Session.{Session}
 use Rattle.session.specs.declared.Operation.the-variants.{Write, Read}
@@ -33,7 +33,7 @@ use Rattle.session.specs.Session.{askNow, kindAwaited, done, stillOpen}
 use Rattle.session.specs.Opening.{openWith, freshOf, OpenCall}
 use Rattle.session.specs.Ranges.{standingRules, openRules, inRange}
 use Rattle.session.specs.Reply.{lengthsOk, awaited, isHeard, bears}
-use Rattle.session.specs.Reader.{Outcome, outcome, sound, actOn, actFor, settled, heard, accepted, readReply, ReadReplyCall}
+use Rattle.session.specs.Reader.{Outcome, outcome, actOn, actFor, settled, heard, accepted, readReply, ReadReplyCall}
 use Rattle.session.specs.declared.Stage.the-variants.{Storing}
 use Rattle.session.specs.Writer.{Leaves, leaves, timeEnd, timeTurn, acceptedWrite, writeReply, WriteReplyCall}
 use Rattle.book.specs.Records.{timed, rising, some}
@@ -177,7 +177,7 @@ unfolding opened-to-write
 write-so = opened-write plan ask opened-to-write desk (write-call ∷ []) opens-to-write refl write-calls
 
 -- and its write round is open
-storing-is : after-time .session .stage ≡ Storing
+storing-is : after-time .session .round .stage ≡ Storing
 unfolding after-time time-reply desk writeReply acceptedWrite timeTurn timeEnd first planOk countsOk limitsOk columnOf all recordLength lengthsOk inRange standingRules openRules every heardCount slotsFit slotFits goodReply goodFrame shaped forParty oneOf bodyFits awaited askNow kindAwaited isHeard num numFrom part be beOnto
 storing-is = refl
 

@@ -17,7 +17,7 @@ use Rattle.terms.specs.Terms.{recordLength}
 use Rattle.terms.specs.declared.Plan.{Plan}
 use Rattle.record.specs.Record.{crossOf, verifierOf, hashesOk}
 use Rattle.record.specs.Desk.{slotOf}
-use Rattle.record.proofs.Records.{record-length}
+use Rattle.terms.proofs.Places.{record-length}
 use Rattle.rounds.specs.declared.Heard.{Heard}
 use Rattle.rounds.specs.declared.Heard.the-variants.{Unheard, First, Record}
 use Rattle.rounds.specs.declared.Mark.{Mark}

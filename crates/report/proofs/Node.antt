@@ -29,7 +29,7 @@ use Rattle.terms.proofs.Small.{strict}
 use Rattle.frame.specs.Frame.{kindOf, frameNode, askOf, bodyOf, frame, goodRequest}
 use Rattle.frame.proofs.Frames.{request-is}
 use Rattle.record.specs.Record.{hashesOk, timeZero}
-use Rattle.record.proofs.Records.{record-length}
+use Rattle.terms.proofs.Places.{record-length}
 use Rattle.book.specs.Records.{lastOf, lastBelow, holds, kept, timed, rising}
 use Rattle.book.specs.Book.{goodBook, nodeOf, recordsFrom, recordsOf, countOf, laidOut}
 use Rattle.book.proofs.Laid as laid

@@ -31,18 +31,19 @@ use Rattle.fragments.proofs.Lists.{all-take, all-at}
 use Rattle.fragments.proofs.Laws.{length-regenerated}
 use Rattle.record.specs.Record.{crossOf, fragmentOf, fragmentHash}
 use Rattle.record.specs.Desk.{slotOf, fragmentIn, crossMade, row}
-use Rattle.record.proofs.Records.{record-length, cross-at}
+use Rattle.terms.proofs.Places.{record-length}
+use Rattle.record.proofs.Records.{cross-at}
 use Rattle.rounds.specs.declared.Heard.the-variants.{Record}
 use Rattle.rounds.specs.declared.Lead.{Lead}
 use Rattle.rounds.specs.declared.Lead.the-variants.{Nobody, Node}
 use Rattle.rounds.specs.Rounds.{heardCount, markOf, restUnheard, slotStamp, leadOf, setOf, Closed, closeWith}
 use Rattle.rounds.proofs.Laws.{lead-room}
 use Rattle.rounds.proofs.Closes.{candidate, no-candidate, members-are}
-use Rattle.recover.specs.Recover.{validates, recordFrom, refilled}
+use Rattle.recover.specs.Recover.{validates, recordFrom, refilled, trusted, sound, decoded}
 use Rattle.recover.proofs.Filled.{length-filled, filled-record}
 use Rattle.session.specs.declared.Session.{Session}
 use Rattle.session.specs.Session.{replies, endedOf, storingOf, stillOpen, done, neverWritten}
-use Rattle.session.specs.Reader.{Outcome, outcome, headLength, trusted, sound, decoded, repaired as refill, failing, actOn, actFor, acted, closed}
+use Rattle.session.specs.Reader.{Outcome, outcome, headLength, repaired as refill, failing, actOn, actFor, acted, closed}
 use Rattle.session.proofs.Closings.{Led, led, Lowest, lowest-are, heads-alike}
 use Rattle.report.specs.Triple.{Triple, Message, null, each, strung}
 use Rattle.report.specs.Figure2.{MAKE-CROSS-CHECKSUM, DO-WRITE}
@@ -113,7 +114,7 @@ module _ (p : Plan) (s : Session) (d i : List ℕ) (u : Full p s d i) where
     first-round : Decides p s d i (acted p s (close Nobody) d i) (LOOP (family p) set)
     unfolding closeWith actFor
     first-round =
-        subst (Decides p s d i (outcome (neverWritten (s .round)) (endedOf s) d i)) (sym first-decides)
+        subst (Decides p s d i (outcome (neverWritten (s .round .number)) (endedOf s) d i)) (sym first-decides)
         (record { never = λ z. (refl, refl); value = λ z. absurd (omega arith) })
 
   -- ---- a record of node a
@@ -296,8 +297,8 @@ module _ (p : Plan) (s : Session) (d i : List ℕ) (u : Full p s d i) where
         record {
           stamp = stampAt d (a * r);
           number = number-is;
-          next = λ l. rw (lt-leb (p .w) (s .round) l);
-          cut = λ l. rw (le-leb (p .w) (s .round) l);
+          next = λ l. rw (lt-leb (p .w) (s .round .number) l);
+          cut = λ l. rw (le-leb (p .w) (s .round .number) l);
         }
 
     -- ---- the decision, by the class of the set
@@ -315,12 +316,12 @@ module _ (p : Plan) (s : Session) (d i : List ℕ) (u : Full p s d i) where
     whole z = go (sound p (close (Node a)) a d) (valid-is z)
       where
         go : (t : Bool) → valid ≡ t → Decides p s d i
-            (cond t (outcome (done (stampNumber (stampAt d (a * r))) (s .round)) (endedOf s) d (decoded p (close (Node a)) d i)) (failing p s (stampAt d (a * r)) d i))
+            (cond t (outcome (done (stampNumber (stampAt d (a * r))) (s .round .number)) (endedOf s) d (decoded p (close (Node a)) d i)) (failing p s (stampAt d (a * r)) d i))
             (cond valid (returned T (decodedFrom p cs)) (reading (READ-PREVIOUS T)))
         go true v =
             rw v (record {
               never = λ w. absurd (omega (arith, w, low));
-              value = λ w. λ j. outcome (done (number-is j) (s .round)) (endedOf s) d (sym decode-is j);
+              value = λ w. λ j. outcome (done (number-is j) (s .round .number)) (endedOf s) d (sym decode-is j);
             })
         go false v = rw v fails
 

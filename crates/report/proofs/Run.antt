@@ -29,7 +29,7 @@ use Rattle.frame.specs.Frame.{frameNode, bodyOf, goodReply}
 use Rattle.frame.proofs.Frames.{reply-is}
 use Rattle.record.specs.Record.{hashesOk, timeZero}
 use Rattle.record.specs.Desk.{slotOf, fragmentIn}
-use Rattle.record.proofs.Records.{record-length}
+use Rattle.terms.proofs.Places.{record-length}
 use Rattle.rounds.specs.declared.Heard.the-variants.{Unheard, First, Record}
 use Rattle.rounds.specs.declared.Mark.{Mark}
 use Rattle.rounds.specs.declared.Bound.the-variants.{Free}
@@ -42,7 +42,8 @@ use Rattle.session.specs.declared.Operation.the-variants.{Read}
 use Rattle.session.specs.Session.{isRead, isStoring, isEnded, replies, markedOf, endedOf, refused, stillOpen, done, saidOf}
 use Rattle.session.specs.Ranges.{inRange}
 use Rattle.session.specs.Reply.{bears, lengthsOk, isHeard, replyLadder, recordLadder}
-use Rattle.session.specs.Reader.{Outcome, outcome, collected, acted, closed, settled, heard, stored, accepted, readReply}
+use Rattle.recover.specs.Recover.{collected}
+use Rattle.session.specs.Reader.{Outcome, outcome, acted, closed, settled, heard, stored, accepted, readReply}
 use Rattle.session.proofs.Checks.{none-applies, outcome-all, first-map}
 use Rattle.session.proofs.Made.{OpenIs, in-range-facts, rest-set}
 use Rattle.session.proofs.Rules.{Lengths, lengths-are, StandingIs}
@@ -69,12 +70,12 @@ use Rattle.client.specs.Turns.{ReadTurn, Calls}
 -- ---- what is known between two calls: by the stage, of the session, its desk and the rounds closed so far
 -- in a read round: READ is to send what the bound says
 pub record Asks (p : Plan) (s : Session) (d : List ℕ) (closed : List (List Message)) : Type 0 where
-  pub decision : READ (family p) closed ≡ reading (commandOf (s .bound))
-  pub rounds : s .round ≡ suc (length closed)
+  pub decision : READ (family p) closed ≡ reading (commandOf (s .round .bound))
+  pub rounds : s .round .number ≡ suc (length closed)
   pub desk : length d ≡ p .n * recordLength p
   pub octets : Octets d
   pub size : length (s .marks) ≡ 16
-  pub gathered : Gathers p (commandOf (s .bound)) (responses p (s .marks) d (p .n))
+  pub gathered : Gathers p (commandOf (s .round .bound)) (responses p (s .marks) d (p .n))
   pub passed : (k : ℕ) → k < p .n → markOf (s .marks) k ≡ Record → Passed p k (slotOf p d k)
 
 -- in a repair round: READ has repaired, and the desk holds what DO_WRITE sends
@@ -84,7 +85,7 @@ pub record Stores (p : Plan) (s : Session) (d : List ℕ) (closed : List (List M
   pub decision : READ (family p) closed ≡ repaired sent (stampNumber (s .stamp)) Data
   pub sends : sending p d ≡ sent
   pub holds : strung (fragmentIn p d) (p .m) ≡ Data
-  pub rounds : s .round ≡ length closed
+  pub rounds : s .round .number ≡ length closed
   pub size : length (s .marks) ≡ 16
 
 abbrev pub KeepsAt : Stage → Plan → Session → List ℕ → List (List Message) → Type 0
@@ -93,7 +94,7 @@ KeepsAt Storing p s d closed = Stores p s d closed
 KeepsAt Ended p s d closed = Unit {0}
 
 abbrev pub Keeps : Plan → Session → List ℕ → List (List Message) → Type 0
-Keeps p s d closed = KeepsAt (s .stage) p s d closed
+Keeps p s d closed = KeepsAt (s .round .stage) p s d closed
 
 -- what a call leaves, and what it says
 pub record Leaves (p : Plan) (o : Outcome) (closed : List (List Message)) : Type 0 where
@@ -102,8 +103,8 @@ pub record Leaves (p : Plan) (o : Outcome) (closed : List (List Message)) : Type
   pub sized : AllClose p closed
 
 -- ---- a read round after a mark
-module _ (p : Plan) (s : Session) (d i : List ℕ) (sets : List (List Message)) (st : s .stage ≡ Asking) (k : Asks p s d sets)
-    (ok : planOk p ≡ true) (li : length i ≡ p .m * p .f) (rest : restUnheard (s .marks) (p .n) ≡ true) (few : s .round ≤ p .w)
+module _ (p : Plan) (s : Session) (d i : List ℕ) (sets : List (List Message)) (st : s .round .stage ≡ Asking) (k : Asks p s d sets)
+    (ok : planOk p ≡ true) (li : length i ≡ p .m * p .f) (rest : restUnheard (s .marks) (p .n) ≡ true) (few : s .round .number ≤ p .w)
     (most : heardCount (s .marks) ≤ replies p) (sz : AllClose p sets) where
   abbrev set-now : List Message
   set-now = responses p (s .marks) d (p .n)
@@ -131,11 +132,11 @@ module _ (p : Plan) (s : Session) (d i : List ℕ) (sets : List (List Message)) 
 
     full-now : AllClose p (set-now ∷ sets)
     full-now = (
-      record { command = commandOf (s .bound); asked = k .decision; gathered = k .gathered; full = size-is p (s .marks) d rest ∙ omega (arith, most, enough) },
+      record { command = commandOf (s .round .bound); asked = k .decision; gathered = k .gathered; full = size-is p (s .marks) d rest ∙ omega (arith, most, enough) },
       sz,
     )
 
-    counted : s .round ≡ length (set-now ∷ sets)
+    counted : s .round .number ≡ length (set-now ∷ sets)
     counted = k .rounds
 
     by-decision : (o : Outcome) (x : Decision) → READ (family p) (set-now ∷ sets) ≡ x → Decides p s d i o x → Leaves p o (set-now ∷ sets)
@@ -172,15 +173,15 @@ module _ (p : Plan) (s : Session) (d i : List ℕ) (sets : List (List Message)) 
         })
     by-decision o ABORT e c = subst (λ (y : Outcome). Leaves p y (set-now ∷ sets)) (sym c) (record { keeps = tt; tells = (e, counted); sized = full-now })
     by-decision o (reading READ-LATEST) e c = absurd c
-    by-decision o (reading (READ-PREVIOUS ts)) e c = go (leb (p .w) (s .round)) refl
+    by-decision o (reading (READ-PREVIOUS ts)) e c = go (leb (p .w) (s .round .number)) refl
       where
-        go : (t : Bool) → leb (p .w) (s .round) ≡ t → Leaves p o (set-now ∷ sets)
+        go : (t : Bool) → leb (p .w) (s .round .number) ≡ t → Leaves p o (set-now ∷ sets)
         go true z =
-            let l = leb-true (p .w) (s .round) z in
+            let l = leb-true (p .w) (s .round .number) z in
             subst (λ (y : Outcome). Leaves p y (set-now ∷ sets)) (sym (c .cut l))
             (record { keeps = tt; tells = (record { ts = ts; is = e; cut = omega (arith, few, l) }, counted); sized = full-now })
         go false z =
-            let l = leb-false (p .w) (s .round) z in
+            let l = leb-false (p .w) (s .round .number) z in
             subst (λ (y : Outcome). Leaves p y (set-now ∷ sets)) (sym (c .next l))
             (record {
               keeps =
@@ -234,14 +235,14 @@ module _ (p : Plan) (d i : List ℕ) (ok : planOk p ≡ true) (ld : length d ≡
       own : (k : ℕ) → k < p .m → regenerated d head (recordLength p) (p .f) (from 0 (p .m)) k ≡ fragmentIn p d k
       own k h = sym (itself d head (recordLength p) (p .f) (from 0 (p .m)) k (sym (among-from k (p .m) ∙ lt-ltb k (p .m) h))) ∙ sym (fragment-place p d k)
 
-  stores : (s : Session) (f : List ℕ) (sets : List (List Message)) → s .stage ≡ Storing → Stores p s d sets → AllClose p sets
+  stores : (s : Session) (f : List ℕ) (sets : List (List Message)) → s .round .stage ≡ Storing → Stores p s d sets → AllClose p sets
       → heardCount (markedOf s (frameNode f) Record .marks) ≤ replies p → Leaves p (stored p s f d i) sets
   unfolding stored
   stores s f sets st k sz most = go (ltb (heardCount (markedOf s (frameNode f) Record .marks)) (replies p)) refl
     where
       go : (t : Bool) → ltb (heardCount (markedOf s (frameNode f) Record .marks)) (replies p) ≡ t
           → Leaves p (cond t (outcome stillOpen (markedOf s (frameNode f) Record) d i)
-          (outcome (done (stampNumber (s .stamp)) (s .round)) (endedOf (markedOf s (frameNode f) Record)) d (collected p d i))) sets
+          (outcome (done (stampNumber (s .stamp)) (s .round .number)) (endedOf (markedOf s (frameNode f) Record)) d (collected p d i))) sets
       go true e =
           record {
             keeps = subst (λ (x : Stage). KeepsAt x p (markedOf s (frameNode f) Record) d sets) (sym st)
@@ -330,20 +331,20 @@ module _ (p : Plan) (s : Session) (f d i : List ℕ) (sets : List (List Message)
 
     pub record-hears : bears p f ≡ true
         → Same (responses p (set (s .marks) node (record { is = Record })) (put d (node * recordLength p) (bodyOf f)) (p .n))
-        (receives (family p) (commandOf (s .bound)) before (said-by p node (bodyOf f)))
+        (receives (family p) (commandOf (s .round .bound)) before (said-by p node (bodyOf f)))
     record-hears b =
         subst (Same (responses p (set (s .marks) node (record { is = Record })) (put d (node * recordLength p) (bodyOf f)) (p .n)))
-        (sym (puts p (commandOf (s .bound)) before (said-by p node (bodyOf f))
+        (sym (puts p (commandOf (s .round .bound)) before (said-by p node (bodyOf f))
         (valid-record p node (bodyOf f) (omega (arith, long-body p f b, record-length p)) (octets-drop 15 f of) (body-passed b .timed) ∙ body-passed b .hashes)
-        (in-time-is (s .bound) (stamp (bodyOf f)) ∙ not-false (underOf (s .bound) (stamp (bodyOf f))) (rw b at (clear (recordLadder p s f) n₂ 12)))
+        (in-time-is (s .round .bound) (stamp (bodyOf f)) ∙ not-false (underOf (s .round .bound) (stamp (bodyOf f))) (rw b at (clear (recordLadder p s f) n₂ 12)))
         (unheard-has p (s .marks) d node (p .n) unmarked)))
         (record-after p (s .marks) d node node-low inside unmarked (bodyOf f) (k .desk) (long-body p f b))
 
     pub first-hears : Same (responses p (set (s .marks) node (record { is = First })) d (p .n))
-        (receives (family p) (commandOf (s .bound)) before (said-first node))
+        (receives (family p) (commandOf (s .round .bound)) before (said-first node))
     first-hears =
         subst (Same (responses p (set (s .marks) node (record { is = First })) d (p .n)))
-        (sym (puts p (commandOf (s .bound)) before (said-first node) (valid-first p node) (first-in-time (s .bound) (s .round) (ranges .0 .bounded))
+        (sym (puts p (commandOf (s .round .bound)) before (said-first node) (valid-first p node) (first-in-time (s .round .bound) (s .round .number) (ranges .0 .bounded))
         (unheard-has p (s .marks) d node (p .n) unmarked)))
         (first-after p (s .marks) d node node-low inside unmarked)
 
@@ -356,7 +357,7 @@ module _ (p : Plan) (s : Session) (f d i : List ℕ) (sets : List (List Message)
         desk = k .desk;
         octets = k .octets;
         size = length-set (s .marks) node (record { is = First }) ∙ k .size;
-        gathered = gathers-more p (commandOf (s .bound)) (said-first node) (responses p (s .marks) d (p .n)) _ (k .gathered) (first-hears k);
+        gathered = gathers-more p (commandOf (s .round .bound)) (said-first node) (responses p (s .marks) d (p .n)) _ (k .gathered) (first-hears k);
         passed = λ j h m. go j h m (ℕ-discrete j node);
       }
     where
@@ -380,7 +381,7 @@ module _ (p : Plan) (s : Session) (f d i : List ℕ) (sets : List (List Message)
           desk = length-put d (node * recordLength p) (bodyOf f) (omega (arith, long-body p f b, slot-fits node (p .n) (recordLength p) node-low, k .desk)) ∙ k .desk;
           octets = octets-put d (node * recordLength p) (bodyOf f) (k .octets) (octets-drop 15 f of);
           size = length-set (s .marks) node (record { is = Record }) ∙ k .size;
-          gathered = gathers-more p (commandOf (s .bound)) (said-by p node (bodyOf f)) (responses p (s .marks) d (p .n)) _ (k .gathered) (record-hears k b);
+          gathered = gathers-more p (commandOf (s .round .bound)) (said-by p node (bodyOf f)) (responses p (s .marks) d (p .n)) _ (k .gathered) (record-hears k b);
           passed = λ j h m. go j h m (ℕ-discrete j node);
         }
       where
@@ -392,10 +393,10 @@ module _ (p : Plan) (s : Session) (f d i : List ℕ) (sets : List (List Message)
             subst (Passed p j) (sym (slot-other d (bodyOf f) (recordLength p) (p .n) node (k .desk) (long-body p f b) node-low j q))
             (k .passed j h (sym (mark-other (s .marks) node j (record { is = Record }) q) ∙ m))
 
-  round-high : s .round ≤ p .w
-  round-high = leb-true (s .round) (p .w) (ranges .0 .high)
+  round-high : s .round .number ≤ p .w
+  round-high = leb-true (s .round .number) (p .w) (ranges .0 .high)
 
-  asks-leaves : s .stage ≡ Asking → (t : Bool) → bears p f ≡ t
+  asks-leaves : s .round .stage ≡ Asking → (t : Bool) → bears p f ≡ t
       → AllApart (cond t (closedBy p (markedOf s node Record) (put d (node * recordLength p) (bodyOf f)) sets) (closedBy p (markedOf s node First) d sets))
       → Leaves p (cond t (settled p (markedOf s node Record) (put d (node * recordLength p) (bodyOf f)) i) (settled p (markedOf s node First) d i))
       (cond t (closedBy p (markedOf s node Record) (put d (node * recordLength p) (bodyOf f)) sets) (closedBy p (markedOf s node First) d sets))
@@ -429,14 +430,14 @@ module _ (p : Plan) (s : Session) (f d i : List ℕ) (sets : List (List Message)
   heardFirst = turn (settled p (markedOf s (frameNode f) First) d i) (closedBy p (markedOf s (frameNode f) First) d sets)
 
   abbrev taken : Turn
-  taken = cond (isStoring (s .stage)) (turn (stored p s f d i) sets) (cond (bears p f) heardRecord heardFirst)
+  taken = cond (isStoring (s .round .stage)) (turn (stored p s f d i) sets) (cond (bears p f) heardRecord heardFirst)
 
   abbrev turned : Turn
   turned = first (replyLadder Read p s f d (length i)) refuse (first (recordLadder p s f) refuse taken)
 
   taken-now : taken .now ≡ accepted p s f d i
   unfolding accepted heard
-  taken-now = go (isStoring (s .stage)) (bears p f)
+  taken-now = go (isStoring (s .round .stage)) (bears p f)
     where
       go : (t v : Bool) → cond t (turn (stored p s f d i) sets) (cond v heardRecord heardFirst) .now
           ≡ cond t (stored p s f d i) (cond v (heardRecord .now) (heardFirst .now))
@@ -444,8 +445,8 @@ module _ (p : Plan) (s : Session) (f d i : List ℕ) (sets : List (List Message)
       go false true = refl
       go false false = refl
 
-  taken-sets : taken .sets ≡ cond (isStoring (s .stage)) sets (cond (bears p f) (heardRecord .sets) (heardFirst .sets))
-  taken-sets = go (isStoring (s .stage)) (bears p f)
+  taken-sets : taken .sets ≡ cond (isStoring (s .round .stage)) sets (cond (bears p f) (heardRecord .sets) (heardFirst .sets))
+  taken-sets = go (isStoring (s .round .stage)) (bears p f)
     where
       go : (t v : Bool) → cond t (turn (stored p s f d i) sets) (cond v heardRecord heardFirst) .sets ≡ cond t sets (cond v (heardRecord .sets) (heardFirst .sets))
       go true v = refl
@@ -470,13 +471,13 @@ module _ (p : Plan) (s : Session) (f d i : List ℕ) (sets : List (List Message)
   Right t = AllApart (t .sets) → Leaves p (t .now) (t .sets)
 
   module _ (of : Octets f) (keep : Keeps p s d sets) (sz : AllClose p sets) where
-    storing-size : s .stage ≡ Storing → Keeps p s d sets → length (s .marks) ≡ 16
+    storing-size : s .round .stage ≡ Storing → Keeps p s d sets → length (s .marks) ≡ 16
     storing-size st k = let q : Stores p s d sets = subst (λ (x : Stage). KeepsAt x p s d sets) st k in q .size
 
     taken-right : first (replyLadder Read p s f d (length i)) (λ (j : ℕ). j) 0 ≡ 0 → first (recordLadder p s f) (λ (j : ℕ). j) 0 ≡ 0 → Right taken
-    taken-right e₁ e₂ = go (s .stage) refl
+    taken-right e₁ e₂ = go (s .round .stage) refl
       where
-        go : (x : Stage) → s .stage ≡ x → Right (cond (isStoring x) (turn (stored p s f d i) sets) (cond (bears p f) heardRecord heardFirst))
+        go : (x : Stage) → s .round .stage ≡ x → Right (cond (isStoring x) (turn (stored p s f d i) sets) (cond (bears p f) heardRecord heardFirst))
         go Asking st = part (bears p f) refl
           where
             part : (t : Bool) → bears p f ≡ t → Right (cond t heardRecord heardFirst)
@@ -500,7 +501,7 @@ module _ (p : Plan) (s : Session) (f d i : List ℕ) (sets : List (List Message)
   fewer : AllApart (closing p s f d (length i) sets) → AllApart sets
   fewer a =
       outcome-all (λ (t : Turn). AllApart (t .sets) → AllApart sets) (replyLadder Read p s f d (length i)) refuse (first (recordLadder p s f) refuse taken) (λ j b. b)
-      (λ e₁. outcome-all (λ (t : Turn). AllApart (t .sets) → AllApart sets) (recordLadder p s f) refuse taken (λ j b. b) (λ e₂. go (isStoring (s .stage)) (bears p f)))
+      (λ e₁. outcome-all (λ (t : Turn). AllApart (t .sets) → AllApart sets) (recordLadder p s f) refuse taken (λ j b. b) (λ e₂. go (isStoring (s .round .stage)) (bears p f)))
       (subst AllApart (sym turned-sets) a)
     where
       one : (x : Session) (y : List ℕ) → AllApart (closedBy p x y sets) → AllApart sets
@@ -521,7 +522,7 @@ runs-fewer p s d sets [] a = a
 runs-fewer p s d sets (c ∷ cs) a =
     fewer p s (c .reply) d (c .item) sets (runs-fewer p (c .took .session) (c .deskLeft) (closing p s (c .reply) d (length (c .item)) sets) cs a)
 
-repairing : (p : Plan) (s : Session) (d : List ℕ) (sets : List (List Message)) → s .stage ≡ Storing → Keeps p s d sets → Repairing p s d sets
+repairing : (p : Plan) (s : Session) (d : List ℕ) (sets : List (List Message)) → s .round .stage ≡ Storing → Keeps p s d sets → Repairing p s d sets
 repairing p s d sets e k =
     let q : Stores p s d sets = subst (λ (x : Stage). KeepsAt x p s d sets) e k in
     record { Data = q .Data; is = q .decision ∙ ap (λ (l : List Message). repaired l (stampNumber (s .stamp)) (q .Data)) (sym (q .sends)) }

@@ -20,7 +20,8 @@ use Rattle.terms.specs.Terms.{recordLength}
 use Rattle.terms.specs.declared.Plan.{Plan}
 use Rattle.record.specs.Record.{crossOf}
 use Rattle.record.specs.Desk.{slotOf}
-use Rattle.record.proofs.Records.{record-length, stamp-at, cross-at}
+use Rattle.terms.proofs.Places.{record-length}
+use Rattle.record.proofs.Records.{stamp-at, cross-at}
 use Rattle.rounds.specs.declared.Heard.{Heard}
 use Rattle.rounds.specs.declared.Heard.the-variants.{Unheard, First, Record}
 use Rattle.rounds.specs.declared.Mark.{Mark}

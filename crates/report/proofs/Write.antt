@@ -41,11 +41,13 @@ use Rattle.session.specs.Opening.{OpenCall, freshOf}
 use Rattle.session.specs.Session.{isRead, isStoring, isEnded, replies, markedOf, endedOf, storingOf, refused, stillOpen, done, clockSpent, saidOf}
 use Rattle.session.specs.Ranges.{inRange}
 use Rattle.session.specs.Reply.{isHeard, replyLadder}
-use Rattle.session.specs.Writer.{timedOf, newTime, crossFor, stampFor, recordsFor, Leaves, leaves, timeEnd, timeTurn, writeTurn, acceptedWrite, writeReply}
+use Rattle.recover.specs.Records.{crossFor, stampFor, recordsFor}
+use Rattle.session.specs.Writer.{timedOf, newTime, Leaves, leaves, timeEnd, timeTurn, writeTurn, acceptedWrite, writeReply}
 use Rattle.session.proofs.Checks.{none-applies, outcome-all, first-map}
 use Rattle.session.proofs.Made.{in-range-facts}
 use Rattle.session.proofs.Openings.{accepted-session}
-use Rattle.session.proofs.Writers.{record-is, Taking, taking}
+use Rattle.recover.proofs.Records.{record-is}
+use Rattle.session.proofs.Writers.{Taking, taking}
 use Rattle.report.specs.Triple.{Triple, Message, larger, MAX}
 use Rattle.report.specs.Figure2.{READ-TIMESTAMP, MAKE-CROSS-CHECKSUM, MAKE-TIMESTAMP, DO-WRITE, ts-written, WRITE}
 use Rattle.report.specs.Ours.{family, stampedAs, bearing, sending}
@@ -127,14 +129,14 @@ KeepsAt Storing p s d w = Sending p s d w × (length (s .marks) ≡ 16)
 KeepsAt Ended p s d w = Unit {0}
 
 abbrev pub Keeps : Plan → Session → List ℕ → Timed → Type 0
-Keeps p s d w = KeepsAt (s .stage) p s d w
+Keeps p s d w = KeepsAt (s .round .stage) p s d w
 
 pub record Right (p : Plan) (o : Leaves) (w : Timed) : Type 0 where
   pub keeps : Keeps p (o .session) (o .desk) w
   pub wrote : Wrote p (o .session) (o .said) w
 
 -- ---- a time round after a reply; no more than N-t were heard
-module _ (p : Plan) (s : Session) (d i : List ℕ) (ts : List ℕ) (st : s .stage ≡ Asking) (li : length i ≡ p .m * p .f)
+module _ (p : Plan) (s : Session) (d i : List ℕ) (ts : List ℕ) (st : s .round .stage ≡ Asking) (li : length i ≡ p .m * p .f)
     (few : heardCount (s .marks) ≤ replies p) where
   abbrev with-item : Timed
   with-item = record { Times = ts; Data = i }
@@ -171,7 +173,7 @@ module _ (p : Plan) (s : Session) (d i : List ℕ) (ts : List ℕ) (st : s .stag
         go false e = time-ends (ltb-false (heardCount (s .marks)) (replies p) e)
 
 -- ---- a write round after a reply
-writes-on : (p : Plan) (s : Session) (d : List ℕ) (w : Timed) → s .stage ≡ Storing → Sending p s d w × (length (s .marks) ≡ 16)
+writes-on : (p : Plan) (s : Session) (d : List ℕ) (w : Timed) → s .round .stage ≡ Storing → Sending p s d w × (length (s .marks) ≡ 16)
     → heardCount (s .marks) ≤ replies p → Right p (writeTurn p s d) w
 unfolding writeTurn
 writes-on p s d w st k most = go (ltb (heardCount (s .marks)) (replies p)) refl
@@ -200,7 +202,7 @@ module _ (p : Plan) (s : Session) (f d i : List ℕ) (w : Timed) where
 
   abbrev taken : Turn
   taken =
-      cond (isStoring (s .stage)) (turn (writeTurn p (markedOf s (frameNode f) Record) d) w)
+      cond (isStoring (s .round .stage)) (turn (writeTurn p (markedOf s (frameNode f) Record) d) w)
       (turn (timeTurn p (timedOf s (frameNode f) (time (bodyOf f))) d i) heardTime)
 
   abbrev turned : Turn
@@ -210,7 +212,7 @@ module _ (p : Plan) (s : Session) (f d i : List ℕ) (w : Timed) where
   unfolding writeReply acceptedWrite
   turned-now =
       first-map (λ (t : Turn). t .now) (replyLadder Write p s f d (length i)) refuse taken
-      ∙ ap (first (replyLadder Write p s f d (length i)) (λ (j : ℕ). leaves (refused j) s d)) (go (isStoring (s .stage)))
+      ∙ ap (first (replyLadder Write p s f d (length i)) (λ (j : ℕ). leaves (refused j) s d)) (go (isStoring (s .round .stage)))
     where
       go : (t : Bool) → cond t (turn (writeTurn p (markedOf s (frameNode f) Record) d) w) (turn (timeTurn p (timedOf s (frameNode f) (time (bodyOf f))) d i) heardTime) .now
           ≡ cond t (writeTurn p (markedOf s (frameNode f) Record) d) (timeTurn p (timedOf s (frameNode f) (time (bodyOf f))) d i)
@@ -221,7 +223,7 @@ module _ (p : Plan) (s : Session) (f d i : List ℕ) (w : Timed) where
   unfolding timing
   turned-timed =
       first-map (λ (t : Turn). t .timed) (replyLadder Write p s f d (length i)) refuse taken
-      ∙ ap (first (replyLadder Write p s f d (length i)) (λ (j : ℕ). w)) (go (isStoring (s .stage)))
+      ∙ ap (first (replyLadder Write p s f d (length i)) (λ (j : ℕ). w)) (go (isStoring (s .round .stage)))
     where
       go : (t : Bool) → cond t (turn (writeTurn p (markedOf s (frameNode f) Record) d) w) (turn (timeTurn p (timedOf s (frameNode f) (time (bodyOf f))) d i) heardTime) .timed
           ≡ cond t w heardTime
@@ -260,9 +262,9 @@ module _ (p : Plan) (s : Session) (f d i : List ℕ) (w : Timed) where
           }
 
     taken-right : Right p (taken .now) (taken .timed)
-    taken-right = go (s .stage) refl
+    taken-right = go (s .round .stage) refl
       where
-        go : (x : Stage) → s .stage ≡ x
+        go : (x : Stage) → s .round .stage ≡ x
             → Right p (cond (isStoring x) (turn (writeTurn p (markedOf s (frameNode f) Record) d) w) (turn (timeTurn p (timedOf s (frameNode f) (time (bodyOf f))) d i) heardTime) .now)
             (cond (isStoring x) (turn (writeTurn p (markedOf s (frameNode f) Record) d) w) (turn (timeTurn p (timedOf s (frameNode f) (time (bodyOf f))) d i) heardTime) .timed)
         go Asking st =
@@ -284,7 +286,7 @@ module _ (p : Plan) (s : Session) (f d i : List ℕ) (w : Timed) where
       (λ e. taken-right keep e)))
 
 -- ---- the run
-sent : (p : Plan) (s : Session) (d : List ℕ) (w : Timed) → s .stage ≡ Storing → Keeps p s d w → Sending p s d w
+sent : (p : Plan) (s : Session) (d : List ℕ) (w : Timed) → s .round .stage ≡ Storing → Keeps p s d w → Sending p s d w
 sent p s d w e k = let q : Sending p s d w × (length (s .marks) ≡ 16) = subst (λ (y : Stage). KeepsAt y p s d w) e k in q .0
 
 -- EACH CALL OF A WRITE SENDS AND TELLS WHAT FIGURE 2'S WRITE DOES

@@ -22,8 +22,8 @@ use Rattle.report.specs.Figure3.{READ-LATEST, READ-PREVIOUS, Decision, r
 use Rattle.report.specs.Ours.{sending}
 
 pub record Returns (p : Plan) (s : Session) (d i : List ℕ) (o : Outcome) (ts : ℕ) (Data : List ℕ) : Type 0 where
-  pub never : ts ≡ 0 → (Data ≡ null) × (o ≡ outcome (neverWritten (s .round)) (endedOf s) d i)
-  pub value : 1 ≤ ts → o ≡ outcome (done ts (s .round)) (endedOf s) d Data
+  pub never : ts ≡ 0 → (Data ≡ null) × (o ≡ outcome (neverWritten (s .round .number)) (endedOf s) d i)
+  pub value : 1 ≤ ts → o ≡ outcome (done ts (s .round .number)) (endedOf s) d Data
 
 pub record Repairs (p : Plan) (s : Session) (i : List ℕ) (o : Outcome) (sent : List Message) (ts : ℕ) (Data : List ℕ) : Type 0 where
   pub stamp : Timestamp
@@ -37,13 +37,13 @@ pub record Repairs (p : Plan) (s : Session) (i : List ℕ) (o : Outcome) (sent :
 pub record Reads (p : Plan) (s : Session) (d i : List ℕ) (o : Outcome) (ts : ℕ) : Type 0 where
   pub stamp : Timestamp
   pub number : stampNumber stamp ≡ ts
-  pub next : s .round < p .w → o ≡ outcome stillOpen (nextOf s stamp) d i
-  pub cut : p .w ≤ s .round → o ≡ outcome (roundsSpent (s .round)) (endedOf s) d i
+  pub next : s .round .number < p .w → o ≡ outcome stillOpen (nextOf s stamp) d i
+  pub cut : p .w ≤ s .round .number → o ≡ outcome (roundsSpent (s .round .number)) (endedOf s) d i
 
 abbrev pub Decides : Plan → Session → List ℕ → List ℕ → Outcome → Decision → Type 0
 Decides p s d i o (returned ts Data) = Returns p s d i o ts Data
 Decides p s d i o (repaired sent ts Data) = Repairs p s i o sent ts Data
-Decides p s d i o ABORT = o ≡ outcome (aborted (s .round)) (endedOf s) d i
+Decides p s d i o ABORT = o ≡ outcome (aborted (s .round .number)) (endedOf s) d i
 Decides p s d i o (reading (READ-PREVIOUS ts)) = Reads p s d i o ts
 Decides p s d i o (reading READ-LATEST) = ⊥
 

@@ -67,7 +67,7 @@ unfoldable pub closing : Plan → Session → List ℕ → List ℕ → ℕ → 
 closing p s f d item before =
     first (replyLadder Read p s f d item) (λ (k : ℕ). before)
     (first (recordLadder p s f) (λ (k : ℕ). before)
-    (cond (isStoring (s .stage)) before
+    (cond (isStoring (s .round .stage)) before
     (cond (bears p f) (closedBy p (markedOf s (frameNode f) Record) (put d (frameNode f * recordLength p) (bodyOf f)) before)
     (closedBy p (markedOf s (frameNode f) First) d before))))
 
@@ -107,7 +107,7 @@ abbrev pub EachTells : Plan → Session → List ℕ → List (List Message) →
 EachTells p s d before [] = Unit {0}
 EachTells p s d before (c ∷ cs) =
     Tells p (c .took .session) (saidOf (c .took .answer)) (c .itemLeft) (closing p s (c .reply) d (length (c .item)) before)
-    × (c .took .session .stage ≡ Storing → Repairing p (c .took .session) (c .deskLeft) (closing p s (c .reply) d (length (c .item)) before))
+    × (c .took .session .round .stage ≡ Storing → Repairing p (c .took .session) (c .deskLeft) (closing p s (c .reply) d (length (c .item)) before))
     × EachTells p (c .took .session) (c .deskLeft) (closing p s (c .reply) d (length (c .item)) before) cs
 
 -- a set is what DO_READ gathered for a command from some messages

@@ -37,7 +37,7 @@ untimed = record { Times = []; Data = null }
 unfoldable pub timing : Plan → Session → List ℕ → List ℕ → List ℕ → Timed → Timed
 timing p s f d item before =
     first (replyLadder Write p s f d (length item)) (λ (k : ℕ). before)
-    (cond (isStoring (s .stage)) before (record { Times = time (bodyOf f) ∷ before .Times; Data = item }))
+    (cond (isStoring (s .round .stage)) before (record { Times = time (bodyOf f) ∷ before .Times; Data = item }))
 
 -- done: WRITE's timestamp, and DO_WRITE has its N-t responses; clock spent (01): a greatest time of 2^64-1, whose next has no 8 bytes; a write
 -- has no other ending
@@ -60,5 +60,5 @@ abbrev pub EachWrites : Plan → Session → List ℕ → Timed → List Turn �
 EachWrites p s d before [] = Unit {0}
 EachWrites p s d before (c ∷ cs) =
     Wrote p (c .took .session) (saidOf (c .took .answer)) (timing p s (c .reply) d (c .item) before)
-    × (c .took .session .stage ≡ Storing → Sending p (c .took .session) (c .deskLeft) (timing p s (c .reply) d (c .item) before))
+    × (c .took .session .round .stage ≡ Storing → Sending p (c .took .session) (c .deskLeft) (timing p s (c .reply) d (c .item) before))
     × EachWrites p (c .took .session) (c .deskLeft) (timing p s (c .reply) d (c .item) before) cs

@@ -4,7 +4,7 @@
 use mathlib.Core.Path.{_≡_, refl, sym, ap, _∙_, subst}
 use mathlib.Core.Bool.{Bool, true, false, cond}
 use mathlib.Core.List.{List, [], _∷_, _++_}
-use Prim.Native.Nat.{ℕ, zero, suc, _+_, _*_, _≤_, _<_}
+use Prim.Native.Nat.{ℕ, zero, suc, _+_, _≤_, _<_}
 use native.Mathlib.Decide.{ℕ-discrete}
 use native.Mathlib.Omega.{arith}
 use borrow.Author.Tests.{leb-true, leb-false, ltb-true, ltb-false, eq-eqb}
@@ -21,7 +21,8 @@ use Rattle.terms.specs.declared.Verdict.the-variants as verdict
 use Rattle.terms.specs.declared.Class.{Class}
 use Rattle.terms.specs.declared.Class.the-variants as class
 use Rattle.terms.proofs.Facts.{is-complete, is-incomplete, is-unclassifiable}
-use Rattle.terms.specs.Terms.{classOf, verdictOf, unsure, decided}
+use Rattle.terms.specs.Terms.{classOf, verdictOf, unsure, decided, slotAt}
+use Rattle.terms.specs.declared.Slots.{Slots}
 use Rattle.rounds.specs.declared.Heard.{Heard}
 use Rattle.rounds.specs.declared.Heard.the-variants.{Unheard, First, Record}
 use Rattle.rounds.specs.declared.Mark.{Mark}
@@ -35,17 +36,17 @@ nonsense z = absurd (omega arith)
 
 -- ---- the candidate
 -- what is known of the best among the first n nodes
-pub record Best (ms : List Mark) (d : List ℕ) (r n a : ℕ) : Type 0 where
+pub record Best (ms : List Mark) (d : List ℕ) (slots : Slots) (n a : ℕ) : Type 0 where
   pub marked : markOf ms a ≡ Record
-  pub greatest : (i : ℕ) → i < n → markOf ms i ≡ Record → slotStamp d r i ≤ slotStamp d r a
-  pub lowest : (i : ℕ) → i < a → markOf ms i ≡ Record → slotStamp d r i < slotStamp d r a
+  pub greatest : (i : ℕ) → i < n → markOf ms i ≡ Record → slotStamp d slots i ≤ slotStamp d slots a
+  pub lowest : (i : ℕ) → i < a → markOf ms i ≡ Record → slotStamp d slots i < slotStamp d slots a
 
 -- the first triple is the candidate only where no node is marked record; else it is the best
-abbrev pub Leads : List Mark → List ℕ → ℕ → ℕ → Lead → Type 0
-Leads ms d r n Nobody = (i : ℕ) → i < n → markOf ms i ≡ Record → ⊥
-Leads ms d r n (Node a) = Best ms d r n a
+abbrev pub Leads : List Mark → List ℕ → Slots → ℕ → Lead → Type 0
+Leads ms d slots n Nobody = (i : ℕ) → i < n → markOf ms i ≡ Record → ⊥
+Leads ms d slots n (Node a) = Best ms d slots n a
 
-module _ (ms : List Mark) (d : List ℕ) (r n : ℕ) where
+module _ (ms : List Mark) (d : List ℕ) (slots : Slots) (n : ℕ) where
   at-most : {P : ℕ → Type 0} → ((i : ℕ) → i < n → P i) → P n → (i : ℕ) → i < suc n → P i
   at-most {P} f p i h = go (ℕ-discrete i n)
     where
@@ -54,58 +55,58 @@ module _ (ms : List Mark) (d : List ℕ) (r n : ℕ) where
       go (no e) = f i (omega arith)
 
   -- a node that is no record changes nothing
-  same : (l : Lead) → (markOf ms n ≡ Record → ⊥) → Leads ms d r n l → Leads ms d r (suc n) l
+  same : (l : Lead) → (markOf ms n ≡ Record → ⊥) → Leads ms d slots n l → Leads ms d slots (suc n) l
   same Nobody off k = at-most {P = λ (i : ℕ). markOf ms i ≡ Record → ⊥} k off
   same (Node a) off k =
       record {
         marked = k .marked;
-        greatest = at-most {P = λ (i : ℕ). markOf ms i ≡ Record → slotStamp d r i ≤ slotStamp d r a} (k .greatest) (λ e. absurd (off e));
+        greatest = at-most {P = λ (i : ℕ). markOf ms i ≡ Record → slotStamp d slots i ≤ slotStamp d slots a} (k .greatest) (λ e. absurd (off e));
         lowest = k .lowest;
       }
 
-  taken : (l : Lead) → markOf ms n ≡ Record → leadIn l n → Leads ms d r n l → Leads ms d r (suc n) (aheadOf d r l n)
+  taken : (l : Lead) → markOf ms n ≡ Record → leadIn l n → Leads ms d slots n l → Leads ms d slots (suc n) (aheadOf d slots l n)
   taken Nobody m b k =
       unfold aheadOf in
       record {
         marked = m;
-        greatest = at-most {P = λ (i : ℕ). markOf ms i ≡ Record → slotStamp d r i ≤ slotStamp d r n} (λ i h e. absurd (k i h e)) (λ e. omega arith);
+        greatest = at-most {P = λ (i : ℕ). markOf ms i ≡ Record → slotStamp d slots i ≤ slotStamp d slots n} (λ i h e. absurd (k i h e)) (λ e. omega arith);
         lowest = λ i h e. absurd (k i h e);
       }
-  taken (Node a) m b k = unfold aheadOf in go (ltb (slotStamp d r a) (slotStamp d r n)) refl
+  taken (Node a) m b k = unfold aheadOf in go (ltb (slotStamp d slots a) (slotStamp d slots n)) refl
     where
-      go : (t : Bool) → ltb (slotStamp d r a) (slotStamp d r n) ≡ t → Leads ms d r (suc n) (cond t (Node n) (Node a))
+      go : (t : Bool) → ltb (slotStamp d slots a) (slotStamp d slots n) ≡ t → Leads ms d slots (suc n) (cond t (Node n) (Node a))
       go true e =
-          let h = ltb-true (slotStamp d r a) (slotStamp d r n) e in
+          let h = ltb-true (slotStamp d slots a) (slotStamp d slots n) e in
           record {
             marked = m;
-            greatest = at-most {P = λ (i : ℕ). markOf ms i ≡ Record → slotStamp d r i ≤ slotStamp d r n} (λ i l q. omega (arith, k .greatest i l q)) (λ q. omega arith);
+            greatest = at-most {P = λ (i : ℕ). markOf ms i ≡ Record → slotStamp d slots i ≤ slotStamp d slots n} (λ i l q. omega (arith, k .greatest i l q)) (λ q. omega arith);
             lowest = λ i l q. omega (arith, k .greatest i l q);
           }
       go false e =
-          let h = ltb-false (slotStamp d r a) (slotStamp d r n) e in
+          let h = ltb-false (slotStamp d slots a) (slotStamp d slots n) e in
           record {
             marked = k .marked;
-            greatest = at-most {P = λ (i : ℕ). markOf ms i ≡ Record → slotStamp d r i ≤ slotStamp d r a} (k .greatest) (λ q. h);
+            greatest = at-most {P = λ (i : ℕ). markOf ms i ≡ Record → slotStamp d slots i ≤ slotStamp d slots a} (k .greatest) (λ q. h);
             lowest = k .lowest;
           }
 
-  step-leads : (l : Lead) (m : Heard) → markOf ms n ≡ m → leadIn l n → Leads ms d r n l → Leads ms d r (suc n) (stepOf d r l n m)
+  step-leads : (l : Lead) (m : Heard) → markOf ms n ≡ m → leadIn l n → Leads ms d slots n l → Leads ms d slots (suc n) (stepOf d slots l n m)
   step-leads l Record e b k = unfold stepOf in taken l e b k
   step-leads l First e b k = unfold stepOf in same l (λ q. nonsense (let z : _≡_ {A = ℕ} 0 1 = cc in z)) k
   step-leads l Unheard e b k = unfold stepOf in same l (λ q. nonsense (let z : _≡_ {A = ℕ} 0 1 = cc in z)) k
 
-pub leads : (ms : List Mark) (d : List ℕ) (r n : ℕ) → Leads ms d r n (leadOf ms d r n)
+pub leads : (ms : List Mark) (d : List ℕ) (slots : Slots) (n : ℕ) → Leads ms d slots n (leadOf ms d slots n)
 unfolding leadOf
-leads ms d r zero = λ i h e. absurd (omega arith)
-leads ms d r (suc n) = step-leads ms d r n (leadOf ms d r n) (markOf ms n) refl (lead-in ms d r n) (leads ms d r n)
+leads ms d slots zero = λ i h e. absurd (omega arith)
+leads ms d slots (suc n) = step-leads ms d slots n (leadOf ms d slots n) (markOf ms n) refl (lead-in ms d slots n) (leads ms d slots n)
 
 -- THE CANDIDATE IS THE GREATEST TIMESTAMP HEARD, at its lowest-numbered node
-pub candidate : (ms : List Mark) (d : List ℕ) (r n a : ℕ) → leadOf ms d r n ≡ Node a → Best ms d r n a
-candidate ms d r n a e = subst (Leads ms d r n) e (leads ms d r n)
+pub candidate : (ms : List Mark) (d : List ℕ) (slots : Slots) (n a : ℕ) → leadOf ms d slots n ≡ Node a → Best ms d slots n a
+candidate ms d slots n a e = subst (Leads ms d slots n) e (leads ms d slots n)
 
 -- the first triple is the candidate only where no node is marked record
-pub no-candidate : (ms : List Mark) (d : List ℕ) (r n : ℕ) → leadOf ms d r n ≡ Nobody → (i : ℕ) → i < n → markOf ms i ≡ Record → ⊥
-no-candidate ms d r n e = subst (Leads ms d r n) e (leads ms d r n)
+pub no-candidate : (ms : List Mark) (d : List ℕ) (slots : Slots) (n : ℕ) → leadOf ms d slots n ≡ Nobody → (i : ℕ) → i < n → markOf ms i ≡ Record → ⊥
+no-candidate ms d slots n e = subst (Leads ms d slots n) e (leads ms d slots n)
 
 -- ---- the set
 -- the numbers of a list rise
@@ -146,34 +147,34 @@ among-more y i (x ∷ l) e = go (eqb x y) e (among-more y i l)
 
 -- what a set is known to be, of the first i nodes: it rises, so that it has each node once; each node of it bears the timestamp and the
 -- cross checksum of node a, and each that does is one of it
-pub record Members (d : List ℕ) (r h a i : ℕ) (ms : List Mark) (l : List ℕ) : Type 0 where
+pub record Members (d : List ℕ) (slots : Slots) (a i : ℕ) (ms : List Mark) (l : List ℕ) : Type 0 where
   pub few : length l ≤ i
   pub below : All (λ (y : ℕ). y < i) l
   pub rises : Rising l
-  pub joined : All (λ (y : ℕ). joinsOf d r h a y (markOf ms y) ≡ true) l
-  pub all : (y : ℕ) → y < i → joinsOf d r h a y (markOf ms y) ≡ true → among y l ≡ true
+  pub joined : All (λ (y : ℕ). joinsOf d slots a y (markOf ms y) ≡ true) l
+  pub all : (y : ℕ) → y < i → joinsOf d slots a y (markOf ms y) ≡ true → among y l ≡ true
 
 all-more : (l : List ℕ) (i : ℕ) → All (λ (y : ℕ). y < i) l → All (λ (y : ℕ). y < suc i) l
 all-more [] i b = tt
 all-more (x ∷ l) i b = (omega arith, all-more l i (b .1))
 
 -- THE SET IS RISING, BELOW n, and its nodes are exactly those that bear the candidate's timestamp and cross checksum
-pub members-are : (ms : List Mark) (d : List ℕ) (r h a n : ℕ) → Members d r h a n ms (setOf ms d r h a n)
+pub members-are : (ms : List Mark) (d : List ℕ) (slots : Slots) (a n : ℕ) → Members d slots a n ms (setOf ms d slots a n)
 unfolding setOf
-members-are ms d r h a zero = record { few = omega arith; below = tt; rises = tt; joined = tt; all = λ y l e. absurd (omega arith) }
-members-are ms d r h a (suc n) = go (joinsOf d r h a n (markOf ms n)) refl (members-are ms d r h a n)
+members-are ms d slots a zero = record { few = omega arith; below = tt; rises = tt; joined = tt; all = λ y l e. absurd (omega arith) }
+members-are ms d slots a (suc n) = go (joinsOf d slots a n (markOf ms n)) refl (members-are ms d slots a n)
   where
     l : List ℕ
-    l = setOf ms d r h a n
+    l = setOf ms d slots a n
 
-    go : (t : Bool) → joinsOf d r h a n (markOf ms n) ≡ t → Members d r h a n ms l → Members d r h a (suc n) ms (cond t (l ++ (n ∷ [])) l)
+    go : (t : Bool) → joinsOf d slots a n (markOf ms n) ≡ t → Members d slots a n ms l → Members d slots a (suc n) ms (cond t (l ++ (n ∷ [])) l)
     go true e k =
         record {
           few = let z : length (l ++ (n ∷ [])) ≡ length l + 1 = length-append l (n ∷ []) in omega (arith, z, k .few);
           below = all-snoc (λ (y : ℕ). y < suc n) l n (all-more l n (k .below)) (omega arith);
           rises = rising-snoc l n (k .below) (k .rises);
-          joined = all-snoc (λ (y : ℕ). joinsOf d r h a y (markOf ms y) ≡ true) l n (k .joined) e;
-          all = at-most ms d r n {P = λ (y : ℕ). joinsOf d r h a y (markOf ms y) ≡ true → among y (l ++ (n ∷ [])) ≡ true}
+          joined = all-snoc (λ (y : ℕ). joinsOf d slots a y (markOf ms y) ≡ true) l n (k .joined) e;
+          all = at-most ms d slots n {P = λ (y : ℕ). joinsOf d slots a y (markOf ms y) ≡ true → among y (l ++ (n ∷ [])) ≡ true}
               (λ y u j. among-more y n l (k .all y u j)) (λ j. among-last n l);
         }
     go false e k =
@@ -182,7 +183,7 @@ members-are ms d r h a (suc n) = go (joinsOf d r h a n (markOf ms n)) refl (memb
           below = all-more l n (k .below);
           rises = k .rises;
           joined = k .joined;
-          all = at-most ms d r n {P = λ (y : ℕ). joinsOf d r h a y (markOf ms y) ≡ true → among y l ≡ true} (k .all)
+          all = at-most ms d slots n {P = λ (y : ℕ). joinsOf d slots a y (markOf ms y) ≡ true → among y l ≡ true} (k .all)
               (λ j. nonsense (let z : _≡_ {A = ℕ} 0 1 = cc in z));
         }
 
@@ -192,46 +193,46 @@ pub record Headed (a : ℕ) (l : List ℕ) : Type 0 where
   pub rest : List ℕ
   pub is : l ≡ a ∷ rest
 
-module _ (ms : List Mark) (d : List ℕ) (r h a n : ℕ) (wide : 40 ≤ h) (best : Best ms d r n a) where
+module _ (ms : List Mark) (d : List ℕ) (slots : Slots) (a n : ℕ) (wide : 40 ≤ slots .head) (best : Best ms d slots n a) where
   -- heads that are alike bear one timestamp
-  stamp-part : (i : ℕ) → part (part d (i * r) h) 0 40 ≡ part d (i * r) 40
-  stamp-part i = let z : i * r + 0 ≡ i * r = omega arith in part-part d (i * r) h 0 40 wide ∙ ap (λ (y : ℕ). part d y 40) z
+  stamp-part : (i : ℕ) → part (part d (slotAt slots i) (slots .head)) 0 40 ≡ part d (slotAt slots i) 40
+  stamp-part i = let z : slotAt slots i + 0 ≡ slotAt slots i = omega arith in part-part d (slotAt slots i) (slots .head) 0 40 wide ∙ ap (λ (y : ℕ). part d y 40) z
 
   -- a node below the lead bears a lesser one, or none
-  not-before : (i : ℕ) → i < a → joinsOf d r h a i (markOf ms i) ≡ false
+  not-before : (i : ℕ) → i < a → joinsOf d slots a i (markOf ms i) ≡ false
   unfolding joinsOf slotStamp
   not-before i l = go (markOf ms i) refl
     where
-      go : (m : Heard) → markOf ms i ≡ m → joinsOf d r h a i m ≡ false
+      go : (m : Heard) → markOf ms i ≡ m → joinsOf d slots a i m ≡ false
       go Record e =
-          not-alike (part d (i * r) h) (part d (a * r) h)
+          not-alike (part d (slotAt slots i) (slots .head)) (part d (slotAt slots a) (slots .head))
           (λ q.
-          let z : slotStamp d r i ≡ slotStamp d r a = ap num (sym (stamp-part i) ∙ ap (λ (x : List ℕ). part x 0 40) q ∙ stamp-part a) in
+          let z : slotStamp d slots i ≡ slotStamp d slots a = ap num (sym (stamp-part i) ∙ ap (λ (x : List ℕ). part x 0 40) q ∙ stamp-part a) in
           omega (arith, z, best .lowest i l e))
       go First e = refl
       go Unheard e = refl
 
-  none-before : (i : ℕ) → i ≤ a → setOf ms d r h a i ≡ []
+  none-before : (i : ℕ) → i ≤ a → setOf ms d slots a i ≡ []
   unfolding setOf
   none-before zero l = refl
   none-before (suc i) l = rw (not-before i (omega arith)) (none-before i (omega arith))
 
-  joins-itself : joinsOf d r h a a (markOf ms a) ≡ true
-  joins-itself = unfold joinsOf in rw (best .marked) (alike-refl (part d (a * r) h))
+  joins-itself : joinsOf d slots a a (markOf ms a) ≡ true
+  joins-itself = unfold joinsOf in rw (best .marked) (alike-refl (part d (slotAt slots a) (slots .head)))
 
-  pub set-headed : (i : ℕ) → a < i → Headed a (setOf ms d r h a i)
+  pub set-headed : (i : ℕ) → a < i → Headed a (setOf ms d slots a i)
   unfolding setOf
   set-headed zero l = absurd (omega arith)
   set-headed (suc i) l = go (ℕ-discrete a i) (λ u. set-headed i u)
     where
-      on : (t : Bool) → Headed a (setOf ms d r h a i) → Headed a (cond t (setOf ms d r h a i ++ (i ∷ [])) (setOf ms d r h a i))
+      on : (t : Bool) → Headed a (setOf ms d slots a i) → Headed a (cond t (setOf ms d slots a i ++ (i ∷ [])) (setOf ms d slots a i))
       on true k = record { rest = k .rest ++ (i ∷ []); is = ap (λ (x : List ℕ). x ++ (i ∷ [])) (k .is) }
       on false k = k
 
-      go : Dec (a ≡ i) → (a < i → Headed a (setOf ms d r h a i))
-          → Headed a (cond (joinsOf d r h a i (markOf ms i)) (setOf ms d r h a i ++ (i ∷ [])) (setOf ms d r h a i))
+      go : Dec (a ≡ i) → (a < i → Headed a (setOf ms d slots a i))
+          → Headed a (cond (joinsOf d slots a i (markOf ms i)) (setOf ms d slots a i ++ (i ∷ [])) (setOf ms d slots a i))
       go (yes e) more = rw (← e, joins-itself, none-before a (omega arith)) (record { rest = []; is = refl })
-      go (no e) more = on (joinsOf d r h a i (markOf ms i)) (more (omega arith))
+      go (no e) more = on (joinsOf d slots a i (markOf ms i)) (more (omega arith))
 
 -- ---- the verdict tells the size
 module _ (member : Member) (high low size : ℕ) where

@@ -2,7 +2,7 @@
 use mathlib.Core.Path.{_≡_, refl, sym, ap, _∙_, subst}
 use mathlib.Core.Bool.{Bool, true, false, cond}
 use mathlib.Core.List.{List, [], _∷_, _++_}
-use Prim.Native.Nat.{ℕ, zero, suc, _+_, _*_, _≤_, _<_}
+use Prim.Native.Nat.{ℕ, zero, suc, _+_, _≤_, _<_}
 use native.Mathlib.Numerals.{add-one}
 use native.Mathlib.Decide.{ℕ-discrete}
 use native.Mathlib.Omega.{arith}
@@ -22,8 +22,10 @@ use Rattle.terms.specs.declared.Member.{Member}
 use Rattle.terms.specs.declared.Verdict.{Verdict}
 use Rattle.terms.specs.declared.Verdict.the-variants.{Complete}
 use Rattle.terms.specs.Stamp.{stampAt, zeroStamp, stampNumber}
-use Rattle.terms.specs.Terms.{decided}
+use Rattle.terms.specs.Terms.{decided, slotAt}
 use lib.Dec.{ltb, eqb}
+use Rattle.terms.specs.declared.Slots.{Slots}
+use Rattle.terms.specs.declared.Thresholds.{Thresholds}
 use Rattle.terms.specs.declared.Timestamp.{Timestamp}
 use Rattle.terms.proofs.Picks.{neither}
 
@@ -48,44 +50,44 @@ pub lead-told : (l : Lead) (b n : ℕ) → l ≡ Node b → leadIn l n → b < n
 unfolding leadIn
 lead-told l b n e h = subst (λ (x : Lead). leadIn x n) e h
 
-ahead-in : (d : List ℕ) (r : ℕ) (l : Lead) (i n : ℕ) → i < n → leadIn l n → leadIn (aheadOf d r l i) n
+ahead-in : (d : List ℕ) (slots : Slots) (l : Lead) (i n : ℕ) → i < n → leadIn l n → leadIn (aheadOf d slots l i) n
 unfolding aheadOf leadIn
-ahead-in d r Nobody i n h k = h
-ahead-in d r (Node b) i n h k = pick (ltb (slotStamp d r b) (slotStamp d r i))
+ahead-in d slots Nobody i n h k = h
+ahead-in d slots (Node b) i n h k = pick (ltb (slotStamp d slots b) (slotStamp d slots i))
   where
     pick : (t : Bool) → leadIn (cond t (Node i) (Node b)) n
     pick true = h
     pick false = k
 
-pub step-in : (d : List ℕ) (r : ℕ) (l : Lead) (i : ℕ) (m : Heard) (n : ℕ) → i < n → leadIn l n → leadIn (stepOf d r l i m) n
+pub step-in : (d : List ℕ) (slots : Slots) (l : Lead) (i : ℕ) (m : Heard) (n : ℕ) → i < n → leadIn l n → leadIn (stepOf d slots l i m) n
 unfolding stepOf
-step-in d r l i Record n h k = ahead-in d r l i n h k
-step-in d r l i First n h k = k
-step-in d r l i Unheard n h k = k
+step-in d slots l i Record n h k = ahead-in d slots l i n h k
+step-in d slots l i First n h k = k
+step-in d slots l i Unheard n h k = k
 
 lead-more : (l : Lead) (i n : ℕ) → i ≤ n → leadIn l i → leadIn l n
 unfolding leadIn
 lead-more Nobody i n h k = k
 lead-more (Node b) i n h k = omega arith
 
-pub lead-in : (ms : List Mark) (d : List ℕ) (r n : ℕ) → leadIn (leadOf ms d r n) n
+pub lead-in : (ms : List Mark) (d : List ℕ) (slots : Slots) (n : ℕ) → leadIn (leadOf ms d slots n) n
 unfolding leadOf
-lead-in ms d r zero = unfold leadIn in tt
-lead-in ms d r (suc n) = step-in d r (leadOf ms d r n) n (markOf ms n) (suc n) (omega arith) (lead-more (leadOf ms d r n) n (suc n) (omega arith) (lead-in ms d r n))
+lead-in ms d slots zero = unfold leadIn in tt
+lead-in ms d slots (suc n) = step-in d slots (leadOf ms d slots n) n (markOf ms n) (suc n) (omega arith) (lead-more (leadOf ms d slots n) n (suc n) (omega arith) (lead-in ms d slots n))
 
-pub lead-turn : (ms : List Mark) (d : List ℕ) (r i : ℕ) (best x : Lead) → best ≡ leadOf ms d r i → x ≡ stepOf d r best i (markOf ms i) → x ≡ leadOf ms d r (i + 1)
+pub lead-turn : (ms : List Mark) (d : List ℕ) (slots : Slots) (i : ℕ) (best x : Lead) → best ≡ leadOf ms d slots i → x ≡ stepOf d slots best i (markOf ms i) → x ≡ leadOf ms d slots (i + 1)
 unfolding leadOf
-lead-turn ms d r i best x e f = f ∙ rw (add-one, e)
+lead-turn ms d slots i best x e f = f ∙ rw (add-one, e)
 
-pub ahead-first : (d : List ℕ) (r i : ℕ) (l : Lead) → l ≡ Nobody → Node i ≡ aheadOf d r l i
+pub ahead-first : (d : List ℕ) (slots : Slots) (i : ℕ) (l : Lead) → l ≡ Nobody → Node i ≡ aheadOf d slots l i
 unfolding aheadOf
-ahead-first d r i l e = rw e
+ahead-first d slots i l e = rw e
 
-module _ (d : List ℕ) (r i b : ℕ) (l : Lead) (e : l ≡ Node b) (x : Bool) (f : x ≡ ltb (slotStamp d r b) (slotStamp d r i)) where
-  pub ahead-yes : x ≡ true → Node i ≡ aheadOf d r l i
+module _ (d : List ℕ) (slots : Slots) (i b : ℕ) (l : Lead) (e : l ≡ Node b) (x : Bool) (f : x ≡ ltb (slotStamp d slots b) (slotStamp d slots i)) where
+  pub ahead-yes : x ≡ true → Node i ≡ aheadOf d slots l i
   ahead-yes t = unfold aheadOf in rw (e, ← f, t)
 
-  pub ahead-no : x ≡ false → Node b ≡ aheadOf d r l i
+  pub ahead-no : x ≡ false → Node b ≡ aheadOf d slots l i
   ahead-no t = unfold aheadOf in rw (e, ← f, t)
 
 -- ---- the set
@@ -104,33 +106,36 @@ unfolding addOf
 add-listed s i true h = rw (add-one, take-suc-set (s .nodes) (s .size) i h)
 add-listed s i false h = refl
 
-pub members-turn : (ms : List Mark) (d : List ℕ) (r h a i : ℕ) (s x : Set) (on : Bool) → s .size < length (s .nodes)
-    → listed s ≡ setOf ms d r h a i → on ≡ joinsOf d r h a i (markOf ms i) → x ≡ addOf s i on → listed x ≡ setOf ms d r h a (i + 1)
+pub members-turn : (ms : List Mark) (d : List ℕ) (slots : Slots) (a i : ℕ) (s x : Set) (on : Bool) → s .size < length (s .nodes)
+    → listed s ≡ setOf ms d slots a i → on ≡ joinsOf d slots a i (markOf ms i) → x ≡ addOf s i on → listed x ≡ setOf ms d slots a (i + 1)
 unfolding setOf
-members-turn ms d r h a i s x on k e f g = ap listed g ∙ add-listed s i on k ∙ rw (add-one, e, f)
+members-turn ms d slots a i s x on k e f g = ap listed g ∙ add-listed s i on k ∙ rw (add-one, e, f)
 
-pub lead-below : (ms : List Mark) (d : List ℕ) (r i n : ℕ) → i ≤ n → leadIn (leadOf ms d r i) n
-lead-below ms d r i n h = lead-more (leadOf ms d r i) i n h (lead-in ms d r i)
+pub lead-below : (ms : List Mark) (d : List ℕ) (slots : Slots) (i n : ℕ) → i ≤ n → leadIn (leadOf ms d slots i) n
+lead-below ms d slots i n h = lead-more (leadOf ms d slots i) i n h (lead-in ms d slots i)
 
 pub size-is : (s : Set) (l : List ℕ) → length (s .nodes) ≡ 16 → s .size ≤ 16 → listed s ≡ l → s .size ≡ length l
 size-is s l h k e = sym (length-take-le (s .size) (s .nodes) (omega arith)) ∙ ap length e
 
-pub lead-room : (ms : List Mark) (d : List ℕ) (r n a : ℕ) (l : Lead) → l ≡ leadOf ms d r n → l ≡ Node a → a < n
-lead-room ms d r n a l e f = lead-told (leadOf ms d r n) a n (sym e ∙ f) (lead-in ms d r n)
+pub lead-room : (ms : List Mark) (d : List ℕ) (slots : Slots) (n a : ℕ) (l : Lead) → l ≡ leadOf ms d slots n → l ≡ Node a → a < n
+lead-room ms d slots n a l e f = lead-told (leadOf ms d slots n) a n (sym e ∙ f) (lead-in ms d slots n)
 
-pub close-none : (ms : List Mark) (d : List ℕ) (n h r : ℕ) (member : Member) (c i : ℕ) (l : Lead) (t : Timestamp) → l ≡ leadOf ms d r n → l ≡ Nobody → t ≡ zeroStamp
-    → _≡_ {A = Closed} (record { lead = l; stamp = t; nodes = []; verdict = Complete }) (closeOf ms d n h r member c i)
-unfolding closeWith
-close-none ms d n h r member c i l t e f g = rw (← e, f, g)
+module _ (ms : List Mark) (d : List ℕ) (slots : Slots) (member : Member) (t : Thresholds) where
+  pub close-none : (l : Lead) (z : Timestamp) → l ≡ leadOf ms d slots (slots .n) → l ≡ Nobody → z ≡ zeroStamp
+      → _≡_ {A = Closed} (record { lead = l; stamp = z; nodes = []; verdict = Complete }) (closeOf ms d slots member t)
+  unfolding closeWith
+  close-none l z e f g = rw (← e, f, g)
 
-pub close-some : (ms : List Mark) (d : List ℕ) (n h r : ℕ) (member : Member) (c i a : ℕ) (l : Lead) (s : Set) (w : Verdict) (t : Timestamp)
-    → l ≡ leadOf ms d r n → l ≡ Node a → n ≤ 16 → length (s .nodes) ≡ 16 → s .size ≤ n
-    → listed s ≡ setOf ms d r h a n → w ≡ decided member c i (s .size) → t ≡ stampAt d (a * r)
-    → _≡_ {A = Closed} (record { lead = Node a; stamp = t; nodes = listed s; verdict = w }) (closeOf ms d n h r member c i)
-unfolding closeWith
-close-some ms d n h r member c i a l s w t e f k m z g x y =
-    let q : s .size ≡ length (setOf ms d r h a n) = size-is s (setOf ms d r h a n) m (omega arith) g in
-    (λ j. record { lead = Node a; stamp = y j; nodes = g j; verdict = (x ∙ ap (decided member c i) q) j }) ∙ ap (closeWith ms d n h r member c i) (sym f ∙ e)
+  pub close-some : (a : ℕ) (l : Lead) (s : Set) (w : Verdict) (z : Timestamp) → l ≡ leadOf ms d slots (slots .n) → l ≡ Node a
+      → slots .n ≤ 16 → length (s .nodes) ≡ 16 → s .size ≤ slots .n → listed s ≡ setOf ms d slots a (slots .n)
+      → w ≡ decided member (t .complete) (t .incomplete) (s .size) → z ≡ stampAt d (slotAt slots a)
+      → _≡_ {A = Closed} (record { lead = Node a; stamp = z; nodes = listed s; verdict = w }) (closeOf ms d slots member t)
+  unfolding closeWith
+  close-some a l s w z e f k m u g x y =
+      let set : List ℕ = setOf ms d slots a (slots .n) in
+      let q : s .size ≡ length set = size-is s set m (omega arith) g in
+      (λ j. record { lead = Node a; stamp = y j; nodes = g j; verdict = (x ∙ ap (decided member (t .complete) (t .incomplete)) q) j })
+      ∙ ap (closeWith ms d slots member t) (sym f ∙ e)
 
 -- ---- the ranges of marks and slots
 -- every mark from i on meets the test, where those from n on have to
@@ -147,30 +152,30 @@ pub every-end : (t : Heard → Bool) (ms : List Mark) (i : ℕ) (w : Bool) → l
 unfolding every
 every-end t ms i w h e = sym (e ∙ ap (every t) (drop-of-length-le ms h))
 
-pub fits-more : (ms : List Mark) (d : List ℕ) (r : ℕ) (b : Bound) (i : ℕ) (x : Bool) → slotsFit ms d r b i ≡ true → x ≡ slotFits d r b i (markOf ms i) → x ≡ true
-    → slotsFit ms d r b (i + 1) ≡ true
+pub fits-more : (ms : List Mark) (d : List ℕ) (slots : Slots) (b : Bound) (i : ℕ) (x : Bool) → slotsFit ms d slots b i ≡ true → x ≡ slotFits d slots b i (markOf ms i) → x ≡ true
+    → slotsFit ms d slots b (i + 1) ≡ true
 unfolding slotsFit
-fits-more ms d r b i x e f g = rw (add-one, e, ← f, g)
+fits-more ms d slots b i x e f g = rw (add-one, e, ← f, g)
 
 -- a slot that does not fit
-fits-off : (ms : List Mark) (d : List ℕ) (r : ℕ) (b : Bound) (i n : ℕ) → i < n → slotFits d r b i (markOf ms i) ≡ false → slotsFit ms d r b n ≡ false
+fits-off : (ms : List Mark) (d : List ℕ) (slots : Slots) (b : Bound) (i n : ℕ) → i < n → slotFits d slots b i (markOf ms i) ≡ false → slotsFit ms d slots b n ≡ false
 unfolding slotsFit
-fits-off ms d r b i zero h e = absurd (omega arith)
-fits-off ms d r b i (suc n) h e = go (ℕ-discrete i n) (λ l. fits-off ms d r b i n l e)
+fits-off ms d slots b i zero h e = absurd (omega arith)
+fits-off ms d slots b i (suc n) h e = go (ℕ-discrete i n) (λ l. fits-off ms d slots b i n l e)
   where
-    go : Dec (i ≡ n) → (i < n → slotsFit ms d r b n ≡ false) → cond (slotsFit ms d r b n) (slotFits d r b n (markOf ms n)) false ≡ false
-    go (yes q) more = let z : slotFits d r b n (markOf ms n) ≡ false = rw q at e in rw z (neither (slotsFit ms d r b n))
+    go : Dec (i ≡ n) → (i < n → slotsFit ms d slots b n ≡ false) → cond (slotsFit ms d slots b n) (slotFits d slots b n (markOf ms n)) false ≡ false
+    go (yes q) more = let z : slotFits d slots b n (markOf ms n) ≡ false = rw q at e in rw z (neither (slotsFit ms d slots b n))
     go (no q) more = rw (more (omega arith))
 
-pub fits-stop : (ms : List Mark) (d : List ℕ) (r : ℕ) (b : Bound) (i n : ℕ) (x : Bool) → i < n → x ≡ slotFits d r b i (markOf ms i) → x ≡ false → false ≡ slotsFit ms d r b n
-fits-stop ms d r b i n x h e f = sym (fits-off ms d r b i n h (sym e ∙ f))
+pub fits-stop : (ms : List Mark) (d : List ℕ) (slots : Slots) (b : Bound) (i n : ℕ) (x : Bool) → i < n → x ≡ slotFits d slots b i (markOf ms i) → x ≡ false → false ≡ slotsFit ms d slots b n
+fits-stop ms d slots b i n x h e f = sym (fits-off ms d slots b i n h (sym e ∙ f))
 
-pub fits-all : (ms : List Mark) (d : List ℕ) (r : ℕ) (b : Bound) (i n : ℕ) → i ≡ n → slotsFit ms d r b i ≡ true → true ≡ slotsFit ms d r b n
-fits-all ms d r b i n e f = sym (rw e at f)
+pub fits-all : (ms : List Mark) (d : List ℕ) (slots : Slots) (b : Bound) (i n : ℕ) → i ≡ n → slotsFit ms d slots b i ≡ true → true ≡ slotsFit ms d slots b n
+fits-all ms d slots b i n e f = sym (rw e at f)
 
-pub fits-none : (ms : List Mark) (d : List ℕ) (r : ℕ) (b : Bound) → slotsFit ms d r b 0 ≡ true
+pub fits-none : (ms : List Mark) (d : List ℕ) (slots : Slots) (b : Bound) → slotsFit ms d slots b 0 ≡ true
 unfolding slotsFit
-fits-none ms d r b = refl
+fits-none ms d slots b = refl
 
 -- the bound, by the timestamp that lies at a place
 pub under-free : (b : Bound) (x : ℕ) → b ≡ Free → true ≡ underOf b x

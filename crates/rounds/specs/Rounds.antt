@@ -1,24 +1,26 @@
 -- What a read round decides. Document 01, "The client", reading: at N-t accepted replies the candidate is the greatest timestamp; its set
 -- is the replies with this timestamp and the same cross checksum as the lowest-numbered of them.
 --   heardAt heardCount   whether a node is heard, and how many are
---   slotStamp d r i      the timestamp in slot i, as a number
---   leadOf ms d r n      the candidate among the first n nodes: the first triple, or the lowest-numbered node that bears the greatest
+--   slotStamp d slots i  the timestamp in slot i of a desk, as a number
+--   leadOf ms d slots n  the candidate among the first n nodes: the first triple, or the lowest-numbered node that bears the greatest
 --   setOf                the candidate's set, rising
 --   closeOf              the close of the round as one value: candidate, timestamp, set, verdict
 --   restUnheard noneFirst slotsFit   the ranges of marks and slots that refusal 9 asks for
 -- The laws that the candidate is the greatest, that the set is rising and below n, and that the verdict tells its size, are in
 -- proofs/Closes.antt. Assumes nothing.
 use Prim.{Unit}
-use Prim.Native.Nat.{ℕ, zero, suc, _+_, _*_, _<_}
+use Prim.Native.Nat.{ℕ, zero, suc, _+_, _<_}
 use mathlib.Core.Bool.{Bool, true, false, cond}
 use mathlib.Core.List.{List, [], _∷_, _++_}
 use lib.ListN.{length, getD, set, take, drop, replicate}
 use lib.Dec.{ltb, eqb, leb}
 use Rattle.octets.specs.Bytes.{part, num, alike}
 use Rattle.terms.specs.Ladder.{_and_}
-use Rattle.terms.specs.Terms.{decided}
+use Rattle.terms.specs.Terms.{decided, slotAt}
 use Rattle.terms.specs.Stamp.{stampAt, zeroStamp, stampNumber}
 use Rattle.terms.specs.declared.Member.{Member}
+use Rattle.terms.specs.declared.Slots.{Slots}
+use Rattle.terms.specs.declared.Thresholds.{Thresholds}
 use Rattle.terms.specs.declared.Timestamp.{Timestamp}
 use Rattle.terms.specs.declared.Verdict.{Verdict}
 use Rattle.terms.specs.declared.Verdict.the-variants.{Complete}
@@ -56,37 +58,37 @@ abbrev pub heardAt : List Mark → ℕ → Bool
 heardAt ms i = eqb (bitOf (markOf ms i)) 1
 
 -- ---- the candidate
-unfoldable pub slotStamp : List ℕ → ℕ → ℕ → ℕ
-slotStamp d r i = num (part d (i * r) 40)
+unfoldable pub slotStamp : List ℕ → Slots → ℕ → ℕ
+slotStamp d slots i = num (part d (slotAt slots i) 40)
 
 -- node i against the best so far: only a greater timestamp takes its place, so that the lowest-numbered stays
-unfoldable pub aheadOf : List ℕ → ℕ → Lead → ℕ → Lead
-aheadOf d r Nobody i = Node i
-aheadOf d r (Node b) i = cond (ltb (slotStamp d r b) (slotStamp d r i)) (Node i) (Node b)
+unfoldable pub aheadOf : List ℕ → Slots → Lead → ℕ → Lead
+aheadOf d slots Nobody i = Node i
+aheadOf d slots (Node b) i = cond (ltb (slotStamp d slots b) (slotStamp d slots i)) (Node i) (Node b)
 
-unfoldable pub stepOf : List ℕ → ℕ → Lead → ℕ → Heard → Lead
-stepOf d r best i Record = aheadOf d r best i
-stepOf d r best i First = best
-stepOf d r best i Unheard = best
+unfoldable pub stepOf : List ℕ → Slots → Lead → ℕ → Heard → Lead
+stepOf d slots best i Record = aheadOf d slots best i
+stepOf d slots best i First = best
+stepOf d slots best i Unheard = best
 
-unfoldable pub leadOf : List Mark → List ℕ → ℕ → ℕ → Lead
-leadOf ms d r zero = Nobody
-leadOf ms d r (suc i) = stepOf d r (leadOf ms d r i) i (markOf ms i)
+unfoldable pub leadOf : List Mark → List ℕ → Slots → ℕ → Lead
+leadOf ms d slots zero = Nobody
+leadOf ms d slots (suc i) = stepOf d slots (leadOf ms d slots i) i (markOf ms i)
 
 unfoldable pub leadIn : Lead → ℕ → Type 0
 leadIn Nobody n = Unit {0}
 leadIn (Node b) n = b < n
 
 -- ---- its set
--- marked record, with the timestamp and the cross checksum of node a: the first h bytes of the slot
-unfoldable pub joinsOf : List ℕ → ℕ → ℕ → ℕ → ℕ → Heard → Bool
-joinsOf d r h a i Record = alike (part d (i * r) h) (part d (a * r) h)
-joinsOf d r h a i First = false
-joinsOf d r h a i Unheard = false
+-- marked record, with the timestamp and the cross checksum of node a: the head of the slot
+unfoldable pub joinsOf : List ℕ → Slots → ℕ → ℕ → Heard → Bool
+joinsOf d slots a i Record = alike (part d (slotAt slots i) (slots .head)) (part d (slotAt slots a) (slots .head))
+joinsOf d slots a i First = false
+joinsOf d slots a i Unheard = false
 
-unfoldable pub setOf : List Mark → List ℕ → ℕ → ℕ → ℕ → ℕ → List ℕ
-setOf ms d r h a zero = []
-setOf ms d r h a (suc i) = cond (joinsOf d r h a i (markOf ms i)) (setOf ms d r h a i ++ (i ∷ [])) (setOf ms d r h a i)
+unfoldable pub setOf : List Mark → List ℕ → Slots → ℕ → ℕ → List ℕ
+setOf ms d slots a zero = []
+setOf ms d slots a (suc i) = cond (joinsOf d slots a i (markOf ms i)) (setOf ms d slots a i ++ (i ∷ [])) (setOf ms d slots a i)
 
 unfoldable pub addOf : Set → ℕ → Bool → Set
 addOf s i on = cond on (record { nodes = set (s .nodes) (s .size) i; size = s .size + 1 }) s
@@ -105,13 +107,18 @@ abbrev pub told : Close → Closed
 told c = record { lead = c .lead; stamp = c .stamp; nodes = listed (c .set); verdict = c .verdict }
 
 -- "First triple: never written. (It always has COMPLETE replies.)"
-unfoldable pub closeWith : List Mark → List ℕ → ℕ → ℕ → ℕ → Member → ℕ → ℕ → Lead → Closed
-closeWith ms d n h r member high low Nobody = record { lead = Nobody; stamp = zeroStamp; nodes = []; verdict = Complete }
-closeWith ms d n h r member high low (Node a) =
-    record { lead = Node a; stamp = stampAt d (a * r); nodes = setOf ms d r h a n; verdict = decided member high low (length (setOf ms d r h a n)) }
+unfoldable pub closeWith : List Mark → List ℕ → Slots → Member → Thresholds → Lead → Closed
+closeWith ms d slots member t Nobody = record { lead = Nobody; stamp = zeroStamp; nodes = []; verdict = Complete }
+closeWith ms d slots member t (Node a) =
+    record {
+      lead = Node a;
+      stamp = stampAt d (slotAt slots a);
+      nodes = setOf ms d slots a (slots .n);
+      verdict = decided member (t .complete) (t .incomplete) (length (setOf ms d slots a (slots .n)));
+    }
 
-abbrev pub closeOf : List Mark → List ℕ → ℕ → ℕ → ℕ → Member → ℕ → ℕ → Closed
-closeOf ms d n h r member high low = closeWith ms d n h r member high low (leadOf ms d r n)
+abbrev pub closeOf : List Mark → List ℕ → Slots → Member → Thresholds → Closed
+closeOf ms d slots member t = closeWith ms d slots member t (leadOf ms d slots (slots .n))
 
 -- ---- the ranges of marks and slots, as refusal 9 has them
 abbrev pub isUnheard : Heard → Bool
@@ -142,11 +149,11 @@ underOf Free x = true
 underOf (Under u) x = ltb x (stampNumber u)
 
 -- "each slot marked record must hold a time of 1 or more and a timestamp below the bound"
-unfoldable pub slotFits : List ℕ → ℕ → Bound → ℕ → Heard → Bool
-slotFits d r b i Record = leb 1 (num (part d (i * r) 8)) and underOf b (slotStamp d r i)
-slotFits d r b i First = true
-slotFits d r b i Unheard = true
+unfoldable pub slotFits : List ℕ → Slots → Bound → ℕ → Heard → Bool
+slotFits d slots b i Record = leb 1 (num (part d (slotAt slots i) 8)) and underOf b (slotStamp d slots i)
+slotFits d slots b i First = true
+slotFits d slots b i Unheard = true
 
-unfoldable pub slotsFit : List Mark → List ℕ → ℕ → Bound → ℕ → Bool
-slotsFit ms d r b zero = true
-slotsFit ms d r b (suc i) = slotsFit ms d r b i and slotFits d r b i (markOf ms i)
+unfoldable pub slotsFit : List Mark → List ℕ → Slots → Bound → ℕ → Bool
+slotsFit ms d slots b zero = true
+slotsFit ms d slots b (suc i) = slotsFit ms d slots b i and slotFits d slots b i (markOf ms i)

@@ -1,6 +1,8 @@
-// What a round decides, on an array of marks and the slots of a desk: document 01, "The client". Node i lies in slot i, at i * r; a
-// slot starts with the timestamp and the cross checksum, h bytes together.
+// What a round decides, on an array of marks and the slots of a desk: document 01, "The client". Node i lies in slot i; a slot starts
+// with its head, the timestamp and the cross checksum.
 use terms::Member;
+use terms::Slots;
+use terms::Thresholds;
 use terms::Timestamp;
 use terms::Verdict;
 ghost use mathlib.Core.Path.{_≡_};
@@ -86,10 +88,11 @@ pub fn count(marks: [Mark; 16]) -> u64
 }
 
 // Node i against the best so far: only a greater timestamp takes its place.
-fn ahead(desk: &[u8], r: usize, n: usize, best: Lead, i: usize) -> Lead
-    requires { ⌜ (n * r ≤ length (now desk)) × (40 ≤ r) × (i < n) × (leadIn best n) ⌝ }
-    ensures { λ x. ⌜ x ≡ aheadOf (now (desk .entry)) r best i ⌝ }
+fn ahead(desk: &[u8], slots: Slots, best: Lead, i: usize) -> Lead
+    requires { ⌜ (slots .n * slots .size ≤ length (now desk)) × (40 ≤ slots .size) × (i < slots .n) × (leadIn best (slots .n)) ⌝ }
+    ensures { λ x. ⌜ x ≡ aheadOf (now (desk .entry)) slots best i ⌝ }
 {
+    let r = slots.size;
     match best {
         Lead::Nobody => Lead::Node(i),
         Lead::Node(b) => {
@@ -102,38 +105,41 @@ fn ahead(desk: &[u8], r: usize, n: usize, best: Lead, i: usize) -> Lead
 }
 
 // Only a record competes.
-fn step(desk: &[u8], r: usize, n: usize, best: Lead, i: usize, h: Heard) -> Lead
-    requires { ⌜ (n * r ≤ length (now desk)) × (40 ≤ r) × (i < n) × (leadIn best n) ⌝ }
-    ensures { λ x. ⌜ x ≡ stepOf (now (desk .entry)) r best i h ⌝ }
+fn step(desk: &[u8], slots: Slots, best: Lead, i: usize, h: Heard) -> Lead
+    requires { ⌜ (slots .n * slots .size ≤ length (now desk)) × (40 ≤ slots .size) × (i < slots .n) × (leadIn best (slots .n)) ⌝ }
+    ensures { λ x. ⌜ x ≡ stepOf (now (desk .entry)) slots best i h ⌝ }
 {
     match h {
-        Heard::Record => ahead(desk, r, n, best, i),
+        Heard::Record => ahead(desk, slots, best, i),
         Heard::First => best,
         Heard::Unheard => best,
     }
 }
 
 // The candidate.
-fn leading(marks: [Mark; 16], desk: &[u8], n: usize, r: usize) -> Lead
-    requires { ⌜ (n * r ≤ length (now desk)) × (40 ≤ r) × (n ≤ 16) ⌝ }
-    ensures { λ x. ⌜ x ≡ leadOf marks (now (desk .entry)) r n ⌝ }
+fn leading(marks: [Mark; 16], desk: &[u8], slots: Slots) -> Lead
+    requires { ⌜ (slots .n * slots .size ≤ length (now desk)) × (40 ≤ slots .size) × (slots .n ≤ 16) ⌝ }
+    ensures { λ x. ⌜ x ≡ leadOf marks (now (desk .entry)) slots (slots .n) ⌝ }
 {
+    let n = slots.n;
     let mut best = Lead::Nobody;
     let mut i: usize = 0;
     while i < n {
         let m = marks[i];
         let h = m.is;
-        best = step(desk, r, n, best, i, h);
+        best = step(desk, slots, best, i, h);
         i += 1;
     }
     best
 }
 
 // Whether node i is of the set: a record, with the timestamp and the cross checksum that node a has.
-fn joins(desk: &[u8], r: usize, n: usize, h: usize, a: usize, i: usize, k: Heard) -> bool
-    requires { ⌜ (n * r ≤ length (now desk)) × (h ≤ r) × (i < n) × (a < n) ⌝ }
-    ensures { λ x. ⌜ x ≡ joinsOf (now (desk .entry)) r h a i k ⌝ }
+fn joins(desk: &[u8], slots: Slots, a: usize, i: usize, k: Heard) -> bool
+    requires { ⌜ (slots .n * slots .size ≤ length (now desk)) × (slots .head ≤ slots .size) × (i < slots .n) × (a < slots .n) ⌝ }
+    ensures { λ x. ⌜ x ≡ joinsOf (now (desk .entry)) slots a i k ⌝ }
 {
+    let r = slots.size;
+    let h = slots.head;
     match k {
         Heard::Record => octets::same(desk, i * r, desk, a * r, h),
         Heard::First => false,
@@ -158,10 +164,11 @@ impl Set {
 }
 
 // The nodes of the candidate's set, rising.
-fn members(marks: [Mark; 16], desk: &[u8], n: usize, r: usize, h: usize, a: usize) -> Set
-    requires { ⌜ (n * r ≤ length (now desk)) × (h ≤ r) × (n ≤ 16) × (a < n) ⌝ }
-    ensures { λ x. ⌜ (listed x ≡ setOf marks (now (desk .entry)) r h a n) × (x .size ≤ n) × (length (x .nodes) ≡ 16) ⌝ }
+fn members(marks: [Mark; 16], desk: &[u8], slots: Slots, a: usize) -> Set
+    requires { ⌜ (slots .n * slots .size ≤ length (now desk)) × (slots .head ≤ slots .size) × (slots .n ≤ 16) × (a < slots .n) ⌝ }
+    ensures { λ x. ⌜ (listed x ≡ setOf marks (now (desk .entry)) slots a (slots .n)) × (x .size ≤ slots .n) × (length (x .nodes) ≡ 16) ⌝ }
 {
+    let n = slots.n;
     let mut set = Set {
         nodes: [0; 16],
         size: 0,
@@ -170,7 +177,7 @@ fn members(marks: [Mark; 16], desk: &[u8], n: usize, r: usize, h: usize, a: usiz
     while i < n {
         let m = marks[i];
         let k = m.is;
-        let on = joins(desk, r, n, h, a, i, k);
+        let on = joins(desk, slots, a, i, k);
         set = set.add(i, on);
         i += 1;
     }
@@ -178,20 +185,14 @@ fn members(marks: [Mark; 16], desk: &[u8], n: usize, r: usize, h: usize, a: usiz
 }
 
 // The close of a read round, as one value.
-pub fn closing(
-    marks: [Mark; 16],
-    desk: &[u8],
-    n: usize,
-    h: usize,
-    r: usize,
-    member: Member,
-    complete: u64,
-    incomplete: u64,
-) -> Close
-    requires { ⌜ (n * r ≤ length (now desk)) × (40 ≤ h) × (h ≤ r) × (n ≤ 16) ⌝ }
-    ensures { λ x. ⌜ (told x ≡ closeOf marks (now (desk .entry)) n h r member complete incomplete) × (length (x .set .nodes) ≡ 16) × (x .set .size ≤ n) ⌝ }
+pub fn closing(marks: [Mark; 16], desk: &[u8], slots: Slots, member: Member, t: Thresholds) -> Close
+    requires { ⌜ (slots .n * slots .size ≤ length (now desk)) × (40 ≤ slots .head) × (slots .head ≤ slots .size) × (slots .n ≤ 16) ⌝ }
+    ensures { λ x. ⌜ (told x ≡ closeOf marks (now (desk .entry)) slots member t) × (length (x .set .nodes) ≡ 16) × (x .set .size ≤ slots .n) ⌝ }
 {
-    let lead = leading(marks, desk, n, r);
+    let r = slots.size;
+    let high = t.complete;
+    let low = t.incomplete;
+    let lead = leading(marks, desk, slots);
     match lead {
         Lead::Nobody => {
             let stamp = terms::zero_stamp();
@@ -207,9 +208,9 @@ pub fn closing(
             }
         }
         Lead::Node(a) => {
-            let set = members(marks, desk, n, r, h, a);
+            let set = members(marks, desk, slots, a);
             let size = set.size;
-            let verdict = terms::decide(member, complete, incomplete, size as u64);
+            let verdict = terms::decide(member, high, low, size as u64);
             let stamp = terms::stamp_at(desk, a * r);
             Close {
                 lead: lead,
@@ -293,10 +294,11 @@ pub fn under(b: Bound, s: &[u8], at: usize) -> bool
 }
 
 // Whether slot i, where it is marked record, holds a time of 1 or more and a timestamp below the bound.
-fn slot_fits(desk: &[u8], r: usize, n: usize, b: Bound, i: usize, h: Heard) -> bool
-    requires { ⌜ (n * r ≤ length (now desk)) × (40 ≤ r) × (i < n) ⌝ }
-    ensures { λ x. ⌜ x ≡ slotFits (now (desk .entry)) r b i h ⌝ }
+fn slot_fits(desk: &[u8], slots: Slots, b: Bound, i: usize, h: Heard) -> bool
+    requires { ⌜ (slots .n * slots .size ≤ length (now desk)) × (40 ≤ slots .size) × (i < slots .n) ⌝ }
+    ensures { λ x. ⌜ x ≡ slotFits (now (desk .entry)) slots b i h ⌝ }
 {
+    let r = slots.size;
     match h {
         Heard::Record => {
             if octets::get(desk, i * r, 8) < 1 {
@@ -310,15 +312,16 @@ fn slot_fits(desk: &[u8], r: usize, n: usize, b: Bound, i: usize, h: Heard) -> b
 }
 
 // Whether each slot marked record fits.
-pub fn slots_fit(marks: [Mark; 16], desk: &[u8], n: usize, r: usize, b: Bound) -> bool
-    requires { ⌜ (n * r ≤ length (now desk)) × (40 ≤ r) × (n ≤ 16) ⌝ }
-    ensures { λ x. ⌜ x ≡ slotsFit marks (now (desk .entry)) r b n ⌝ }
+pub fn slots_fit(marks: [Mark; 16], desk: &[u8], slots: Slots, b: Bound) -> bool
+    requires { ⌜ (slots .n * slots .size ≤ length (now desk)) × (40 ≤ slots .size) × (slots .n ≤ 16) ⌝ }
+    ensures { λ x. ⌜ x ≡ slotsFit marks (now (desk .entry)) slots b (slots .n) ⌝ }
 {
+    let n = slots.n;
     let mut i: usize = 0;
     while i < n {
         let m = marks[i];
         let h = m.is;
-        if !slot_fits(desk, r, n, b, i, h) {
+        if !slot_fits(desk, slots, b, i, h) {
             return false;
         }
         i += 1;

@@ -30,14 +30,16 @@ use Rattle.session.specs.declared.opening.Opened.{Opened}
 use Rattle.session.specs.declared.opening.Opening.the-variants.{Accepted}
 use Rattle.session.specs.Opening.{OpenCall}
 use Rattle.session.specs.declared.Operation.the-variants.{Write}
-use Rattle.session.specs.Session.{isStoring, readRound, replies, sessionWith, markedOf, endedOf, storingOf, refused, stillOpen, done, clockSpent}
+use Rattle.session.specs.Session.{isStoring, readRound, replies, withGreatest, withMarks, markedOf, endedOf, storingOf, refused, stillOpen, done, clockSpent}
 use Rattle.session.specs.Ranges.{inRange}
 use Rattle.session.specs.Reply.{replyLadder}
-use Rattle.session.specs.Writer.{laterOf, timedOf, newTime, crossFor, stampFor, recordsFor, leaves, Leaves, timeEnd, timeTurn, writeTurn, acceptedWrite, writeReply, WriteReplyCall}
+use Rattle.recover.specs.Records.{crossFor, stampFor, recordsFor}
+use Rattle.session.specs.Writer.{laterOf, timedOf, newTime, leaves, Leaves, timeEnd, timeTurn, writeTurn, acceptedWrite, writeReply, WriteReplyCall}
 use Rattle.session.proofs.Checks.{none-applies, outcome-all}
 use Rattle.session.proofs.Made.{OpenIs, in-range-facts, ended-in-range, open-in-range, end-stands, storing-in-range, rest-set, none-set}
 use Rattle.session.proofs.Openings.{accepted-session, accepted-in-range}
-use Rattle.session.proofs.Writers.{Taking, taking, time-there, length-records}
+use Rattle.recover.proofs.Records.{length-records}
+use Rattle.session.proofs.Writers.{Taking, taking, time-there}
 use Rattle.session.proofs.Rules.{StandingIs}
 
 -- a session in its ranges with its desk, which is N·R bytes; its greatest time has 8 bytes
@@ -72,7 +74,7 @@ stamp-low p t i h k = rw (time-made t (crossFor p i) k) h
 
 -- ---- a node heard: in a time round it may give a later time
 abbrev pub heardOf : Session → ℕ → Heard → Time → Session
-heardOf s n m g = sessionWith (s .operation) (s .stage) (s .round) (s .bound) (s .opening) g (s .stamp) (set (s .marks) n (record { is = m }))
+heardOf s n m g = withMarks (withGreatest s g) (set (s .marks) n (record { is = m }))
 
 pub heard-stands : (p : Plan) (s : Session) (n : ℕ) (m : Heard) (g : Time) → n < p .n → StandingIs p s → StandingIs p (heardOf s n m g)
 heard-stands p s n m g h q =
@@ -157,9 +159,9 @@ module _ (p : Plan) (s : Session) (f d i : List ℕ) (o : Octets f) (k : Kept p 
 
     accepted : Good (acceptedWrite p s f d i)
     unfolding acceptedWrite
-    accepted = go (isStoring (s .stage)) refl
+    accepted = go (isStoring (s .round .stage)) refl
       where
-        go : (c : Bool) → isStoring (s .stage) ≡ c
+        go : (c : Bool) → isStoring (s .round .stage) ≡ c
             → Good (cond c (writeTurn p (markedOf s (frameNode f) Record) d) (timeTurn p (timedOf s (frameNode f) (time (bodyOf f))) d i))
         go true c = in-write (s .greatest) (k .clock)
         go false c =

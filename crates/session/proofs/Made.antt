@@ -10,7 +10,8 @@ use lib.Dec.{leb, ltb}
 use lib.ListN.{getD, set, drop, replicate}
 use lib.Seq.{drop-set-lt}
 use Rattle.terms.specs.Ladder.{all, _and_, _or_}
-use Rattle.terms.specs.Terms.{planOk, recordLength}
+use Rattle.terms.specs.Terms.{planOk, slotsOf}
+use Rattle.terms.specs.declared.Slots.{Slots}
 use Rattle.terms.specs.declared.Plan.{Plan}
 use Rattle.terms.specs.declared.Timestamp.{Timestamp}
 use Rattle.terms.proofs.Facts.{facts}
@@ -27,18 +28,18 @@ use Rattle.session.proofs.Rules.{holds, last, StandingIs, standing-fact
 
 -- ---- the rules of refusal 9 that an open session meets, as plain facts
 pub record OpenIs (p : Plan) (s : Session) (d : List ℕ) : Type 0 where
-  pub stamped : (not (isStoring (s .stage)) or leb 1 (s .stamp .time .0)) ≡ true
+  pub stamped : (not (isStoring (s .round .stage)) or leb 1 (s .stamp .time .0)) ≡ true
   pub firsts : (readRound s or noneFirst (s .marks)) ≡ true
   pub few : ltb (heardCount (s .marks)) (replies p) ≡ true
-  pub slots : (not (readRound s) or slotsFit (s .marks) d (recordLength p) (s .bound) (p .n)) ≡ true
+  pub slots : (not (readRound s) or slotsFit (s .marks) d (slotsOf p) (s .round .bound) (p .n)) ≡ true
 
 pub open-facts : (p : Plan) (s : Session) (d : List ℕ) → openRules p s d ≡ true → OpenIs p s d
 unfolding openRules all
 open-facts p s d e =
-    let e1 = both (not (isStoring (s .stage)) or leb 1 (s .stamp .time .0)) _ e in
+    let e1 = both (not (isStoring (s .round .stage)) or leb 1 (s .stamp .time .0)) _ e in
     let e2 = both (readRound s or noneFirst (s .marks)) _ (e1 .1) in
     let e3 = both (ltb (heardCount (s .marks)) (replies p)) _ (e2 .1) in
-    let e4 = both (not (readRound s) or slotsFit (s .marks) d (recordLength p) (s .bound) (p .n)) _ (e3 .1) in
+    let e4 = both (not (readRound s) or slotsFit (s .marks) d (slotsOf p) (s .round .bound) (p .n)) _ (e3 .1) in
     record { stamped = e1 .0; firsts = e2 .0; few = e3 .0; slots = e4 .0 }
 
 module _ (p : Plan) (s : Session) where
@@ -51,23 +52,23 @@ module _ (p : Plan) (s : Session) where
   unfolding openRules
   open-back d q = sym (holds _ (q .stamped) (holds _ (q .firsts) (holds _ (q .few) (last (sym (q .slots))))))
 
-  pub ended-in-range : (d : List ℕ) → StandingIs p s → isEnded (s .stage) ≡ true → inRange p s d ≡ true
+  pub ended-in-range : (d : List ℕ) → StandingIs p s → isEnded (s .round .stage) ≡ true → inRange p s d ≡ true
   unfolding inRange
   ended-in-range d q e = rw (standing-back q, e)
 
   pub open-in-range : (d : List ℕ) → StandingIs p s → OpenIs p s d → inRange p s d ≡ true
   unfolding inRange
-  open-in-range d q o = rw (standing-back q, open-back d o) (go (isEnded (s .stage)))
+  open-in-range d q o = rw (standing-back q, open-back d o) (go (isEnded (s .round .stage)))
     where
       go : (t : Bool) → (t or true) ≡ true
       go true = refl
       go false = refl
 
   -- a session in its ranges, and open
-  pub in-range-facts : (d : List ℕ) → inRange p s d ≡ true → isEnded (s .stage) ≡ false → StandingIs p s × OpenIs p s d
+  pub in-range-facts : (d : List ℕ) → inRange p s d ≡ true → isEnded (s .round .stage) ≡ false → StandingIs p s × OpenIs p s d
   unfolding inRange
   in-range-facts d e f =
-      let q = both (standingRules p s) (isEnded (s .stage) or openRules p s d) e in
+      let q = both (standingRules p s) (isEnded (s .round .stage) or openRules p s d) e in
       (standing-facts p s (q .0), open-facts p s d (rw f at (q .1)))
 
 -- ---- marks
@@ -99,10 +100,10 @@ pub few-unheards : (p : Plan) → planOk p ≡ true → ltb (heardCount unheards
 unfolding heardCount
 few-unheards p e = let g = facts p e in lt-ltb 0 (replies p) (omega arith)
 
-pub slots-unheards : (d : List ℕ) (r : ℕ) (b : Bound) (n : ℕ) → slotsFit unheards d r b n ≡ true
+pub slots-unheards : (d : List ℕ) (slots : Slots) (b : Bound) (n : ℕ) → slotsFit unheards d slots b n ≡ true
 unfolding slotsFit slotFits
-slots-unheards d r b zero = refl
-slots-unheards d r b (suc n) = rw (slots-unheards d r b n, mark-same unheard 16 n)
+slots-unheards d slots b zero = refl
+slots-unheards d slots b (suc n) = rw (slots-unheards d slots b n, mark-same unheard 16 n)
 
 pub rest-set : (ms : List Mark) (n i : ℕ) (m : Mark) → i < n → restUnheard (set ms i m) n ≡ restUnheard ms n
 rest-set ms n i m h = ap (every isUnheard) (drop-set-lt n ms i m h)
@@ -126,6 +127,6 @@ storing-in-range p s t d k q h =
     side true = none-unheards
     side false = none-unheards
 
-    other : (b : Bool) → (not (b and false) or slotsFit unheards d (recordLength p) (s .bound) (p .n)) ≡ true
+    other : (b : Bool) → (not (b and false) or slotsFit unheards d (slotsOf p) (s .round .bound) (p .n)) ≡ true
     other true = refl
     other false = refl

@@ -7,7 +7,7 @@ use mathlib.Core.List.{List}
 use native.Mathlib.Omega.{arith}
 use borrow.Author.Tests.{le-leb, not-false}
 use Rattle.terms.specs.Ladder.{first, all, _and_, _or_}
-use Rattle.terms.specs.Terms.{planOk, recordLength, openingOk}
+use Rattle.terms.specs.Terms.{planOk, slotsOf, openingOk}
 use Rattle.terms.specs.declared.Ask.{Ask}
 use Rattle.terms.specs.declared.Plan.{Plan}
 use Rattle.terms.proofs.Plans.{plan-is}
@@ -54,7 +54,7 @@ fresh-in-range op p a d k o =
     let q = plan-is p k in
     open-in-range p (freshOf op 1 Free a) d
     (record { low = refl; high = le-leb 1 (p .w) (q .w-low); counted = counted op; bounded = refl; rest = rest-unheards (p .n); opening = o })
-    (record { stamped = refl; firsts = firsts op; few = few-unheards p k; slots = slots op _ (slots-unheards d (recordLength p) Free (p .n)) })
+    (record { stamped = refl; firsts = firsts op; few = few-unheards p k; slots = slots op _ (slots-unheards d (slotsOf p) Free (p .n)) })
 
 module _ (op : Operation) (p : Plan) (a : Ask) (r : Opened) (call : OpenCall op p a r) where
   number-is : openingNumber (r .answer) ≡ first (openingLadder p (a .0)) (λ (k : ℕ). k) 0

@@ -47,8 +47,8 @@ room-is p desk request e =
 pub record Owing (p : Plan) (s : Session) (node : ℕ) (d : List ℕ) (request : ℕ) : Type 0 where
   pub plan-ok : planOk p ≡ true
   pub room : Room p (length d) request
-  pub round-low : 1 ≤ s .round
-  pub ask-high : s .opening .0 + s .round ≤ top
+  pub round-low : 1 ≤ s .round .number
+  pub ask-high : s .opening .0 + s .round .number ≤ top
   pub node-low : node < p .n
 
 pub owing : (p : Plan) (s : Session) (node : ℕ) (d : List ℕ) (request : ℕ) → first (owedLadder p s node d request) (λ (k : ℕ). k) 0 ≡ 0
@@ -85,13 +85,13 @@ module _ (b : Bound) (node ask : ℕ) where
   unfolding readRequest
   read-previous u e = rw e
 
-module _ (p : Plan) (s : Session) (node : ℕ) (d : List ℕ) (ask : ℕ) (a : ask ≡ askNow s) (x : Bool) (g : x ≡ isStoring (s .stage)) where
+module _ (p : Plan) (s : Session) (node : ℕ) (d : List ℕ) (ask : ℕ) (a : ask ≡ askNow s) (x : Bool) (g : x ≡ isStoring (s .round .stage)) where
   pub stores : x ≡ true → (r : ℕ) → r ≡ recordLength p → requestOf p s node d ≡ frame 3 node ask (part d (node * r) r)
   unfolding requestOf
   stores t r e = rw (← g, t, a, e)
 
   module _ (f : x ≡ false) (y : Bool) (h : y ≡ isRead (s .operation)) where
-    pub asks-record : y ≡ true → requestOf p s node d ≡ readRequest (s .bound) node ask
+    pub asks-record : y ≡ true → requestOf p s node d ≡ readRequest (s .round .bound) node ask
     unfolding requestOf
     asks-record t = rw (← g, f, ← h, t, a)
 

@@ -6,34 +6,32 @@ use Prim.Native.Nat.{ℕ, _+_, _-_, _*_, _≤_, _<_}
 use native.Mathlib.Omega.{arith}
 use borrow.Author.Tests.{lt-ltb, le-ltb, lt-leb, le-leb, eqb-true, not-false}
 use lib.Dec.{eqb}
-use lib.ListN.{length, getD, take}
-use lib.Seq.{length-take-le, take-take, getD-take}
+use lib.ListN.{length, getD}
+use lib.Seq.{getD-take}
 use Rattle.octets.specs.Bytes.{part, put}
 use Rattle.octets.proofs.Laws.{slot-room}
 use Rattle.terms.specs.Ladder.{first, None}
 use Rattle.terms.specs.declared.Refusal.{Refusal}
-use Rattle.terms.specs.Terms.{planOk, recordLength, COMPLETE, INCOMPLETE, refusalNumber}
+use Rattle.terms.specs.Terms.{planOk, recordLength, slotsOf, thresholdsOf, refusalNumber}
+use Rattle.terms.specs.declared.Slots.{Slots}
+use Rattle.terms.specs.declared.Thresholds.{Thresholds}
 use Rattle.terms.specs.Stamp.{stamp, stampNumber}
 use Rattle.terms.specs.declared.Plan.{Plan}
 use Rattle.terms.specs.declared.Timestamp.{Timestamp}
-use Rattle.terms.specs.declared.Clients.the-variants.{Crash, Byzantine}
 use Rattle.terms.specs.declared.Verdict.{Verdict}
 use Rattle.terms.specs.declared.Verdict.the-variants.{Complete, Repair, Aborted, Incomplete}
 use Rattle.terms.proofs.Rungs.{both}
-use Rattle.terms.proofs.Plans.{PlanIs, plan-is}
-use Rattle.terms.proofs.Facts.{facts}
-use Rattle.fragments.specs.Fragments.{from, laid, Sources}
+use Rattle.terms.proofs.Plans.{plan-is}
 use Rattle.fragments.proofs.Lists.{all-at}
-use Rattle.record.proofs.Records.{record-length}
 use Rattle.frame.specs.Frame.{kindOf, frameNode, bodyOf, goodReply}
 use Rattle.frame.proofs.Frames.{reply-is, body-is}
 use Rattle.rounds.specs.declared.Heard.the-variants.{First, Record}
 use Rattle.rounds.specs.declared.Lead.the-variants.{Nobody, Node}
 use Rattle.rounds.specs.declared.Close.{Close}
-use Rattle.record.specs.Record.{hashesOk, timeZero}
-use Rattle.rounds.specs.Rounds.{underOf, heardCount, listed, told, Closed, closeOf}
+use Rattle.record.specs.Record.{hashesOk}
+use Rattle.rounds.specs.Rounds.{heardCount, listed, told, Closed, closeOf}
 use Rattle.rounds.proofs.Laws.{size-is}
-use Rattle.recover.specs.Recover.{validates, refilled}
+use Rattle.recover.specs.Recover.{sound, decoded, collected, repaired, Usable}
 use Rattle.session.specs.declared.Session.{Session}
 use Rattle.session.specs.Session.{isStoring, replies, markedOf, endedOf, nextOf, storingOf, stillOpen, done, neverWritten, aborted, roundsSpent, refused}
 use Rattle.session.specs.declared.Check.{Check}
@@ -44,81 +42,21 @@ use Rattle.session.specs.Reply.{bears, lengthsOk, replyLadder, recordLad
 use Rattle.session.proofs.Rules.{lengths-are}
 use Rattle.session.proofs.Checks.{none-applies, goes-on as ladder-goes-on, check-passed, check-failed}
 use Rattle.session.proofs.Closings.{Led, led, lead-low, nodes-below, sized, sized-whole}
-use Rattle.session.specs.Reader.{Outcome, outcome, headLength, lowest, sound, decoded, collected, repaired, failing, actOn, actFor, acted, closed, settled, heard, stored, accepted, readReply, Usable, Acting}
-
--- ---- a set that can be decoded
-module _ (p : Plan) (c : Close) (a : ℕ) (d : List ℕ) (u : Usable p c a d) where
-  pub plan : PlanIs p
-  plan = plan-is p (u .plan)
-
-  pub m16 : p .m ≤ 16
-  m16 = let f = facts p (u .plan) in let q = plan-is p (u .plan) in omega arith
-
-  pub few : p .m ≡ length (take (p .m) (c .set .nodes))
-  few = sym (length-take-le (p .m) (c .set .nodes) (omega (arith, m16, u .nodes)))
-
-  pub desk-is : length d ≡ p .n * (40 + 32 * p .n + p .f)
-  desk-is = u .desk ∙ rw (record-length p)
-
-  pub sources : Sources d (40 + 32 * p .n) (40 + 32 * p .n + p .f) (p .f) (take (p .m) (c .set .nodes))
-  sources k h =
-      let hk : k < p .m = omega (arith, few) in
-      let e : getD (take (p .m) (c .set .nodes)) k 0 ≡ getD (c .set .nodes) k 0 = getD-take (p .m) (c .set .nodes) k 0 hk in
-      let r = slot-room (getD (c .set .nodes) k 0) (p .n) (40 + 32 * p .n + p .f) (length d) (u .below k hk) (omega (arith, desk-is)) in
-      rw e (omega (arith, r))
-
-  pub head-room : a * (40 + 32 * p .n + p .f) + 40 + 32 * p .n ≤ length d
-  head-room = let r = slot-room a (p .n) (40 + 32 * p .n + p .f) (length d) (u .lead) (omega (arith, desk-is)) in omega (arith, r)
-
-  lowest-is : lowest p (told c) ≡ take (p .m) (c .set .nodes)
-  lowest-is = take-take (p .m) (c .set .size) (c .set .nodes) (u .size)
-
-  pub sound-crash : p .clients ≡ Crash → true ≡ sound p (told c) a d
-  unfolding sound
-  sound-crash e = rw e
-
-  pub sound-told : (x : Bool) → p .clients ≡ Byzantine
-      → x ≡ validates d (40 + 32 * p .n) (40 + 32 * p .n + p .f) (p .f) (take (p .m) (c .set .nodes)) a (p .n) → x ≡ sound p (told c) a d
-  unfolding sound
-  sound-told x e v =
-      let g : validates d (40 + 32 * p .n) (40 + 32 * p .n + p .f) (p .f) (take (p .m) (c .set .nodes)) a (p .n) ≡ validates d (headLength p) (recordLength p) (p .f) (lowest p (told c)) a (p .n) =
-      ap₂ (λ (r : ℕ) (qs : List ℕ). validates d (headLength p) r (p .f) qs a (p .n)) (sym (record-length p)) (sym lowest-is) in
-      v ∙ g ∙ rw e
-
-  pub decoded-is : (i x : List ℕ) → x ≡ laid d (40 + 32 * p .n) (40 + 32 * p .n + p .f) (p .f) (take (p .m) (c .set .nodes)) 0 (p .f) (p .m) i → x ≡ decoded p (told c) d i
-  unfolding decoded
-  decoded-is i x v = v ∙ rw (lowest-is, record-length p)
-
-  pub repaired-is : (x : List ℕ) → x ≡ refilled d (40 + 32 * p .n) (40 + 32 * p .n + p .f) (p .f) (take (p .m) (c .set .nodes)) a (p .n) → x ≡ repaired p (told c) a d
-  unfolding repaired
-  repaired-is x v = v ∙ rw (lowest-is, record-length p)
-
--- ---- the first m slots
-pub first-slots : (p : Plan) (d : List ℕ) → planOk p ≡ true → length d ≡ p .n * recordLength p
-    → (k : ℕ) → k < p .m → 40 + 32 * p .n + k * (40 + 32 * p .n + p .f) + p .f ≤ length d
-first-slots p d ok l k h =
-    let f = facts p ok in
-    let e : length d ≡ p .n * (40 + 32 * p .n + p .f) = l ∙ rw (record-length p) in
-    let r = slot-room k (p .n) (40 + 32 * p .n + p .f) (length d) (omega arith) (omega arith) in
-    omega (arith, r)
-
-pub collected-is : (p : Plan) (d i x : List ℕ) → x ≡ laid d (40 + 32 * p .n) (40 + 32 * p .n + p .f) (p .f) (from 0 (p .m)) 0 (p .f) (p .m) i → x ≡ collected p d i
-unfolding collected
-collected-is p d i x v = v ∙ rw (record-length p)
+use Rattle.session.specs.Reader.{Outcome, outcome, failing, actOn, actFor, acted, closed, settled, heard, stored, accepted, readReply, Acting}
 
 -- ---- each way that a closed round can go
 module _ (p : Plan) (s : Session) (t : Timestamp) (d i : List ℕ) where
-  pub spent : (e : Session) → p .w ≤ s .round → e ≡ endedOf s → outcome (roundsSpent (s .round)) e d i ≡ failing p s t d i
+  pub spent : (e : Session) → p .w ≤ s .round .number → e ≡ endedOf s → outcome (roundsSpent (s .round .number)) e d i ≡ failing p s t d i
   unfolding failing
-  spent e h q = rw (le-leb (p .w) (s .round) h, q)
+  spent e h q = rw (le-leb (p .w) (s .round .number) h, q)
 
-  pub goes-on : (e : Session) → s .round < p .w → e ≡ nextOf s t → outcome stillOpen e d i ≡ failing p s t d i
+  pub goes-on : (e : Session) → s .round .number < p .w → e ≡ nextOf s t → outcome stillOpen e d i ≡ failing p s t d i
   unfolding failing
-  goes-on e h q = rw (lt-leb (p .w) (s .round) h, q)
+  goes-on e h q = rw (lt-leb (p .w) (s .round .number) h, q)
 
 module _ (p : Plan) (s : Session) (c : Closed) (a : ℕ) (d i : List ℕ) (v : Verdict) where
   pub act-done : (x : Bool) (e : Session) (y : List ℕ) → v ≡ Complete → x ≡ sound p c a d → x ≡ true → e ≡ endedOf s → y ≡ decoded p c d i
-      → outcome (done (stampNumber (c .stamp)) (s .round)) e d y ≡ actOn v p s c a d i
+      → outcome (done (stampNumber (c .stamp)) (s .round .number)) e d y ≡ actOn v p s c a d i
   unfolding actOn
   act-done x e y k f t q r = rw (k, ← f, t, q, r)
 
@@ -135,7 +73,7 @@ module _ (p : Plan) (s : Session) (c : Closed) (a : ℕ) (d i : List ℕ) (v : V
   unfolding actOn
   act-unsound x o k f t q = q ∙ rw (k, ← f, t)
 
-  pub act-aborted : (e : Session) → v ≡ Aborted → e ≡ endedOf s → outcome (aborted (s .round)) e d i ≡ actOn v p s c a d i
+  pub act-aborted : (e : Session) → v ≡ Aborted → e ≡ endedOf s → outcome (aborted (s .round .number)) e d i ≡ actOn v p s c a d i
   unfolding actOn
   act-aborted e k q = rw (k, q)
 
@@ -144,7 +82,7 @@ module _ (p : Plan) (s : Session) (c : Closed) (a : ℕ) (d i : List ℕ) (v : V
   act-incomplete o k q = q ∙ rw k
 
 module _ (p : Plan) (s : Session) (c : Closed) (d i : List ℕ) where
-  pub act-never : (e : Session) → c .lead ≡ Nobody → e ≡ endedOf s → outcome (neverWritten (s .round)) e d i ≡ acted p s c d i
+  pub act-never : (e : Session) → c .lead ≡ Nobody → e ≡ endedOf s → outcome (neverWritten (s .round .number)) e d i ≡ acted p s c d i
   unfolding actFor
   act-never e k q = rw (k, q)
 
@@ -227,15 +165,15 @@ module _ (p : Plan) (s m : Session) (f d i : List ℕ) (k n : ℕ) (e : k ≡ fr
   stored-open h = rw (lt-ltb (heardCount (markedOf s (frameNode f) Record .marks)) (replies p) (omega (arith, marks-are)), g, e)
 
   pub stored-done : (o : Session) (y : List ℕ) → p .n - p .t ≤ n → o ≡ endedOf m → y ≡ collected p d i
-      → outcome (done (stampNumber (s .stamp)) (s .round)) o d y ≡ stored p s f d i
+      → outcome (done (stampNumber (s .stamp)) (s .round .number)) o d y ≡ stored p s f d i
   unfolding stored
   stored-done o y h q r = rw (le-ltb (heardCount (markedOf s (frameNode f) Record .marks)) (replies p) (omega (arith, marks-are)), q, g, e, r)
 
-pub accept-stored : (p : Plan) (s : Session) (f d i : List ℕ) (x : Bool) (o : Outcome) → x ≡ isStoring (s .stage) → x ≡ true → o ≡ stored p s f d i → o ≡ accepted p s f d i
+pub accept-stored : (p : Plan) (s : Session) (f d i : List ℕ) (x : Bool) (o : Outcome) → x ≡ isStoring (s .round .stage) → x ≡ true → o ≡ stored p s f d i → o ≡ accepted p s f d i
 unfolding accepted
 accept-stored p s f d i x o e t q = q ∙ rw (← e, t)
 
-pub accept-heard : (p : Plan) (s : Session) (f d i : List ℕ) (x : Bool) (o : Outcome) → x ≡ isStoring (s .stage) → x ≡ false → o ≡ heard p s f d i → o ≡ accepted p s f d i
+pub accept-heard : (p : Plan) (s : Session) (f d i : List ℕ) (x : Bool) (o : Outcome) → x ≡ isStoring (s .round .stage) → x ≡ false → o ≡ heard p s f d i → o ≡ accepted p s f d i
 unfolding accepted
 accept-heard p s f d i x o e t q = q ∙ rw (← e, t)
 
@@ -278,48 +216,29 @@ module _ (p : Plan) (s : Session) (f d i : List ℕ) (k : Check) (e : checkNumbe
     pub accepts : (o : Outcome) → j ≡ Passed → o ≡ accepted p s f d i → o ≡ readReply p s f d i
     accepts o w a = a ∙ ladder-goes-on (λ (n : ℕ). outcome (refused n) s d i) (accepted p s f d i) (recordLadder p s f) refl (check-passed (recordLadder p s f) j g w) ∙ past
 
--- ---- the close, with the lengths and thresholds that the code worked out
-pub desk-sum : (p : Plan) (d : List ℕ) → length d ≡ p .n * recordLength p → length d ≡ p .n * (40 + 32 * p .n + p .f)
-desk-sum p d l = l ∙ rw (record-length p)
+-- ---- the close, with the slots and the thresholds that the code worked out
+pub desk-room : (p : Plan) (slots : Slots) → slots ≡ slotsOf p → (d : List ℕ) → length d ≡ p .n * recordLength p → slots .n * slots .size ≤ length d
+desk-room p slots e d l = rw e (omega arith)
 
-pub closed-is : (p : Plan) (s : Session) (d : List ℕ) (x : Closed) (high low : ℕ) → high ≡ COMPLETE p → low ≡ INCOMPLETE p
-    → x ≡ closeOf (s .marks) d (p .n) (40 + 32 * p .n) (40 + 32 * p .n + p .f) (p .member) high low → x ≡ closed p s d
-closed-is p s d x high low e f q =
-    q ∙ ap₂ (λ (a b : ℕ). closeOf (s .marks) d (p .n) (40 + 32 * p .n) (40 + 32 * p .n + p .f) (p .member) a b) e f
-    ∙ ap (λ (r : ℕ). closeOf (s .marks) d (p .n) (headLength p) r (p .member) (COMPLETE p) (INCOMPLETE p)) (sym (record-length p))
+pub closed-is : (p : Plan) (s : Session) (d : List ℕ) (x : Closed) (slots : Slots) (t : Thresholds) → slots ≡ slotsOf p → t ≡ thresholdsOf p
+    → x ≡ closeOf (s .marks) d slots (p .member) t → x ≡ closed p s d
+closed-is p s d x slots t e f q = q ∙ rw (e, f)
 
 -- ---- rungs 5, 6, 12
-module _ (p : Plan) (s : Session) (f : List ℕ) (x : Bool) (b : x ≡ bears p f) where
-  pub no-record : x ≡ false → 0 ≡ first (recordLadder p s f) (λ (n : ℕ). n) 0
-  unfolding first
-  no-record t = rw (← b, t)
-
-  module _ (t : x ≡ true) (y : Bool) (z : y ≡ timeZero (bodyOf f)) where
-    pub zero-time : y ≡ true → 5 ≡ first (recordLadder p s f) (λ (n : ℕ). n) 0
-    unfolding first
-    zero-time e = rw (← b, t, ← z, e)
-
-    module _ (u : y ≡ false) (v : Bool) (w : v ≡ hashesOk p (frameNode f) (bodyOf f)) where
-      pub ill-hash : v ≡ false → 6 ≡ first (recordLadder p s f) (λ (n : ℕ). n) 0
-      unfolding first
-      ill-hash e = rw (← b, t, ← z, u, ← w, e)
-
-      module _ (g : v ≡ true) (o : Bool) (q : o ≡ underOf (s .bound) (stamp (bodyOf f))) where
-        pub too-high : o ≡ false → 12 ≡ first (recordLadder p s f) (λ (n : ℕ). n) 0
-        unfolding first
-        too-high e = rw (← b, t, ← z, u, ← w, g, ← q, e)
-
-        pub all-well : o ≡ true → 0 ≡ first (recordLadder p s f) (λ (n : ℕ). n) 0
-        unfolding first
-        all-well e = rw (← b, t, ← z, u, ← w, g, ← q, e)
+pub no-record : (p : Plan) (s : Session) (f : List ℕ) → bears p f ≡ false → 0 ≡ first (recordLadder p s f) (λ (n : ℕ). n) 0
+unfolding first
+no-record p s f t = rw t
 
 pub record-long : (p : Plan) → 40 ≤ recordLength p
 unfolding recordLength
 record-long p = omega arith
 
-pub hashes-at : (p : Plan) (f : List ℕ) (k : ℕ) (x : Bool) → x ≡ bears p f → x ≡ true → k ≡ frameNode f → (y : Bool)
-    → y ≡ hashesOk p k (part f 15 (recordLength p)) → y ≡ hashesOk p (frameNode f) (bodyOf f)
-hashes-at p f k x b t e y q = q ∙ ap₂ (hashesOk p) e (body-at p f (recordLength p) refl (bears-is p f x b t .1))
+pub bears-length : (p : Plan) (f : List ℕ) → bears p f ≡ true → length f ≡ 15 + recordLength p
+bears-length p f t = bears-is p f (bears p f) refl t .1
+
+pub hashes-at : (p : Plan) (f : List ℕ) (k : ℕ) → bears p f ≡ true → k ≡ frameNode f → (y : Bool) → y ≡ hashesOk p k (part f 15 (recordLength p))
+    → y ≡ hashesOk p (frameNode f) (bodyOf f)
+hashes-at p f k t e y q = q ∙ ap₂ (hashesOk p) e (body-at p f (recordLength p) refl (bears-length p f t))
 
 -- ---- a record in its slot
 pub slot-fits-desk : (p : Plan) (f d : List ℕ) (k r : ℕ) → goodReply p f ≡ true → k ≡ frameNode f → r ≡ recordLength p → length d ≡ p .n * recordLength p

@@ -1,11 +1,11 @@
 -- How code goes down a list of rules, and what is known when all hold. Assumes nothing.
 use mathlib.Core.Path.{_≡_, refl, sym, ap, ap₂, _∙_}
-use mathlib.Core.Bool.{Bool, true, false}
+use mathlib.Core.Bool.{Bool, true, false, not}
 use mathlib.Core.List.{List, [], _∷_}
 use Prim.Native.Nat.{ℕ, _+_, _*_, _≤_}
 use native.Mathlib.Nat.{le-trans, mul-le-mul-right, mul-le-mul-left}
 use native.Mathlib.Omega.{arith}
-use borrow.Author.Tests.{leb-true, eqb-true}
+use borrow.Author.Tests.{leb-true, eqb-true, not-false}
 use lib.ListN.{length}
 use lib.Dec.{leb, eqb}
 use Rattle.terms.specs.Ladder.{all, _and_, _or_}
@@ -20,8 +20,9 @@ use Rattle.frame.specs.Frame.{kindOf, askOf, bodyOf, answersTo}
 use Rattle.frame.proofs.Frames.{ReplyIs, length-4}
 use Rattle.rounds.specs.Rounds.{restUnheard}
 use Rattle.session.specs.declared.Session.{Session}
+use Rattle.session.specs.declared.Operation.{Operation}
 use Rattle.session.specs.Session.{isRead, isStoring, askNow, kindAwaited}
-use Rattle.session.specs.Reply.{awaited, lengthsOk}
+use Rattle.session.specs.Reply.{awaited, lengthsOk, sameOperation}
 use Rattle.terms.specs.Terms.{recordLength, openingOk}
 use Rattle.session.specs.Ranges.{boundOk, standingRules, inRange}
 
@@ -57,28 +58,28 @@ product-low a b x y h k = le-trans (mul-le-mul-right b h) (mul-le-mul-left x k)
 
 -- ---- the rules of refusal 9 that every session meets, as plain facts
 pub record StandingIs (p : Plan) (s : Session) : Type 0 where
-  pub low : leb 1 (s .round) ≡ true
-  pub high : leb (s .round) (p .w) ≡ true
-  pub counted : (isRead (s .operation) or eqb (s .round) 1) ≡ true
-  pub bounded : boundOk (s .bound) (s .round) ≡ true
+  pub low : leb 1 (s .round .number) ≡ true
+  pub high : leb (s .round .number) (p .w) ≡ true
+  pub counted : (isRead (s .operation) or eqb (s .round .number) 1) ≡ true
+  pub bounded : boundOk (s .round .bound) (s .round .number) ≡ true
   pub rest : restUnheard (s .marks) (p .n) ≡ true
   pub opening : openingOk p (s .opening .0) ≡ true
 
 pub standing-facts : (p : Plan) (s : Session) → standingRules p s ≡ true → StandingIs p s
 unfolding standingRules all
 standing-facts p s e =
-    let e1 = both (leb 1 (s .round)) _ e in
-    let e2 = both (leb (s .round) (p .w)) _ (e1 .1) in
-    let e3 = both (isRead (s .operation) or eqb (s .round) 1) _ (e2 .1) in
-    let e4 = both (boundOk (s .bound) (s .round)) _ (e3 .1) in
+    let e1 = both (leb 1 (s .round .number)) _ e in
+    let e2 = both (leb (s .round .number) (p .w)) _ (e1 .1) in
+    let e3 = both (isRead (s .operation) or eqb (s .round .number) 1) _ (e2 .1) in
+    let e4 = both (boundOk (s .round .bound) (s .round .number)) _ (e3 .1) in
     let e5 = both (restUnheard (s .marks) (p .n)) _ (e4 .1) in
     let e6 = both (openingOk p (s .opening .0)) _ (e5 .1) in
     record { low = e1 .0; high = e2 .0; counted = e3 .0; bounded = e4 .0; rest = e5 .0; opening = e6 .0 }
 
 -- the numbers that they bound
 pub record Standing (p : Plan) (s : Session) : Type 0 where
-  pub round-low : 1 ≤ s .round
-  pub round-high : s .round ≤ p .w
+  pub round-low : 1 ≤ s .round .number
+  pub round-high : s .round .number ≤ p .w
   pub ask-high : s .opening .0 + p .w ≤ top
 
 pub in-range-is : (p : Plan) (s : Session) (d : List ℕ) (x : Bool) → x ≡ inRange p s d → x ≡ true → Standing p s
@@ -86,6 +87,10 @@ unfolding inRange
 in-range-is p s d x e t =
     let q = standing-facts p s (both (standingRules p s) _ (sym e ∙ t) .0) in
     record { round-low = leb-true _ _ (q .low); round-high = leb-true _ _ (q .high); ask-high = leb-true _ _ (q .opening) }
+
+pub range-stands : (op : Operation) (p : Plan) (s : Session) (d : List ℕ) → not (sameOperation op (s .operation) and inRange p s d) ≡ false → Standing p s
+range-stands op p s d e =
+    in-range-is p s d (inRange p s d) refl (both (sameOperation op (s .operation)) (inRange p s d) (not-false (sameOperation op (s .operation) and inRange p s d) e) .1)
 
 -- a write reply bears a timestamp
 pub reply-stamped : (p : Plan) (f : List ℕ) → ReplyIs p f → kindOf f ≡ 4 → 55 ≤ length f
@@ -104,7 +109,7 @@ module _ (s : Session) (f : List ℕ) (ask kind : ℕ) (a : ask ≡ askNow s) (k
   pub not-answered : z ≡ false → false ≡ awaited s f
   not-answered n = unfold awaited in rw (← answered, n)
 
-  module _ (y : z ≡ true) (x : Bool) (g : x ≡ isStoring (s .stage)) where
+  module _ (y : z ≡ true) (x : Bool) (g : x ≡ isStoring (s .round .stage)) where
     pub no-stamp : x ≡ false → true ≡ awaited s f
     no-stamp e = unfold awaited in rw (← answered, y, ← g, e)
 

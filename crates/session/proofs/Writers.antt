@@ -1,118 +1,40 @@
 -- Laws of the writer: the N records of an item as they are made, and that node k takes record k; a round after a reply; the outcome. Assumes
 -- nothing.
-use Prim.Native.Nat.{ℕ, _+_, _*_, _≤_, _<_}
+use Prim.Native.Nat.{ℕ, _≤_, _<_}
 use mathlib.Core.Path.{_≡_, refl, ap, _∙_}
 use mathlib.Core.Bool.{Bool, true, false, not}
-use mathlib.Core.List.{List, _++_}
-use native.Mathlib.Omega.{arith}
+use mathlib.Core.List.{List}
 use borrow.Author.Tests.{lt-ltb, le-ltb, eq-eqb, ne-eqb, eqb-true, not-true, not-false}
 use lib.Dec.{eqb}
-use lib.ListN.{length, set, length-append}
-use Rattle.octets.specs.Bytes.{part, put, be}
-use Rattle.octets.proofs.Laws.{part-put-same, length-be}
+use lib.ListN.{length, set}
 use Rattle.terms.specs.Ladder.{first, _and_}
-use Rattle.terms.specs.Terms.{planOk, recordLength, refusalNumber}
-use Rattle.terms.specs.Stamp.{time, stampAt, stampNumber, top}
+use Rattle.terms.specs.Terms.{planOk, refusalNumber}
+use Rattle.terms.specs.Stamp.{time, stampNumber, top}
 use Rattle.terms.specs.declared.Plan.{Plan}
 use Rattle.terms.specs.declared.Refusal.{Refusal}
 use Rattle.terms.specs.declared.Time.{Time}
 use Rattle.terms.specs.declared.Timestamp.{Timestamp}
 use Rattle.terms.proofs.Rungs.{both}
-use Rattle.fragments.specs.Fragments.{fragment, encoded}
-use Rattle.fragments.proofs.Theorems.{encoded-at, length-fragment}
 use Rattle.frame.specs.Frame.{kindOf, askOf, frameNode, bodyOf, goodReply, answersTo}
 use Rattle.frame.proofs.Frames.{ReplyIs, reply-is, length-2}
-use Rattle.record.specs.Record.{hashesOk}
-use Rattle.record.specs.Desk.{slotOf, fragmentIn, crossMade, deskOf, stampMade}
-use Rattle.sha256.proofs.Laws.{sha256-length}
-use Rattle.record.proofs.Records.{record-length, fragment-at}
-use Rattle.record.proofs.Desks.{sources, length-cross, cross-same, desk-same, length-desk, slot-is, made-ok}
 use Rattle.rounds.specs.declared.Heard.the-variants.{Record}
 use Rattle.rounds.specs.Rounds.{heardCount}
 use Rattle.session.specs.declared.Session.{Session}
 use Rattle.session.specs.declared.Check.{Check}
 use Rattle.session.specs.declared.Check.the-variants.{Failed}
 use Rattle.session.specs.declared.Operation.the-variants.{Write}
-use Rattle.session.specs.Session.{isRead, isStoring, replies, askNow, kindAwaited, markedOf, endedOf, storingOf, refused, stillOpen, done, clockSpent}
+use Rattle.session.specs.Session.{withGreatest, withMarks, isRead, isStoring, replies, askNow, kindAwaited, markedOf, endedOf, storingOf, refused, stillOpen, done, clockSpent}
 use Rattle.session.specs.Ranges.{inRange}
 use Rattle.session.specs.Reply.{lengthsOk, awaited, replyLadder, checkNumber}
-use Rattle.session.specs.Writer.{laterOf, timedOf, newTime, crossFor, stampFor, recordsFor, leaves, timeEnd, timeTurn, writeTurn, acceptedWrite, writeReply}
+use Rattle.recover.specs.Records.{stampFor, recordsFor}
+use Rattle.session.specs.Writer.{laterOf, timedOf, newTime, leaves, timeEnd, timeTurn, writeTurn, acceptedWrite, writeReply}
 use Rattle.session.proofs.Checks.{none-applies, goes-on, check-failed}
 use Rattle.session.proofs.Rules.{Lengths, lengths-are}
 
 -- the session after a time reply
 pub timed-is : (s : Session) (i t : ℕ) (g : Time) → g .0 ≡ laterOf (s .greatest .0) t
-    → _≡_ {A = Session}
-    (record {
-      operation = s .operation;
-      stage = s .stage;
-      round = s .round;
-      bound = s .bound;
-      opening = s .opening;
-      greatest = g;
-      stamp = s .stamp;
-      marks = set (s .marks) i (record { is = Record });
-    })
-    (timedOf s i t)
-timed-is s i t g e =
-    λ j. record {
-      operation = s .operation;
-      stage = s .stage;
-      round = s .round;
-      bound = s .bound;
-      opening = s .opening;
-      greatest = record { 0 = e j };
-      stamp = s .stamp;
-      marks = set (s .marks) i (record { is = Record });
-    }
-
--- ---- the N records of an item, from its fragments in the slots
-module _ (p : Plan) (i d₀ d₁ c₀ c₁ : List ℕ) (r : ℕ) (er : r ≡ recordLength p) (li : length i ≡ p .m * p .f) (ld : length d₀ ≡ p .n * recordLength p)
-    (e : d₁ ≡ encoded (p .m) (p .f) i (40 + 32 * p .n) r (p .n) d₀) (g : c₁ ≡ put c₀ 0 (crossMade (fragmentIn p d₁) (p .n))) where
-  held : (k : ℕ) → k < p .n → fragmentIn p d₁ k ≡ fragment (p .m) (p .f) i k
-  held k h =
-      let z : k * recordLength p + 40 + 32 * p .n ≡ 40 + 32 * p .n + k * r = omega (arith, ap (λ (x : ℕ). k * x) er) in
-      fragment-at p d₁ (k * recordLength p) ∙ ap (λ (q : ℕ). part d₁ q (p .f)) z
-      ∙ rw e (encoded-at (p .m) (p .f) i li (40 + 32 * p .n) r (omega (arith, er, record-length p)) (p .n) d₀ (sources p d₀ r er (p .n) ld) k h)
-
-  pub cross-made : part c₁ 0 (32 * p .n) ≡ crossFor p i
-  unfolding crossFor
-  cross-made =
-      ap (λ (l : List ℕ). part l 0 (32 * p .n)) g ∙ part-put-same c₀ 0 (crossMade (fragmentIn p d₁) (p .n)) (32 * p .n) (length-cross (fragmentIn p d₁) (p .n)) (omega arith)
-      ∙ cross-same (fragmentIn p d₁) (fragment (p .m) (p .f) i) (p .n) held
-
-  -- the timestamp made of that cross checksum, and the desk filled with both
-  pub records-made : (time : ℕ) (t : Timestamp) (d₂ : List ℕ) → t ≡ stampAt (stampMade time (part c₁ 0 (32 * p .n))) 0
-      → be 40 (stampNumber t) ≡ stampMade time (part c₁ 0 (32 * p .n))
-      → d₂ ≡ deskOf (be 40 (stampNumber t)) (part c₁ 0 (32 * p .n)) (fragmentIn p d₁) (p .n)
-      → (t ≡ stampFor p time i) × (d₂ ≡ recordsFor p time i)
-  unfolding stampFor recordsFor
-  records-made time t d₂ a b x = (
-    a ∙ ap (λ (l : List ℕ). stampAt (stampMade time l) 0) cross-made,
-    x ∙ rw b (ap (λ (l : List ℕ). deskOf (stampMade time l) l (fragmentIn p d₁) (p .n)) cross-made)
-        ∙ desk-same (fragmentIn p d₁) (fragment (p .m) (p .f) i) (p .n) held (stampMade time (crossFor p i)) (crossFor p i),
-  )
-
--- ---- what the records are
-module _ (p : Plan) (t : ℕ) (i : List ℕ) (l : length i ≡ p .m * p .f) where
-  length-stamp : length (stampMade t (crossFor p i)) ≡ 40
-  length-stamp = simp (length-append, length-be, sha256-length)
-
-  -- N·R bytes together
-  pub length-records : length (recordsFor p t i) ≡ p .n * recordLength p
-  unfolding recordsFor crossFor
-  length-records =
-      length-desk p _ _ (fragment (p .m) (p .f) i) length-stamp (length-cross (fragment (p .m) (p .f) i) (p .n)) (λ k h. length-fragment (p .m) (p .f) i l k)
-
-  -- slot k is the timestamp, the cross checksum and fragment k, and node k takes it: both hash checks hold
-  pub record-is : (k : ℕ) → k < p .n → slotOf p (recordsFor p t i) k ≡ stampMade t (crossFor p i) ++ (crossFor p i ++ fragment (p .m) (p .f) i k)
-  unfolding recordsFor crossFor
-  record-is k h =
-      slot-is p _ _ (fragment (p .m) (p .f) i) k length-stamp (length-cross (fragment (p .m) (p .f) i) (p .n)) (λ j y. length-fragment (p .m) (p .f) i l j) h
-
-  pub record-passes : (k : ℕ) → k < p .n → hashesOk p k (slotOf p (recordsFor p t i) k) ≡ true
-  unfolding crossFor
-  record-passes k h = ap (hashesOk p k) (record-is k h) ∙ made-ok p t (fragment (p .m) (p .f) i) k h (length-fragment (p .m) (p .f) i l k)
+    → withMarks (withGreatest s g) (set (s .marks) i (record { is = Record })) ≡ timedOf s i t
+timed-is s i t g e = λ j. withMarks (withGreatest s (record { 0 = e j })) (set (s .marks) i (record { is = Record }))
 
 -- ---- a round after a reply, by the number of nodes heard
 module _ (p : Plan) (s : Session) (d : List ℕ) (n : ℕ) (c : n ≡ heardCount (s .marks)) where
@@ -161,7 +83,7 @@ taking p s f d item e =
     }
 
 -- a time round takes a time reply
-pub time-there : (p : Plan) (s : Session) (f d : List ℕ) (item : ℕ) → Taking p s f d item → isStoring (s .stage) ≡ false → length f ≡ 23
+pub time-there : (p : Plan) (s : Session) (f d : List ℕ) (item : ℕ) → Taking p s f d item → isStoring (s .round .stage) ≡ false → length f ≡ 23
 unfolding awaited kindAwaited
 time-there p s f d item q g =
     let a = both (answersTo f (askNow s) (kindAwaited s)) _ (q .awaits) in
@@ -171,7 +93,7 @@ time-there p s f d item q g =
 
 -- ---- the outcome
 module _ (p : Plan) (s : Session) (f d i : List ℕ) where
-  module _ (x : Bool) (g : x ≡ isStoring (s .stage)) (n : ℕ) (m : n ≡ frameNode f) where
+  module _ (x : Bool) (g : x ≡ isStoring (s .round .stage)) (n : ℕ) (m : n ≡ frameNode f) where
     pub in-write : x ≡ true → (u : Session) → u ≡ markedOf s n Record → writeTurn p u d ≡ acceptedWrite p s f d i
     unfolding acceptedWrite
     in-write e u v = rw (← g, e, v, m)

@@ -30,7 +30,7 @@ abbrev pub openingLadder : Plan → ℕ → List Rung
 openingLadder p a = on 1 (not (planOk p)) ∷ on 13 (not (openingOk p a)) ∷ []
 
 abbrev pub freshOf : Operation → ℕ → Bound → Ask → Session
-freshOf op round b a = sessionWith op Asking round b a (record { 0 = 0 }) zeroStamp unheards
+freshOf op round b a = sessionWith op (record { stage = Asking; number = round; bound = b }) a (record { 0 = 0 }) zeroStamp unheards
 
 -- an answer as a number: 0 where the opening is accepted
 abbrev pub openingNumber : Opening → ℕ

@@ -39,7 +39,7 @@ owedLadder p s node d request =
     on 1 (not (planOk p)) ∷
     on 2 (not (roomOk p (length d) request)) ∷
     on 9 (not (inRange p s d)) ∷
-    on 14 (isEnded (s .stage)) ∷
+    on 14 (isEnded (s .round .stage)) ∷
     on 4 (not (ltb node (p .n))) ∷
     on 11 (isHeard s node) ∷ []
 
@@ -51,8 +51,8 @@ readRequest (Under u) node ask = frame 6 node ask (be 40 (stampNumber u))
 -- a write or repair round sends the node's record, slot number node of the desk; a time round asks kind 1
 unfoldable pub requestOf : Plan → Session → ℕ → List ℕ → List ℕ
 requestOf p s node d =
-    cond (isStoring (s .stage)) (frame 3 node (askNow s) (slotOf p d node))
-    (cond (isRead (s .operation)) (readRequest (s .bound) node (askNow s)) (frame 1 node (askNow s) []))
+    cond (isStoring (s .round .stage)) (frame 3 node (askNow s) (slotOf p d node))
+    (cond (isRead (s .operation)) (readRequest (s .round .bound) node (askNow s)) (frame 1 node (askNow s) []))
 
 pub data Due : Type 0 where
   refused : ℕ → Due

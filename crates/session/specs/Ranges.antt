@@ -10,7 +10,7 @@ use mathlib.Core.Bool.{Bool, not}
 use mathlib.Core.List.{List, [], _∷_}
 use lib.Dec.{ltb, leb, eqb}
 use Rattle.terms.specs.Ladder.{all, _and_, _or_}
-use Rattle.terms.specs.Terms.{recordLength, openingOk}
+use Rattle.terms.specs.Terms.{slotsOf, openingOk}
 use Rattle.terms.specs.declared.Plan.{Plan}
 use Rattle.rounds.specs.declared.Bound.{Bound}
 use Rattle.rounds.specs.declared.Bound.the-variants.{Free, Under}
@@ -26,10 +26,10 @@ boundOk (Under u) round = ltb 1 round and leb 1 (u .time .0)
 unfoldable pub standingRules : Plan → Session → Bool
 standingRules p s =
     all (
-    leb 1 (s .round) ∷
-    leb (s .round) (p .w) ∷
-    (isRead (s .operation) or eqb (s .round) 1) ∷
-    boundOk (s .bound) (s .round) ∷
+    leb 1 (s .round .number) ∷
+    leb (s .round .number) (p .w) ∷
+    (isRead (s .operation) or eqb (s .round .number) 1) ∷
+    boundOk (s .round .bound) (s .round .number) ∷
     restUnheard (s .marks) (p .n) ∷
     openingOk p (s .opening .0) ∷ [])
 
@@ -38,11 +38,11 @@ standingRules p s =
 unfoldable pub openRules : Plan → Session → List ℕ → Bool
 openRules p s d =
     all (
-    (not (isStoring (s .stage)) or leb 1 (s .stamp .time .0)) ∷
+    (not (isStoring (s .round .stage)) or leb 1 (s .stamp .time .0)) ∷
     (readRound s or noneFirst (s .marks)) ∷
     ltb (heardCount (s .marks)) (replies p) ∷
-    (not (readRound s) or slotsFit (s .marks) d (recordLength p) (s .bound) (p .n)) ∷ [])
+    (not (readRound s) or slotsFit (s .marks) d (slotsOf p) (s .round .bound) (p .n)) ∷ [])
 
 -- "An ended session meets only the rules on round, bound, opening ask and marks from N on."
 unfoldable pub inRange : Plan → Session → List ℕ → Bool
-inRange p s d = standingRules p s and (isEnded (s .stage) or openRules p s d)
+inRange p s d = standingRules p s and (isEnded (s .round .stage) or openRules p s d)

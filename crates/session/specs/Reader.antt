@@ -1,9 +1,6 @@
 -- The reader. Document 01, "The client", reading, and Figure 3 of the report: an accepted reply is a mark, and a record in its slot; at
 -- N-t replies the round closes, and the reader acts on the close.
 --   Outcome outcome    the answer, the session, the desk and the item as a call leaves them
---   headLength lowest  the length of timestamp and cross checksum; the m lowest-numbered of a set
---   sound              validation
---   decoded collected repaired   the item from the set, and from the desk's first m slots; the desk with all N records of the set
 --   heard              the session and the desk after an accepted reply of a read round
 --   failing            incomplete, or validation failed
 --   acted              what a closed round comes to
@@ -11,30 +8,27 @@
 --   stored             an accepted reply of a repair round
 --   readReply ReadReplyCall   the call and its contract
 -- Assumes nothing.
-use Prim.Native.Nat.{ℕ, _+_, _*_, _≤_, _<_}
+use Prim.Native.Nat.{ℕ, _*_}
 use mathlib.Core.Path.{_≡_}
-use mathlib.Core.Bool.{Bool, true, cond}
+use mathlib.Core.Bool.{true, cond}
 use mathlib.Core.List.{List}
-use lib.ListN.{length, getD, take}
+use lib.ListN.{length}
 use lib.Dec.{ltb, leb}
 use Rattle.octets.specs.Bytes.{put}
 use Rattle.terms.specs.Ladder.{first}
-use Rattle.terms.specs.Terms.{planOk, recordLength, COMPLETE, INCOMPLETE}
+use Rattle.terms.specs.Terms.{planOk, recordLength, slotsOf, thresholdsOf}
 use Rattle.terms.specs.Stamp.{stampNumber}
 use Rattle.terms.specs.declared.Plan.{Plan}
 use Rattle.terms.specs.declared.Timestamp.{Timestamp}
-use Rattle.terms.specs.declared.Clients.{Clients}
-use Rattle.terms.specs.declared.Clients.the-variants.{Crash, Byzantine}
 use Rattle.terms.specs.declared.Verdict.{Verdict}
 use Rattle.terms.specs.declared.Verdict.the-variants.{Complete, Repair, Aborted, Incomplete}
-use Rattle.fragments.specs.Fragments.{from, laid}
 use Rattle.frame.specs.Frame.{frameNode, bodyOf}
 use Rattle.rounds.specs.declared.Heard.the-variants.{First, Record}
 use Rattle.rounds.specs.declared.Close.{Close}
 use Rattle.rounds.specs.declared.Lead.{Lead}
 use Rattle.rounds.specs.declared.Lead.the-variants.{Nobody, Node}
 use Rattle.rounds.specs.Rounds.{heardCount, Closed, closeOf}
-use Rattle.recover.specs.Recover.{validates, refilled}
+use Rattle.recover.specs.Recover.{sound, decoded, collected, repaired, Usable}
 use Rattle.session.specs.declared.Session.{Session}
 use Rattle.session.specs.declared.Took.{Took}
 use Rattle.session.specs.Session.{isStoring, replies, markedOf, endedOf, nextOf, storingOf, Said, refused, stillOpen, done, neverWritten, aborted, roundsSpent, saidOf}
@@ -49,54 +43,28 @@ pub record Outcome : Type 0 where
 abbrev pub outcome : Said → Session → List ℕ → List ℕ → Outcome
 outcome a s d i = record { said = a; session = s; desk = d; item = i }
 
--- timestamp and cross checksum, the start of a slot
-abbrev pub headLength : Plan → ℕ
-headLength p = 40 + 32 * p .n
-
-abbrev pub lowest : Plan → Closed → List ℕ
-lowest p c = take (p .m) (c .nodes)
-
--- "under Byzantine clients, regenerate all N fragments and compare the cross checksum; under crash clients always yes"
-abbrev pub trusted : Clients → Bool → Bool
-trusted Crash b = true
-trusted Byzantine b = b
-
-unfoldable pub sound : Plan → Closed → ℕ → List ℕ → Bool
-sound p c a d = trusted (p .clients) (validates d (headLength p) (recordLength p) (p .f) (lowest p c) a (p .n))
-
--- decoded from the m lowest-numbered of the set; after a repair round from the desk's first m slots
-unfoldable pub decoded : Plan → Closed → List ℕ → List ℕ → List ℕ
-decoded p c d i = laid d (headLength p) (recordLength p) (p .f) (lowest p c) 0 (p .f) (p .m) i
-
-unfoldable pub collected : Plan → List ℕ → List ℕ → List ℕ
-collected p d i = laid d (headLength p) (recordLength p) (p .f) (from 0 (p .m)) 0 (p .f) (p .m) i
-
--- the desk with all N records of the set
-unfoldable pub repaired : Plan → Closed → ℕ → List ℕ → List ℕ
-repaired p c a d = refilled d (headLength p) (recordLength p) (p .f) (lowest p c) a (p .n)
-
 -- "Incomplete, or validation failed: the desk stays; the next round opens, or after round W the end is rounds spent"
 unfoldable pub failing : Plan → Session → Timestamp → List ℕ → List ℕ → Outcome
-failing p s t d i = cond (leb (p .w) (s .round)) (outcome (roundsSpent (s .round)) (endedOf s) d i) (outcome stillOpen (nextOf s t) d i)
+failing p s t d i = cond (leb (p .w) (s .round .number)) (outcome (roundsSpent (s .round .number)) (endedOf s) d i) (outcome stillOpen (nextOf s t) d i)
 
 unfoldable pub actOn : Verdict → Plan → Session → Closed → ℕ → List ℕ → List ℕ → Outcome
 actOn Complete p s c a d i =
-    cond (sound p c a d) (outcome (done (stampNumber (c .stamp)) (s .round)) (endedOf s) d (decoded p c d i)) (failing p s (c .stamp) d i)
+    cond (sound p c a d) (outcome (done (stampNumber (c .stamp)) (s .round .number)) (endedOf s) d (decoded p c d i)) (failing p s (c .stamp) d i)
 actOn Repair p s c a d i =
     cond (sound p c a d) (outcome stillOpen (storingOf s (c .stamp)) (repaired p c a d) i) (failing p s (c .stamp) d i)
-actOn Aborted p s c a d i = outcome (aborted (s .round)) (endedOf s) d i
+actOn Aborted p s c a d i = outcome (aborted (s .round .number)) (endedOf s) d i
 actOn Incomplete p s c a d i = failing p s (c .stamp) d i
 
 -- "First triple: never written"
 unfoldable pub actFor : Lead → Plan → Session → Closed → List ℕ → List ℕ → Outcome
-actFor Nobody p s c d i = outcome (neverWritten (s .round)) (endedOf s) d i
+actFor Nobody p s c d i = outcome (neverWritten (s .round .number)) (endedOf s) d i
 actFor (Node a) p s c d i = actOn (c .verdict) p s c a d i
 
 abbrev pub acted : Plan → Session → Closed → List ℕ → List ℕ → Outcome
 acted p s c d i = actFor (c .lead) p s c d i
 
 abbrev pub closed : Plan → Session → List ℕ → Closed
-closed p s d = closeOf (s .marks) d (p .n) (headLength p) (recordLength p) (p .member) (COMPLETE p) (INCOMPLETE p)
+closed p s d = closeOf (s .marks) d (slotsOf p) (p .member) (thresholdsOf p)
 
 unfoldable pub settled : Plan → Session → List ℕ → List ℕ → Outcome
 settled p s d i = cond (ltb (heardCount (s .marks)) (replies p)) (outcome stillOpen s d i) (acted p s (closed p s d) d i)
@@ -111,10 +79,10 @@ heard p s f d i =
 unfoldable pub stored : Plan → Session → List ℕ → List ℕ → List ℕ → Outcome
 stored p s f d i =
     cond (ltb (heardCount (markedOf s (frameNode f) Record .marks)) (replies p)) (outcome stillOpen (markedOf s (frameNode f) Record) d i)
-    (outcome (done (stampNumber (s .stamp)) (s .round)) (endedOf (markedOf s (frameNode f) Record)) d (collected p d i))
+    (outcome (done (stampNumber (s .stamp)) (s .round .number)) (endedOf (markedOf s (frameNode f) Record)) d (collected p d i))
 
 unfoldable pub accepted : Plan → Session → List ℕ → List ℕ → List ℕ → Outcome
-accepted p s f d i = cond (isStoring (s .stage)) (stored p s f d i) (heard p s f d i)
+accepted p s f d i = cond (isStoring (s .round .stage)) (stored p s f d i) (heard p s f d i)
 
 -- one reply: the first refusal that applies hands back everything as it came; where none does, it is accepted
 unfoldable pub readReply : Plan → Session → List ℕ → List ℕ → List ℕ → Outcome
@@ -125,15 +93,6 @@ pub record ReadReplyCall (p : Plan) (s : Session) (f d i : List ℕ) (t : Took) 
   pub is : outcome (saidOf (t .answer)) (t .session) d₂ i₂ ≡ readReply p s f d i
 
 -- ---- for the functions below the call
--- a close of this plan whose set can be decoded: node a leads it, it has m nodes, and they and the desk are this plan's
-pub record Usable (p : Plan) (c : Close) (a : ℕ) (d : List ℕ) : Type 0 where
-  pub plan : planOk p ≡ true
-  pub desk : length d ≡ p .n * recordLength p
-  pub lead : a < p .n
-  pub nodes : length (c .set .nodes) ≡ 16
-  pub size : p .m ≤ c .set .size
-  pub below : (k : ℕ) → k < p .m → getD (c .set .nodes) k 0 < p .n
-
 -- a close that can be acted on: where it is to be decoded or repaired, it can be
 pub record Acting (p : Plan) (c : Close) (d i : List ℕ) : Type 0 where
   pub plan : planOk p ≡ true

@@ -36,7 +36,7 @@ sameOperation Read o = isRead o
 sameOperation Write o = not (isRead o)
 
 unfoldable pub awaited : Session → List ℕ → Bool
-awaited s f = answersTo f (askNow s) (kindAwaited s) and (not (isStoring (s .stage)) or eqb (stamp (bodyOf f)) (stampNumber (s .stamp)))
+awaited s f = answersTo f (askNow s) (kindAwaited s) and (not (isStoring (s .round .stage)) or eqb (stamp (bodyOf f)) (stampNumber (s .stamp)))
 
 unfoldable pub isHeard : Session → ℕ → Bool
 isHeard s i = heardAt (s .marks) i
@@ -46,7 +46,7 @@ replyLadder op p s f d item =
     on 1 (not (planOk p)) ∷
     on 2 (not (lengthsOk p (length d) item)) ∷
     on 9 (not (sameOperation op (s .operation) and inRange p s d)) ∷
-    on 14 (isEnded (s .stage)) ∷
+    on 14 (isEnded (s .round .stage)) ∷
     on 4 (not (goodReply p f)) ∷
     on 10 (not (awaited s f)) ∷
     on 11 (isHeard s (frameNode f)) ∷ []
@@ -59,7 +59,7 @@ abbrev pub recordLadder : Plan → Session → List ℕ → List Rung
 recordLadder p s f =
     on 5 (bears p f and timeZero (bodyOf f)) ∷
     on 6 (bears p f and not (hashesOk p (frameNode f) (bodyOf f))) ∷
-    on 12 (bears p f and not (underOf (s .bound) (stamp (bodyOf f)))) ∷ []
+    on 12 (bears p f and not (underOf (s .round .bound) (stamp (bodyOf f)))) ∷ []
 
 -- 1, 2, 9, 14, 4, 10, 11, 5, 6, 12
 abbrev pub readLadder : Plan → Session → List ℕ → List ℕ → ℕ → List Rung

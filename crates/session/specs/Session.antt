@@ -4,7 +4,8 @@
 --   replies            N-t, the replies that close a round
 --   askNow             the ask number of the round that is open
 --   kindAwaited        the kind of the reply that the round awaits
---   sessionWith        a session by its eight fields
+--   sessionWith        a session by its fields
+--   withRound withGreatest withStamp withMarks inStage   a session with one field set, a round in another stage
 --   markedOf endedOf nextOf storingOf   the session after a node was heard, ended, in the next read round, in a write or repair round
 --   Said saidOf isRefused   an answer in the document's terms, and whether it is a refusal
 -- Assumes nothing.
@@ -25,6 +26,7 @@ use Rattle.rounds.specs.declared.Bound.{Bound}
 use Rattle.rounds.specs.declared.Bound.the-variants.{Under}
 use Rattle.rounds.specs.Rounds.{unheards}
 use Rattle.session.specs.declared.Session.{Session}
+use Rattle.session.specs.declared.Round.{Round}
 use Rattle.session.specs.declared.Operation.{Operation}
 use Rattle.session.specs.declared.Operation.the-variants.{Write, Read}
 use Rattle.session.specs.declared.Stage.{Stage}
@@ -52,36 +54,52 @@ isEnded Storing = false
 isEnded Ended = true
 
 abbrev pub readRound : Session → Bool
-readRound s = isRead (s .operation) and isAsking (s .stage)
+readRound s = isRead (s .operation) and isAsking (s .round .stage)
 
 abbrev pub replies : Plan → ℕ
 replies p = p .n - p .t
 
 -- "The opening ask number serves round 1, each round takes the next, a write or repair round the one after."
 unfoldable pub askNow : Session → ℕ
-askNow s = cond (isStoring (s .stage)) (s .opening .0 + s .round) (s .opening .0 + (s .round - 1))
+askNow s = cond (isStoring (s .round .stage)) (s .opening .0 + s .round .number) (s .opening .0 + (s .round .number - 1))
 
 -- 2 in a time round, 7 in a read round, 4 in a write or repair round
 unfoldable pub kindAwaited : Session → ℕ
-kindAwaited s = cond (isStoring (s .stage)) 4 (cond (isRead (s .operation)) 7 2)
+kindAwaited s = cond (isStoring (s .round .stage)) 4 (cond (isRead (s .operation)) 7 2)
 
--- a session by its eight fields
-abbrev pub sessionWith : Operation → Stage → ℕ → Bound → Ask → Time → Timestamp → List Mark → Session
-sessionWith o g r b a t w m = record { operation = o; stage = g; round = r; bound = b; opening = a; greatest = t; stamp = w; marks = m }
+-- a session by its fields
+abbrev pub sessionWith : Operation → Round → Ask → Time → Timestamp → List Mark → Session
+sessionWith o r a t w m = record { operation = o; round = r; opening = a; greatest = t; stamp = w; marks = m }
+
+-- with one field set
+abbrev pub withRound : Session → Round → Session
+withRound s r = sessionWith (s .operation) r (s .opening) (s .greatest) (s .stamp) (s .marks)
+
+abbrev pub withGreatest : Session → Time → Session
+withGreatest s t = sessionWith (s .operation) (s .round) (s .opening) t (s .stamp) (s .marks)
+
+abbrev pub withStamp : Session → Timestamp → Session
+withStamp s t = sessionWith (s .operation) (s .round) (s .opening) (s .greatest) t (s .marks)
+
+abbrev pub withMarks : Session → List Mark → Session
+withMarks s m = sessionWith (s .operation) (s .round) (s .opening) (s .greatest) (s .stamp) m
+
+abbrev pub inStage : Round → Stage → Round
+inStage r g = record { stage = g; number = r .number; bound = r .bound }
 
 abbrev pub markedOf : Session → ℕ → Heard → Session
-markedOf s i h = sessionWith (s .operation) (s .stage) (s .round) (s .bound) (s .opening) (s .greatest) (s .stamp) (set (s .marks) i (record { is = h }))
+markedOf s i h = withMarks s (set (s .marks) i (record { is = h }))
 
 abbrev pub endedOf : Session → Session
-endedOf s = sessionWith (s .operation) Ended (s .round) (s .bound) (s .opening) (s .greatest) (s .stamp) (s .marks)
+endedOf s = withRound s (inStage (s .round) Ended)
 
 -- "the next round opens", below the candidate's timestamp
 abbrev pub nextOf : Session → Timestamp → Session
-nextOf s t = sessionWith (s .operation) Asking (s .round + 1) (Under t) (s .opening) (s .greatest) (s .stamp) unheards
+nextOf s t = withMarks (withRound s (record { stage = Asking; number = s .round .number + 1; bound = Under t })) unheards
 
 -- a write or repair round, in which t is the timestamp being written
 abbrev pub storingOf : Session → Timestamp → Session
-storingOf s t = sessionWith (s .operation) Storing (s .round) (s .bound) (s .opening) (s .greatest) t unheards
+storingOf s t = withMarks (withStamp (withRound s (inStage (s .round) Storing)) t) unheards
 
 -- ---- an answer in the document's terms: a refusal's number, open, or an ending with its timestamp and rounds
 pub data Said : Type 0 where

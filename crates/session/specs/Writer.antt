@@ -3,7 +3,6 @@
 -- replies bearing that timestamp. The item comes as a slice that cannot be written, so it is not among the outcomes.
 --   laterOf timedOf    the greatest time so far; the session after a time reply
 --   newTime            the time of the write, from the greatest time
---   crossFor stampFor recordsFor   the cross checksum, the timestamp and the N records of an item
 --   Leaves leaves      the answer, the session and the desk as a call leaves them
 --   timeTurn timeEnd   the time round after a reply: open, clock spent, or the write round opens
 --   writeTurn          the write round after a reply: open, or done
@@ -17,18 +16,16 @@ use mathlib.Core.List.{List}
 use lib.ListN.{length, set}
 use lib.Dec.{ltb, eqb}
 use Rattle.terms.specs.Ladder.{first}
-use Rattle.terms.specs.Stamp.{time, stampAt, stampNumber, top}
+use Rattle.terms.specs.Stamp.{time, stampNumber, top}
 use Rattle.terms.specs.declared.Plan.{Plan}
-use Rattle.terms.specs.declared.Timestamp.{Timestamp}
-use Rattle.fragments.specs.Fragments.{fragment}
 use Rattle.frame.specs.Frame.{frameNode, bodyOf}
-use Rattle.record.specs.Desk.{crossMade, deskOf, stampMade}
+use Rattle.recover.specs.Records.{stampFor, recordsFor}
 use Rattle.rounds.specs.declared.Heard.the-variants.{Record}
 use Rattle.rounds.specs.Rounds.{heardCount}
 use Rattle.session.specs.declared.Session.{Session}
 use Rattle.session.specs.declared.Took.{Took}
 use Rattle.session.specs.declared.Operation.the-variants.{Write}
-use Rattle.session.specs.Session.{isStoring, replies, sessionWith, markedOf, endedOf, storingOf, Said, refused, stillOpen, done, clockSpent, saidOf}
+use Rattle.session.specs.Session.{isStoring, replies, withGreatest, withMarks, markedOf, endedOf, storingOf, Said, refused, stillOpen, done, clockSpent, saidOf}
 use Rattle.session.specs.Reply.{replyLadder}
 
 -- ---- times
@@ -37,23 +34,11 @@ laterOf a b = cond (ltb a b) b a
 
 -- "In a time or write round a heard node is marked 'record'"
 abbrev pub timedOf : Session → ℕ → ℕ → Session
-timedOf s i t =
-    sessionWith (s .operation) (s .stage) (s .round) (s .bound) (s .opening) (record { 0 = laterOf (s .greatest .0) t }) (s .stamp)
-    (set (s .marks) i (record { is = Record }))
+timedOf s i t = withMarks (withGreatest s (record { 0 = laterOf (s .greatest .0) t })) (set (s .marks) i (record { is = Record }))
 
 -- "the new time is the greatest reply plus 1"
 abbrev pub newTime : ℕ → ℕ
 newTime greatest = greatest + 1
-
--- ---- the records of an item, written at a time
-unfoldable pub crossFor : Plan → List ℕ → List ℕ
-crossFor p i = crossMade (fragment (p .m) (p .f) i) (p .n)
-
-unfoldable pub stampFor : Plan → ℕ → List ℕ → Timestamp
-stampFor p t i = stampAt (stampMade t (crossFor p i)) 0
-
-unfoldable pub recordsFor : Plan → ℕ → List ℕ → List ℕ
-recordsFor p t i = deskOf (stampMade t (crossFor p i)) (crossFor p i) (fragment (p .m) (p .f) i) (p .n)
 
 -- ---- the call
 pub record Leaves : Type 0 where
@@ -79,7 +64,7 @@ writeTurn p s d = cond (ltb (heardCount (s .marks)) (replies p)) (leaves stillOp
 
 unfoldable pub acceptedWrite : Plan → Session → List ℕ → List ℕ → List ℕ → Leaves
 acceptedWrite p s f d i =
-    cond (isStoring (s .stage)) (writeTurn p (markedOf s (frameNode f) Record) d) (timeTurn p (timedOf s (frameNode f) (time (bodyOf f))) d i)
+    cond (isStoring (s .round .stage)) (writeTurn p (markedOf s (frameNode f) Record) d) (timeTurn p (timedOf s (frameNode f) (time (bodyOf f))) d i)
 
 -- one reply: the first refusal that applies hands back everything as it came; where none does, it is accepted
 unfoldable pub writeReply : Plan → Session → List ℕ → List ℕ → List ℕ → Leaves

@@ -18,7 +18,7 @@ ghost use mathlib.Core.Path.{_≡_};
 ghost use mathlib.Core.Bool.{true, not};
 ghost use Prim.Native.Nat.{ℕ, _+_, _-_, _*_, _≤_, _<_};
 ghost use lib.ListN.{length};
-ghost use Rattle.terms.specs.Terms.{planOk, recordLength};
+ghost use Rattle.terms.specs.Terms.{planOk, recordLength, slotsOf};
 ghost use lib.Dec.{eqb, leb};
 ghost use Rattle.terms.specs.Ladder.{first, _or_};
 ghost use Rattle.frame.specs.Frame.{kindOf};
@@ -39,14 +39,27 @@ pub enum Stage {
     Ended,
 }
 
+// The round that a session is in.
+pub struct Round {
+    // What it does: it asks, it stores, or it is over and was the last.
+    pub stage: Stage,
+    // From 1: read rounds are counted, a write stays in round 1.
+    pub number: u64,
+    // A read round above 1 asks for records below this timestamp.
+    pub bound: Bound,
+}
+
+// What a client knows between two replies. The fields not in use are zero, and no call looks at them.
 pub struct Session {
     pub operation: Operation,
-    pub stage: Stage,
-    pub round: u64,
-    pub bound: Bound,
+    pub round: Round,
+    // The ask number of round 1.
     pub opening: Ask,
+    // The greatest time heard in a time round.
     pub greatest: Time,
+    // The timestamp being written, in a write or repair round.
     pub stamp: Timestamp,
+    // For each node, what was heard of it in this round.
     pub marks: [Mark; 16],
 }
 
@@ -161,6 +174,31 @@ fn lengths_ok(p: Plan, desk: usize, item: usize) -> bool
 }
 
 impl Session {
+    // What stage its round is in.
+    fn asking(self) -> bool
+        ensures { λ r. ⌜ r ≡ isAsking (self .round .stage) ⌝ }
+    {
+        let round = self.round;
+        let stage = round.stage;
+        asking(stage)
+    }
+
+    fn storing(self) -> bool
+        ensures { λ r. ⌜ r ≡ isStoring (self .round .stage) ⌝ }
+    {
+        let round = self.round;
+        let stage = round.stage;
+        storing(stage)
+    }
+
+    fn ended(self) -> bool
+        ensures { λ r. ⌜ r ≡ isEnded (self .round .stage) ⌝ }
+    {
+        let round = self.round;
+        let stage = round.stage;
+        ended(stage)
+    }
+
     // Node i heard, with h.
     fn marked(mut self, i: usize, h: Heard) -> Session
         requires { ⌜ i < 16 ⌝ }
@@ -171,66 +209,53 @@ impl Session {
     }
 
     // The same session, ended.
-    fn over(self) -> Session
+    fn over(mut self) -> Session
         ensures { λ r. ⌜ r ≡ endedOf self ⌝ }
     {
-        let operation = self.operation;
-        let bound = self.bound;
-        let opening = self.opening;
-        let greatest = self.greatest;
-        let stamp = self.stamp;
-        let marks = self.marks;
-        Session {
-            operation: operation,
+        let now = self.round;
+        let bound = now.bound;
+        let round = Round {
             stage: Stage::Ended,
-            round: self.round,
+            number: now.number,
             bound: bound,
-            opening: opening,
-            greatest: greatest,
-            stamp: stamp,
-            marks: marks,
-        }
+        };
+        self.round = round;
+        self
     }
 
     // The next read round, below t: all marks unheard.
-    fn next(self, t: Timestamp) -> Session
-        requires { ⌜ self .round < 65535 ⌝ }
+    fn next(mut self, t: Timestamp) -> Session
+        requires { ⌜ self .round .number < 65535 ⌝ }
         ensures { λ r. ⌜ r ≡ nextOf self t ⌝ }
     {
-        let operation = self.operation;
-        let opening = self.opening;
-        let greatest = self.greatest;
-        let stamp = self.stamp;
-        Session {
-            operation: operation,
+        let number = self.round.number + 1;
+        let round = Round {
             stage: Stage::Asking,
-            round: self.round + 1,
+            number: number,
             bound: Bound::Under(t),
-            opening: opening,
-            greatest: greatest,
-            stamp: stamp,
-            marks: [Mark { is: Heard::Unheard }; 16],
-        }
+        };
+        self.round = round;
+        let marks = [Mark { is: Heard::Unheard }; 16];
+        self.marks = marks;
+        self
     }
 
     // The write or repair round that stores t: all marks unheard.
-    fn store(self, t: Timestamp) -> Session
+    fn store(mut self, t: Timestamp) -> Session
         ensures { λ r. ⌜ r ≡ storingOf self t ⌝ }
     {
-        let operation = self.operation;
-        let bound = self.bound;
-        let opening = self.opening;
-        let greatest = self.greatest;
-        Session {
-            operation: operation,
+        let now = self.round;
+        let bound = now.bound;
+        let round = Round {
             stage: Stage::Storing,
-            round: self.round,
+            number: now.number,
             bound: bound,
-            opening: opening,
-            greatest: greatest,
-            stamp: t,
-            marks: [Mark { is: Heard::Unheard }; 16],
-        }
+        };
+        self.round = round;
+        self.stamp = t;
+        let marks = [Mark { is: Heard::Unheard }; 16];
+        self.marks = marks;
+        self
     }
 
     // Whether a read round is open.
@@ -241,8 +266,16 @@ impl Session {
         if !reads(o) {
             return false;
         }
-        let s = self.stage;
-        asking(s)
+        self.asking()
+    }
+
+    // Whether the bound of its round is there or not, as the number says.
+    fn bound_ok(self) -> bool
+        ensures { λ r. ⌜ r ≡ boundOk (self .round .bound) (self .round .number) ⌝ }
+    {
+        let round = self.round;
+        let bound = round.bound;
+        bound_ok(bound, round.number)
     }
 
     // The rules of refusal 9 that every session meets.
@@ -250,7 +283,7 @@ impl Session {
         requires { ⌜ planOk p ≡ true ⌝ }
         ensures { λ r. ⌜ r ≡ standingRules p self ⌝ }
     {
-        let round = self.round;
+        let round = self.round.number;
         if round < 1 {
             return false;
         }
@@ -261,8 +294,7 @@ impl Session {
         if !counts(o, round) {
             return false;
         }
-        let b = self.bound;
-        if !bound_ok(b, round) {
+        if !self.bound_ok() {
             return false;
         }
         let marks = self.marks;
@@ -275,10 +307,9 @@ impl Session {
 
     // "A timestamp being written of time 1 or more."
     fn stamp_ok(self) -> bool
-        ensures { λ r. ⌜ r ≡ (not (isStoring (self .stage)) or leb 1 (self .stamp .time .0)) ⌝ }
+        ensures { λ r. ⌜ r ≡ (not (isStoring (self .round .stage)) or leb 1 (self .stamp .time .0)) ⌝ }
     {
-        let s = self.stage;
-        if !storing(s) {
+        if !self.storing() {
             return true;
         }
         let t = self.stamp;
@@ -300,15 +331,16 @@ impl Session {
     // "in a read round each slot marked 'record' must hold a time of 1 or more and a timestamp below the bound, if there is one"
     fn slots_ok(self, p: Plan, desk: &[u8]) -> bool
         requires { ⌜ (planOk p ≡ true) × (length (now desk) ≡ p .n * recordLength p) ⌝ }
-        ensures { λ r. ⌜ r ≡ (not (readRound self) or slotsFit (self .marks) (now (desk .entry)) (recordLength p) (self .bound) (p .n)) ⌝ }
+        ensures { λ r. ⌜ r ≡ (not (readRound self) or slotsFit (self .marks) (now (desk .entry)) (slotsOf p) (self .round .bound) (p .n)) ⌝ }
     {
         if !self.in_read_round() {
             return true;
         }
         let marks = self.marks;
-        let b = self.bound;
-        let r = terms::record_length(p);
-        rounds::slots_fit(marks, desk, p.n as usize, r, b)
+        let now = self.round;
+        let b = now.bound;
+        let slots = terms::slots_of(p);
+        rounds::slots_fit(marks, desk, slots, b)
     }
 
     // The rules of refusal 9 that an open session meets.
@@ -337,8 +369,7 @@ impl Session {
         if !self.stands(p) {
             return false;
         }
-        let s = self.stage;
-        if ended(s) {
+        if self.ended() {
             return true;
         }
         self.open_ok(p, desk)
@@ -346,13 +377,12 @@ impl Session {
 
     // The ask number of the round that is open: one more in a write or repair round.
     fn asked(self) -> Ask
-        requires { ⌜ (1 ≤ self .round) × (self .opening .0 + self .round ≤ 18446744073709551615) ⌝ }
+        requires { ⌜ (1 ≤ self .round .number) × (self .opening .0 + self .round .number ≤ 18446744073709551615) ⌝ }
         ensures { λ r. ⌜ r .0 ≡ askNow self ⌝ }
     {
         let a = self.opening;
-        let round = self.round;
-        let s = self.stage;
-        if storing(s) {
+        let round = self.round.number;
+        if self.storing() {
             return Ask(a.0 + round);
         }
         Ask(a.0 + (round - 1))
@@ -362,8 +392,7 @@ impl Session {
     fn kind_awaited(self) -> u64
         ensures { λ r. ⌜ r ≡ kindAwaited self ⌝ }
     {
-        let s = self.stage;
-        if storing(s) {
+        if self.storing() {
             return 4;
         }
         let o = self.operation;
@@ -375,7 +404,7 @@ impl Session {
 
     // Refusal 10: whether ask number, kind and write timestamp are the ones awaited.
     fn awaits(self, frame: &[u8]) -> bool
-        requires { ⌜ (1 ≤ self .round) × (self .opening .0 + self .round ≤ 18446744073709551615) × (15 ≤ length (now frame))
+        requires { ⌜ (1 ≤ self .round .number) × (self .opening .0 + self .round .number ≤ 18446744073709551615) × (15 ≤ length (now frame))
             × (kindOf (now frame) ≡ 4 → 55 ≤ length (now frame)) ⌝ }
         ensures { λ r. ⌜ r ≡ awaited self (now (frame .entry)) ⌝ }
     {
@@ -383,8 +412,7 @@ impl Session {
         if !frame::answers(frame, a, self.kind_awaited()) {
             return false;
         }
-        let s = self.stage;
-        if !storing(s) {
+        if !self.storing() {
             return true;
         }
         let t = terms::stamp_at(frame, 15);
@@ -418,8 +446,7 @@ impl Session {
         if !self.ranges_ok(p, desk) {
             return Check::Failed(Refusal::OutOfRange);
         }
-        let s = self.stage;
-        if ended(s) {
+        if self.ended() {
             return Check::Failed(Refusal::HasEnded);
         }
         if !frame::reply_ok(p, frame) {

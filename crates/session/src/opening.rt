@@ -1,6 +1,7 @@
 // Opening a write and a read: document 01, "Refusal numbers", 1 and 13. No buffer is lent. The bound is a parameter inside, for reads
 // that start below a timestamp.
 use crate::Operation;
+use crate::Round;
 use crate::Session;
 use crate::Stage;
 use rounds::Bound;
@@ -11,7 +12,7 @@ use terms::Plan;
 use terms::Refusal;
 use terms::Time;
 ghost use mathlib.Core.Path.{_≡_};
-ghost use Rattle.session.specs.Opening.{freshOf, openingNumber, opens, openWith, OpenCall};
+ghost use Rattle.session.specs.Opening.{freshOf, noSession, openingNumber, opens, openWith, OpenCall};
 ghost use Rattle.session.specs.declared.Operation.the-variants.{Write, Read};
 
 // The answer to an opening.
@@ -33,11 +34,14 @@ impl Session {
     {
         let greatest = Time(0);
         let stamp = terms::zero_stamp();
+        let first = Round {
+            stage: Stage::Asking,
+            number: round,
+            bound: bound,
+        };
         Session {
             operation: operation,
-            stage: Stage::Asking,
-            round: round,
-            bound: bound,
+            round: first,
             opening: opening,
             greatest: greatest,
             stamp: stamp,
@@ -45,11 +49,18 @@ impl Session {
         }
     }
 
+    // A session that every call refuses: its round is 0, which is in no range.
+    pub fn none(operation: Operation) -> Session
+        ensures { λ r. ⌜ r ≡ noSession operation ⌝ }
+    {
+        Session::fresh(operation, 0, Bound::Free, Ask(0))
+    }
+
     // An operation in its round 1, below this bound.
     fn begin(operation: Operation, bound: Bound, p: Plan, opening: Ask) -> Opened
         ensures { λ r. ⌜ opens (openingNumber (r .answer)) (r .session) ≡ openWith operation bound p opening ⌝ }
     {
-        let none = Session::fresh(operation, 0, Bound::Free, Ask(0));
+        let none = Session::none(operation);
         if !terms::plan_ok(p) {
             return Opened {
                 session: none,

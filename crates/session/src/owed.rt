@@ -2,9 +2,7 @@
 // value and stays as it is.
 use crate::Check;
 use crate::Session;
-use crate::ended;
 use crate::reads;
-use crate::storing;
 use rounds::Bound;
 use terms::Ask;
 use terms::Plan;
@@ -68,8 +66,7 @@ impl Session {
         if !self.ranges_ok(p, desk) {
             return Check::Failed(Refusal::OutOfRange);
         }
-        let s = self.stage;
-        if ended(s) {
+        if self.ended() {
             return Check::Failed(Refusal::HasEnded);
         }
         if node >= p.n {
@@ -89,14 +86,14 @@ impl Session {
     {
         let ask = self.asked();
         let r = terms::record_length(p);
-        let s = self.stage;
-        if storing(s) {
+        if self.storing() {
             frame::with_part(request, 3, node, ask, desk, (node as usize) * r, r);
             return 15 + r;
         }
         let o = self.operation;
         if reads(o) {
-            let b = self.bound;
+            let now = self.round;
+            let b = now.bound;
             return read_request(b, node, ask, request);
         }
         frame::bare(request, 1, node, ask);

@@ -5,11 +5,9 @@ use crate::Check;
 use crate::Operation;
 use crate::Session;
 use crate::Took;
-use crate::storing;
 use rounds::Close;
 use rounds::Heard;
 use rounds::Lead;
-use terms::Clients;
 use terms::Plan;
 use terms::Refusal;
 use terms::Timestamp;
@@ -25,7 +23,7 @@ ghost use Rattle.rounds.specs.declared.Lead.the-variants.{Node};
 ghost use Rattle.rounds.specs.Rounds.{told};
 ghost use Rattle.session.specs.Session.{saidOf, isStoring};
 ghost use Rattle.session.specs.Reply.{bears, recordLadder, checkNumber};
-ghost use Rattle.session.specs.Reader.{outcome, sound, decoded, collected, repaired, failing, actOn, acted, settled, heard, stored, accepted, ReadReplyCall, Usable, Acting};
+ghost use Rattle.session.specs.Reader.{outcome, failing, actOn, acted, settled, heard, stored, accepted, ReadReplyCall, Acting};
 
 // Whether a reply bears a record, and not the first triple.
 fn bears_record(p: Plan, frame: &[u8]) -> bool
@@ -36,66 +34,6 @@ fn bears_record(p: Plan, frame: &[u8]) -> bool
         return false;
     }
     frame.len() == 15 + terms::record_length(p)
-}
-
-// Validation: the clients of the plan are trusted, or the cross checksum agrees.
-fn validate(p: Plan, c: Close, a: usize, desk: &[u8]) -> bool
-    requires { ⌜ Usable p c a (now desk) ⌝ }
-    ensures { λ r. ⌜ r ≡ sound p (told c) a (now (desk .entry)) ⌝ }
-{
-    let k = p.clients;
-    match k {
-        Clients::Crash => true,
-        Clients::Byzantine => {
-            let n = p.n as usize;
-            let m = p.m as usize;
-            let f = p.f as usize;
-            let set = c.set;
-            let nodes = set.nodes;
-            let h = 40 + 32 * n;
-            recover::validated(desk, h, h + f, f, &nodes[..m], a, n)
-        }
-    }
-}
-
-// The item, from the m lowest-numbered of the set.
-fn decode(p: Plan, c: Close, a: usize, desk: &[u8], item: &mut [u8])
-    requires { ⌜ (Usable p c a (now desk)) × (length (now item) ≡ p .m * p .f) ⌝ }
-    ensures { λ _. ⌜ now (item .exit) ≡ decoded p (told c) (now (desk .entry)) (now (item .entry)) ⌝ }
-{
-    let n = p.n as usize;
-    let m = p.m as usize;
-    let f = p.f as usize;
-    let set = c.set;
-    let nodes = set.nodes;
-    let h = 40 + 32 * n;
-    fragments::decode(desk, h, h + f, f, &nodes[..m], m, item);
-}
-
-// All N records of the set, in place.
-fn repair(p: Plan, c: Close, a: usize, desk: &mut [u8])
-    requires { ⌜ Usable p c a (now desk) ⌝ }
-    ensures { λ _. ⌜ now (desk .exit) ≡ repaired p (told c) a (now (desk .entry)) ⌝ }
-{
-    let n = p.n as usize;
-    let m = p.m as usize;
-    let f = p.f as usize;
-    let set = c.set;
-    let nodes = set.nodes;
-    let h = 40 + 32 * n;
-    recover::mend(desk, h, h + f, f, &nodes[..m], a, n);
-}
-
-// The item from the desk's first m slots, after a repair round.
-fn collect(p: Plan, desk: &[u8], item: &mut [u8])
-    requires { ⌜ (planOk p ≡ true) × (length (now desk) ≡ p .n * recordLength p) × (length (now item) ≡ p .m * p .f) ⌝ }
-    ensures { λ _. ⌜ now (item .exit) ≡ collected p (now (desk .entry)) (now (item .entry)) ⌝ }
-{
-    let n = p.n as usize;
-    let m = p.m as usize;
-    let f = p.f as usize;
-    let h = 40 + 32 * n;
-    fragments::collect(desk, h, h + f, f, m, item);
 }
 
 impl Session {
@@ -113,7 +51,8 @@ impl Session {
         if !record::hashes_ok(p, frame::node_of(frame), frame, 15) {
             return Check::Failed(Refusal::HashFails);
         }
-        let b = self.bound;
+        let now = self.round;
+        let b = now.bound;
         if !rounds::under(b, frame, 15) {
             return Check::Failed(Refusal::NotBelow);
         }
@@ -125,7 +64,7 @@ impl Session {
         requires { ⌜ planOk p ≡ true ⌝ }
         ensures { λ r. ⌜ outcome (saidOf (r .answer)) (r .session) (now (desk .entry)) (now (item .entry)) ≡ failing p self t (now (desk .entry)) (now (item .entry)) ⌝ }
     {
-        let round = self.round;
+        let round = self.round.number;
         if round >= p.w {
             let s = self.over();
             return Took {
@@ -147,13 +86,13 @@ impl Session {
     {
         let v = c.verdict;
         let t = c.stamp;
-        let round = self.round;
+        let round = self.round.number;
         match v {
             Verdict::Complete => {
-                if !validate(p, c, a, &desk[..]) {
+                if !recover::validate(p, c, a, &desk[..]) {
                     return self.fall(p, t, &desk[..], &item[..]);
                 }
-                decode(p, c, a, &desk[..], item);
+                recover::decode(p, c, a, &desk[..], item);
                 let s = self.over();
                 Took {
                     session: s,
@@ -161,10 +100,10 @@ impl Session {
                 }
             }
             Verdict::Repair => {
-                if !validate(p, c, a, &desk[..]) {
+                if !recover::validate(p, c, a, &desk[..]) {
                     return self.fall(p, t, &desk[..], &item[..]);
                 }
-                repair(p, c, a, desk);
+                recover::repair(p, c, a, desk);
                 let s = self.store(t);
                 Took {
                     session: s,
@@ -188,7 +127,7 @@ impl Session {
         ensures { λ r. ⌜ outcome (saidOf (r .answer)) (r .session) (now (desk .exit)) (now (item .exit)) ≡ acted p self (told c) (now (desk .entry)) (now (item .entry)) ⌝ }
     {
         let l = c.lead;
-        let round = self.round;
+        let round = self.round.number;
         match l {
             Lead::Nobody => {
                 let s = self.over();
@@ -213,13 +152,10 @@ impl Session {
                 answer: Answer::Open,
             };
         }
-        let n = p.n as usize;
-        let h = 40 + 32 * n;
-        let r = h + p.f as usize;
+        let slots = terms::slots_of(p);
         let member = p.member;
-        let high = terms::complete_of(p);
-        let low = terms::incomplete_of(p);
-        let c = rounds::closing(marks, &desk[..], n, h, r, member, high, low);
+        let t = terms::thresholds_of(p);
+        let c = rounds::closing(marks, &desk[..], slots, member, t);
         self.act(p, c, desk, item)
     }
 
@@ -246,7 +182,7 @@ impl Session {
     {
         let i = frame::node_of(frame) as usize;
         let t = self.stamp;
-        let round = self.round;
+        let round = self.round.number;
         let s = self.marked(i, Heard::Record);
         let marks = s.marks;
         if rounds::count(marks) < p.n - p.t {
@@ -255,7 +191,7 @@ impl Session {
                 answer: Answer::Open,
             };
         }
-        collect(p, desk, item);
+        recover::collect(p, desk, item);
         let e = s.over();
         Took {
             session: e,
@@ -268,8 +204,7 @@ impl Session {
         requires { ⌜ (planOk p ≡ true) × (goodReply p (now frame) ≡ true) × (length (now desk) ≡ p .n * recordLength p) × (length (now item) ≡ p .m * p .f) ⌝ }
         ensures { λ r. ⌜ outcome (saidOf (r .answer)) (r .session) (now (desk .exit)) (now (item .exit)) ≡ accepted p self (now (frame .entry)) (now (desk .entry)) (now (item .entry)) ⌝ }
     {
-        let s = self.stage;
-        if storing(s) {
+        if self.storing() {
             return self.keep(p, frame, &desk[..], item);
         }
         self.hear(p, frame, desk, item)

@@ -5,12 +5,10 @@ use crate::Check;
 use crate::Operation;
 use crate::Session;
 use crate::Took;
-use crate::storing;
 use rounds::Heard;
 use rounds::Mark;
 use terms::Plan;
 use terms::Time;
-use terms::Timestamp;
 ghost use mathlib.Core.Path.{_≡_};
 ghost use mathlib.Core.Bool.{true};
 ghost use mathlib.Core.List.{List};
@@ -23,7 +21,7 @@ ghost use Rattle.frame.specs.Frame.{bodyOf};
 ghost use Rattle.session.specs.declared.Operation.the-variants.{Write};
 ghost use Rattle.session.specs.Session.{saidOf};
 ghost use Rattle.session.specs.Reply.{replyLadder};
-ghost use Rattle.session.specs.Writer.{laterOf, timedOf, stampFor, recordsFor, leaves, timeTurn, writeTurn, acceptedWrite, writeReply, WriteReplyCall};
+ghost use Rattle.session.specs.Writer.{laterOf, timedOf, leaves, timeTurn, writeTurn, acceptedWrite, writeReply, WriteReplyCall};
 
 // The time that a time reply bears.
 fn time_in(reply: &[u8]) -> Time
@@ -43,44 +41,16 @@ fn later(a: Time, b: Time) -> Time
     a
 }
 
-// All N records of an item at a time, into the desk, by way of a cross checksum; their timestamp.
-fn write_records(p: Plan, at: Time, item: &[u8], desk: &mut [u8], cross: &mut [u8]) -> Timestamp
-    requires { ⌜ (planOk p ≡ true) × (length (now item) ≡ p .m * p .f) × (length (now desk) ≡ p .n * recordLength p) × (512 ≤ length (now cross)) ⌝ }
-    ensures { λ r. ⌜ (r ≡ stampFor p (at .0) (now (item .entry))) × (now (desk .exit) ≡ recordsFor p (at .0) (now (item .entry))) ⌝ }
-{
-    let n = p.n as usize;
-    let r = terms::record_length(p);
-    fragments::encode(item, p.m as usize, p.f as usize, n, desk, 40 + 32 * n, r);
-    record::cross(p, &desk[..], cross, 0);
-    let t = record::stamp_of(p, at, &cross[..], 0);
-    record::fill(p, t, &cross[..], 0, desk);
-    t
-}
-
 impl Session {
     // Node i heard, with a time.
-    fn timed(self, i: usize, t: Time) -> Session
+    fn timed(mut self, i: usize, t: Time) -> Session
         requires { ⌜ i < 16 ⌝ }
         ensures { λ r. ⌜ r ≡ timedOf self i (t .0) ⌝ }
     {
-        let operation = self.operation;
-        let stage = self.stage;
-        let bound = self.bound;
-        let opening = self.opening;
         let greatest = later(self.greatest, t);
-        let stamp = self.stamp;
-        let mut marks = self.marks;
-        marks[i] = Mark { is: Heard::Record };
-        Session {
-            operation: operation,
-            stage: stage,
-            round: self.round,
-            bound: bound,
-            opening: opening,
-            greatest: greatest,
-            stamp: stamp,
-            marks: marks,
-        }
+        self.greatest = greatest;
+        self.marks[i] = Mark { is: Heard::Record };
+        self
     }
 
     // The time round, after a reply: open, or at N-t replies the write round opens, with all records made.
@@ -103,7 +73,7 @@ impl Session {
                 answer: Answer::ClockSpent,
             };
         }
-        let t = write_records(p, Time(g.0 + 1), item, desk, cross);
+        let t = recover::write_records(p, Time(g.0 + 1), item, desk, cross);
         let s = self.store(t);
         Took {
             session: s,
@@ -145,8 +115,7 @@ impl Session {
             ≡ acceptedWrite p self (now (reply .entry)) (now (desk .entry)) (now (item .entry)) ⌝ }
     {
         let i = frame::node_of(reply) as usize;
-        let stage = self.stage;
-        if storing(stage) {
+        if self.storing() {
             let s = self.marked(i, Heard::Record);
             return s.write_turn(p);
         }

@@ -1,9 +1,10 @@
 -- The plan, its two thresholds and what they decide. Document 01, "The plan", "Reading", "Refusal numbers"; the report's Table 2.
 --   columnOf countsOk         the rules on N, t, b, Q, m and the member: the column of the member in the table, and N's range
 --   limitsOk planOk           those on F and W; and all the rules of a plan
---   recordLength slotsOf      R; the slots of a desk
+--   recordLength slotsOf runsOf   R; the slots of a desk; those of an item
+--   slotAt fragmentAt         where slot k starts, and its fragment
 --   openingOk                 the opening ask number leaves room for W more: 13 at opening
---   COMPLETE INCOMPLETE       the two thresholds of a plan
+--   COMPLETE INCOMPLETE thresholdsOf   the two thresholds of a plan
 --   classOf                   the class of a candidate set of a size, by two thresholds
 --   unsure verdictOf decided  what a read decides by: the class and the member
 --   refusalNumber             the document's number of a refusal
@@ -16,6 +17,7 @@ use Rattle.terms.specs.Ladder.{all, _and_}
 use Rattle.terms.specs.Stamp.{top}
 use Rattle.terms.specs.declared.Plan.{Plan}
 use Rattle.terms.specs.declared.Slots.{Slots}
+use Rattle.terms.specs.declared.Thresholds.{Thresholds}
 use Rattle.terms.specs.declared.Member.{Member}
 use Rattle.terms.specs.declared.Member.the-variants.{Repairable, NonRepair}
 use Rattle.terms.specs.declared.Class.{Class}
@@ -50,6 +52,16 @@ recordLength p = 40 + 32 * p .n + p .f
 abbrev pub slotsOf : Plan → Slots
 slotsOf p = record { n = p .n; head = 40 + 32 * p .n; fragment = p .f; size = recordLength p }
 
+-- fragments one after the other, as the m runs of an item
+abbrev pub runsOf : ℕ → ℕ → Slots
+runsOf n f = record { n = n; head = 0; fragment = f; size = f }
+
+abbrev pub slotAt : Slots → ℕ → ℕ
+slotAt s k = k * s .size
+
+abbrev pub fragmentAt : Slots → ℕ → ℕ
+fragmentAt s k = s .head + k * s .size
+
 -- opening ask number plus W at most 2^64-1
 abbrev pub openingOk : Plan → ℕ → Bool
 openingOk p a = leb (a + p .w) top
@@ -60,6 +72,9 @@ COMPLETE p = p .q + p .b
 
 abbrev pub INCOMPLETE : Plan → ℕ
 INCOMPLETE p = p .q - p .t
+
+abbrev pub thresholdsOf : Plan → Thresholds
+thresholdsOf p = record { complete = COMPLETE p; incomplete = INCOMPLETE p }
 
 -- ---- a candidate set, by two thresholds
 -- of COMPLETE or more: complete; below INCOMPLETE: incomplete; any other: unclassifiable

@@ -52,8 +52,9 @@ fn column(a: u8, b: u8) {
     let mut desk = [0u8; 5];
     let mut back = [0u8; 2];
     let sources = [3u8, 4];
-    fragments::encode(&item, 2, 1, 5, &mut desk, 0, 1);
-    fragments::decode(&desk, 0, 1, 1, &sources, 2, &mut back);
+    let slots = terms::runs_of(5, 1);
+    fragments::encode(&item, 2, &mut desk, slots);
+    fragments::decode(&desk, slots, &sources, 2, &mut back);
     io::write_all(STDOUT_FILENO, b"column ");
     io::print_hex(STDOUT_FILENO, octets::get(&desk, 0, 5), 10);
     io::write_all(STDOUT_FILENO, b" back ");

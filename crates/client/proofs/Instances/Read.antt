@@ -32,12 +32,12 @@ use Rattle.terms.specs.declared.Clients.the-variants.{Byzantine}
 use Rattle.field.specs.Field.{xtime, mulN, mul, square, sumPow, inv, div}
 use Rattle.fragments.specs.Fragments.{among, from, fragment, laid, tabulate, ratio, weightOf, blend, value, regenerated}
 use Rattle.frame.specs.Frame.{frame, askOf, shaped, bodyFits, oneOf, forParty, goodFrame, goodReply}
-use Rattle.record.specs.Record.{fragmentHash, hashesOk, timeZero}
+use Rattle.record.specs.Record.{fragmentHash, hashesOk, timeZero, prefixOf}
 use Rattle.record.specs.Desk.{slotOf, row, crossMade, deskOf, stampMade}
 use Rattle.rounds.specs.declared.Bound.the-variants.{Free}
 use Rattle.rounds.specs.declared.Heard.the-variants.{First, Record}
 use Rattle.rounds.specs.Rounds.{heardCount, every, slotStamp, aheadOf, stepOf, leadOf, joinsOf, setOf, closeWith, underOf, slotFits, slotsFit}
-use Rattle.recover.specs.Recover.{validates, slotFilled, refilled}
+use Rattle.recover.specs.Recover.{validates, slotFilled, refilled, sound, repaired, collected}
 use Rattle.session.specs.declared.Session.{Session}
 use Rattle.session.specs.declared.Operation.the-variants.{Write, Read}
 use Rattle.session.specs.declared.Answer.{Answer}
@@ -48,8 +48,8 @@ use Rattle.session.specs.Session.{askNow, kindAwaited, markedOf, nextOf, storin
 use Rattle.session.specs.Opening.{freshOf, openWith, OpenCall}
 use Rattle.session.specs.Ranges.{standingRules, openRules, inRange}
 use Rattle.session.specs.Reply.{lengthsOk, sameOperation, awaited, isHeard, bears}
-use Rattle.session.specs.Reader.{sound, failing, actOn, actFor, closed, settled, heard, stored, accepted, repaired, collected, readReply, ReadReplyCall}
-use Rattle.session.specs.Writer.{crossFor, stampFor, recordsFor}
+use Rattle.session.specs.Reader.{failing, actOn, actFor, closed, settled, heard, stored, accepted, readReply, ReadReplyCall}
+use Rattle.recover.specs.Records.{crossFor, stampFor, recordsFor}
 use Rattle.session.proofs.Kept.{Kept}
 use Rattle.client.specs.Endings.{afterReply, deskAfter}
 use Rattle.client.specs.Turns.{Turn, ReadTurn, Calls, closedRounds, EitherTurn}
@@ -170,39 +170,39 @@ opened-so = record { is = refl }
 pub met-1 : ReadReplyCall plan (start) reply-1 desk (0 ∷ []) (record { answer = Open; session = first-heard }) desk-poor (0 ∷ [])
 unfolding reply-1 hash poor stamp-bytes good desk desk-poor desk-good desk-full plan readReply first planOk countsOk limitsOk columnOf all recordLength lengthsOk inRange standingRules openRules heardCount every slotsFit slotFits slotStamp underOf num numFrom part
     goodReply goodFrame shaped forParty oneOf bodyFits awaited askNow kindAwaited isHeard bears be beOnto accepted heard settled
-    hashesOk timeZero fragmentHash alike put stampAt stampNumber then sha256 sha.after compressOf addedOf roundsOf roundOf T1 T2 scheduleOf words padding bigEndian K
+    hashesOk timeZero fragmentHash prefixOf alike put stampAt stampNumber then sha256 sha.after compressOf addedOf roundsOf roundOf T1 T2 scheduleOf words padding bigEndian K
 met-1 = record { is = refl }
 
 met-2 : ReadReplyCall plan (first-heard) reply-2 desk-poor (0 ∷ []) (record { answer = Open; session = second-round }) desk-poor (0 ∷ [])
 unfolding reply-2 hash poor stamp-bytes good desk desk-poor desk-good desk-full plan readReply first planOk countsOk limitsOk columnOf all recordLength lengthsOk inRange standingRules openRules heardCount every slotsFit slotFits slotStamp underOf num numFrom part
     goodReply goodFrame shaped forParty oneOf bodyFits awaited askNow kindAwaited isHeard bears be beOnto accepted heard settled
-    hashesOk timeZero fragmentHash alike put stampAt stampNumber then sha256 sha.after compressOf addedOf roundsOf roundOf T1 T2 scheduleOf words padding bigEndian K actFor actOn sound failing closeWith leadOf stepOf aheadOf setOf joinsOf decided classOf
+    hashesOk timeZero fragmentHash prefixOf alike put stampAt stampNumber then sha256 sha.after compressOf addedOf roundsOf roundOf T1 T2 scheduleOf words padding bigEndian K actFor actOn sound failing closeWith leadOf stepOf aheadOf setOf joinsOf decided classOf
     validates row crossMade regenerated among tabulate value blend weightOf ratio xtime mulN mul square sumPow inv div
 met-2 = record { is = refl }
 
 met-3 : ReadReplyCall plan (second-round) reply-3 desk-poor (0 ∷ []) (record { answer = Open; session = second-heard }) desk-good (0 ∷ [])
 unfolding reply-3 hash poor stamp-bytes good desk desk-poor desk-good desk-full plan readReply first planOk countsOk limitsOk columnOf all recordLength lengthsOk inRange standingRules openRules heardCount every slotsFit slotFits slotStamp underOf num numFrom part
     goodReply goodFrame shaped forParty oneOf bodyFits awaited askNow kindAwaited isHeard bears be beOnto accepted heard settled
-    hashesOk timeZero fragmentHash alike put stampAt stampNumber then sha256 sha.after compressOf addedOf roundsOf roundOf T1 T2 scheduleOf words padding bigEndian K
+    hashesOk timeZero fragmentHash prefixOf alike put stampAt stampNumber then sha256 sha.after compressOf addedOf roundsOf roundOf T1 T2 scheduleOf words padding bigEndian K
 met-3 = record { is = refl }
 
 met-4 : ReadReplyCall plan (second-heard) reply-4 desk-good (0 ∷ []) (record { answer = Open; session = repair-round }) desk-full (0 ∷ [])
 unfolding reply-4 hash poor stamp-bytes good desk desk-poor desk-good desk-full plan readReply first planOk countsOk limitsOk columnOf all recordLength lengthsOk inRange standingRules openRules heardCount every slotsFit slotFits slotStamp underOf num numFrom part
     goodReply goodFrame shaped forParty oneOf bodyFits awaited askNow kindAwaited isHeard bears be beOnto accepted heard settled
-    hashesOk timeZero fragmentHash alike put stampAt stampNumber then sha256 sha.after compressOf addedOf roundsOf roundOf T1 T2 scheduleOf words padding bigEndian K actFor actOn sound failing closeWith leadOf stepOf aheadOf setOf joinsOf decided classOf
+    hashesOk timeZero fragmentHash prefixOf alike put stampAt stampNumber then sha256 sha.after compressOf addedOf roundsOf roundOf T1 T2 scheduleOf words padding bigEndian K actFor actOn sound failing closeWith leadOf stepOf aheadOf setOf joinsOf decided classOf
     validates row crossMade regenerated among tabulate value blend weightOf ratio xtime mulN mul square sumPow inv div repaired refilled slotFilled
 met-4 = record { is = refl }
 
 met-5 : ReadReplyCall plan (repair-round) reply-5 desk-full (0 ∷ []) (record { answer = Open; session = once-stored }) desk-full (0 ∷ [])
 unfolding reply-5 hash poor stamp-bytes good desk desk-poor desk-good desk-full plan readReply first planOk countsOk limitsOk columnOf all recordLength lengthsOk inRange standingRules openRules heardCount every slotsFit slotFits slotStamp underOf num numFrom part
     goodReply goodFrame shaped forParty oneOf bodyFits awaited askNow kindAwaited isHeard bears be beOnto accepted heard settled
-    hashesOk timeZero fragmentHash alike put stampAt stampNumber then stored
+    hashesOk timeZero fragmentHash prefixOf alike put stampAt stampNumber then stored
 met-5 = record { is = refl }
 
 met-6 : ReadReplyCall plan (once-stored) reply-6 desk-full (0 ∷ []) (record { answer = Done (stampAt desk-good 0) 2; session = ended }) desk-full (7 ∷ [])
 unfolding reply-6 hash poor stamp-bytes good desk desk-poor desk-good desk-full plan readReply first planOk countsOk limitsOk columnOf all recordLength lengthsOk inRange standingRules openRules heardCount every slotsFit slotFits slotStamp underOf num numFrom part
     goodReply goodFrame shaped forParty oneOf bodyFits awaited askNow kindAwaited isHeard bears be beOnto accepted heard settled
-    hashesOk timeZero fragmentHash alike put stampAt stampNumber then stored collected laid from regenerated among tabulate value
+    hashesOk timeZero fragmentHash prefixOf alike put stampAt stampNumber then stored collected laid from regenerated among tabulate value
 met-6 = record { is = refl }
 
 -- ---- the frames and the desk are bytes
@@ -306,7 +306,7 @@ module _ where
   cross = hash ++ (hash ++ hash)
 
   pub cross-so : crossFor plan (7 ∷ []) ≡ cross
-  unfolding crossFor crossMade row fragment fragmentHash plan hash part tabulate value blend weightOf ratio from xtime mulN mul sha256 sha.after compressOf addedOf roundsOf
+  unfolding crossFor crossMade row fragment fragmentHash prefixOf plan hash part tabulate value blend weightOf ratio from xtime mulN mul sha256 sha.after compressOf addedOf roundsOf
       roundOf T1 T2 scheduleOf words padding bigEndian K
   cross-so = refl
 

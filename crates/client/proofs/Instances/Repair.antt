@@ -18,7 +18,7 @@ use Rattle.terms.specs.declared.Member.the-variants.{Repairable}
 use Rattle.terms.specs.declared.Clients.the-variants.{Crash}
 use Rattle.field.specs.Field.{xtime, mulN, mul, square, sumPow, inv, div}
 use Rattle.fragments.specs.Fragments.{among, from, laid, tabulate, ratio, weightOf, blend, value, regenerated}
-use Rattle.recover.specs.Recover.{slotFilled, refilled}
+use Rattle.recover.specs.Recover.{slotFilled, refilled, sound, repaired, collected}
 use Rattle.frame.specs.Frame.{shaped, bodyFits, oneOf, forParty, goodFrame, goodReply}
 use Rattle.record.specs.Desk.{fragmentIn}
 use Rattle.rounds.specs.declared.Bound.the-variants.{Free}
@@ -32,7 +32,7 @@ use Rattle.session.specs.declared.Answer.the-variants.{Open, Done}
 use Rattle.session.specs.Session.{askNow, kindAwaited, storingOf, markedOf, endedOf}
 use Rattle.session.specs.Ranges.{standingRules, openRules, inRange}
 use Rattle.session.specs.Reply.{lengthsOk, awaited, isHeard, bears}
-use Rattle.session.specs.Reader.{sound, actOn, actFor, closed, settled, heard, stored, accepted, repaired, collected, readReply, ReadReplyCall}
+use Rattle.session.specs.Reader.{actOn, actFor, closed, settled, heard, stored, accepted, readReply, ReadReplyCall}
 use Rattle.session.specs.Opening.{freshOf, openWith, OpenCall}
 use Rattle.session.specs.declared.opening.Opened.{Opened}
 use Rattle.session.specs.declared.opening.Opening.the-variants.{Accepted}
@@ -58,9 +58,7 @@ pub session : Session
 session =
     record {
       operation = Read;
-      stage = Asking;
-      round = 1;
-      bound = Free;
+      round = record { stage = Asking; number = 1; bound = Free };
       opening = record { 0 = 5 };
       greatest = record { 0 = 0 };
       stamp = zeroStamp;

@@ -39,10 +39,10 @@ use Rattle.session.specs.declared.opening.Opening.the-variants.{Accepted as Gra
 use Rattle.session.specs.Session.{askNow, kindAwaited}
 use Rattle.session.specs.Opening.{freshOf, openWith, OpenCall}
 use Rattle.session.specs.Reply.{lengthsOk, awaited, isHeard, bears}
-use Rattle.session.specs.Writer.{crossFor, recordsFor}
+use Rattle.recover.specs.Records.{crossFor, recordsFor}
 use Rattle.session.proofs.Made.{in-range-facts}
 use Rattle.session.proofs.Openings.{accepted-in-range}
-use Rattle.session.proofs.Writers.{length-records, record-is, record-passes}
+use Rattle.recover.proofs.Records.{length-records, record-is, record-passes}
 use Rattle.client.specs.Round.{roundAt, ending, saidInTurn, RoundOpens, Accepted, Acceptable, SameReplies}
 use Rattle.client.proofs.Round.Swaps.{swap, times-kept}
 use Rattle.client.proofs.Round.Reply.{Ready, acceptable}
@@ -116,7 +116,7 @@ module _ (node : ℕ) (body : List ℕ) (low : node < 2) (fits : bodyFits plan 7
         eq-eqb (kindOf (reply node body)) 7 (built.kind-frame 7 node 5 body (omega arith)),
       )
 
-  below : (t : Bool) → (t and not (underOf (session .bound) (stamp (bodyOf (reply node body))))) ≡ false
+  below : (t : Bool) → (t and not (underOf (session .round .bound) (stamp (bodyOf (reply node body))))) ≡ false
   unfolding underOf session
   below true = refl
   below false = refl

@@ -18,18 +18,18 @@ use Rattle.terms.specs.Terms.{planOk, countsOk, limitsOk, columnOf, recordLengt
 use Rattle.field.specs.Field.{xtime, mulN, mul, square, sumPow, inv, div}
 use Rattle.fragments.specs.Fragments.{All, among, fragment, laid, tabulate, ratio, weightOf, blend, value, regenerated}
 use Rattle.frame.specs.Frame.{frame, shaped, bodyFits, oneOf, forParty, goodFrame, goodReply}
-use Rattle.record.specs.Record.{stampOf, crossOf, fragmentOf, fragmentHash, hashesOk, timeZero}
+use Rattle.record.specs.Record.{stampOf, crossOf, fragmentOf, fragmentHash, hashesOk, timeZero, prefixOf}
 use Rattle.record.specs.Desk.{slotOf, row, crossMade, stampMade}
 use Rattle.rounds.specs.declared.Heard.the-variants.{Record}
 use Rattle.rounds.specs.Rounds.{heardCount, every, slotStamp, aheadOf, stepOf, leadOf, joinsOf, setOf, closeWith, underOf, slotFits, slotsFit}
-use Rattle.recover.specs.Recover.{validates}
+use Rattle.recover.specs.Recover.{validates, lowest, sound, decoded}
 use Rattle.session.specs.declared.Session.{Session}
 use Rattle.session.specs.declared.Answer.the-variants.{Done}
 use Rattle.session.specs.Session.{askNow, kindAwaited, markedOf, endedOf}
 use Rattle.session.specs.Ranges.{standingRules, openRules, inRange}
 use Rattle.session.specs.Reply.{lengthsOk, awaited, isHeard, bears}
-use Rattle.session.specs.Reader.{lowest, sound, decoded, actOn, actFor, closed, settled, heard, accepted, readReply, ReadReplyCall}
-use Rattle.session.proofs.Writers.{record-passes}
+use Rattle.session.specs.Reader.{actOn, actFor, closed, settled, heard, accepted, readReply, ReadReplyCall}
+use Rattle.recover.proofs.Records.{record-passes}
 use Rattle.client.specs.Endings.{afterReply, deskAfter}
 use Rattle.client.specs.Turns.{Turn}
 use Rattle.terms.proofs.Small.{small-octets}
@@ -59,7 +59,7 @@ call =
 pub done-so : ReadReplyCall plan first-heard second-reply desk-good (0 ∷ []) (call .took) desk-two (7 ∷ [])
 unfolding second-reply hash stamp-bytes good desk-good desk-two plan readReply first planOk countsOk limitsOk columnOf all recordLength lengthsOk inRange standingRules openRules heardCount every
     slotsFit slotFits slotStamp underOf num numFrom part goodReply goodFrame shaped forParty oneOf bodyFits awaited askNow kindAwaited isHeard bears be beOnto accepted heard settled
-    hashesOk timeZero fragmentHash alike put stampAt stampNumber then sha256 sha.after compressOf addedOf roundsOf roundOf T1 T2 scheduleOf words padding bigEndian K actFor actOn
+    hashesOk timeZero fragmentHash prefixOf alike put stampAt stampNumber then sha256 sha.after compressOf addedOf roundsOf roundOf T1 T2 scheduleOf words padding bigEndian K actFor actOn
     sound closeWith leadOf stepOf aheadOf setOf joinsOf decided classOf validates row crossMade regenerated among tabulate value blend weightOf ratio xtime mulN mul square sumPow inv
     div decoded laid
 done-so = record { is = refl }

@@ -31,7 +31,8 @@ use Rattle.session.specs.Session.{askNow, kindAwaited, markedOf, storingOf, end
 use Rattle.session.specs.Opening.{freshOf, openWith, OpenCall}
 use Rattle.session.specs.Ranges.{standingRules, openRules, inRange}
 use Rattle.session.specs.Reply.{lengthsOk, awaited, isHeard}
-use Rattle.session.specs.Writer.{timedOf, stampFor, recordsFor, leaves, timeEnd, timeTurn, writeTurn, acceptedWrite, writeReply, WriteReplyCall}
+use Rattle.recover.specs.Records.{stampFor, recordsFor}
+use Rattle.session.specs.Writer.{timedOf, leaves, timeEnd, timeTurn, writeTurn, acceptedWrite, writeReply, WriteReplyCall}
 use Rattle.session.proofs.Kept.{Kept}
 use Rattle.client.specs.Turns.{Turn, WriteTurn, EitherTurn, Calls}
 use Rattle.client.specs.Asks.{NotCounted}

@@ -9,7 +9,7 @@ use borrow.Author.Tests.{not-false}
 use lib.Dec.{ltb, eqb}
 use lib.ListN.{length, length-set}
 use lib.Seq.{getD-set-same, getD-set-other}
-use Rattle.terms.specs.Terms.{recordLength}
+use Rattle.terms.specs.Terms.{recordLength, slotsOf}
 use Rattle.terms.specs.Stamp.{stamp}
 use Rattle.terms.specs.declared.Plan.{Plan}
 use Rattle.terms.proofs.Plans.{plan-is}
@@ -89,10 +89,10 @@ module _ (p : Plan) (s : Session) (f d i : List ℕ) (t : Taken p s f d i) where
       let g = t .ready in
       let o = g .slots in
       let q = g .standing in
-      let old : slotsFit (s .marks) d r (s .bound) (p .n) ≡ true = rw (g .round) at (o .slots) in
-      let new : slotsFit (afterReply p s f .marks) (deskAfter p f d) r (s .bound) (p .n) ≡ true =
-      slots-after p f d low desk-is (s .marks) (s .bound) (λ e. rw e at (t .fits .timed))
-      (λ e. not-false (underOf (s .bound) (stamp (bodyOf f))) (rw e at (t .fits .under))) old (bears p f) refl in
+      let old : slotsFit (s .marks) d (slotsOf p) (s .round .bound) (p .n) ≡ true = rw (g .round) at (o .slots) in
+      let new : slotsFit (afterReply p s f .marks) (deskAfter p f d) (slotsOf p) (s .round .bound) (p .n) ≡ true =
+      slots-after p f d low desk-is (s .marks) (s .round .bound) (λ e. rw e at (t .fits .timed))
+      (λ e. not-false (underOf (s .round .bound) (stamp (bodyOf f))) (rw e at (t .fits .under))) old (bears p f) refl in
       record {
         plan = g .plan;
         lengths = ap (λ (n : ℕ). lengthsOk p n (length i)) (length-after p d f low desk-is ∙ sym desk-is) ∙ g .lengths;

@@ -60,9 +60,7 @@ slots-comm d x y a b n r ha hb ne l lx ly = go (ltb a b) refl
 marks-comm : (p : Plan) (s : Session) (f g : List ℕ) → (frameNode g ≡ frameNode f → ⊥) → afterReply p (afterReply p s f) g ≡ afterReply p (afterReply p s g) f
 marks-comm p s f g n = λ j. record {
   operation = s .operation;
-  stage = s .stage;
   round = s .round;
-  bound = s .bound;
   opening = s .opening;
   greatest = s .greatest;
   stamp = s .stamp;

@@ -38,7 +38,7 @@ pub record Fits (p : Plan) (s : Session) (f : List ℕ) : Type 0 where
   pub await : awaited s f ≡ true
   pub timed : (bears p f and timeZero (bodyOf f)) ≡ false
   pub hashed : (bears p f and not (hashesOk p (frameNode f) (bodyOf f))) ≡ false
-  pub under : (bears p f and not (underOf (s .bound) (stamp (bodyOf f)))) ≡ false
+  pub under : (bears p f and not (underOf (s .round .bound) (stamp (bodyOf f)))) ≡ false
 
 -- of the round, whatever the reply
 pub record Ready (p : Plan) (s : Session) (d i : List ℕ) : Type 0 where
@@ -51,13 +51,13 @@ pub record Ready (p : Plan) (s : Session) (d i : List ℕ) : Type 0 where
 -- the stage of a read round
 record Asks (s : Session) : Type 0 where
   reads : isRead (s .operation) ≡ true
-  storing : isStoring (s .stage) ≡ false
-  ended : isEnded (s .stage) ≡ false
+  storing : isStoring (s .round .stage) ≡ false
+  ended : isEnded (s .round .stage) ≡ false
 
 asks : (s : Session) → readRound s ≡ true → Asks s
 asks s e =
-    let q = both (isRead (s .operation)) (isAsking (s .stage)) e in
-    record { reads = q .0; storing = go (s .stage) (q .1) .0; ended = go (s .stage) (q .1) .1 }
+    let q = both (isRead (s .operation)) (isAsking (s .round .stage)) e in
+    record { reads = q .0; storing = go (s .round .stage) (q .1) .0; ended = go (s .round .stage) (q .1) .1 }
   where
     go : (t : Stage) → isAsking t ≡ true → (isStoring t ≡ false) × (isEnded t ≡ false)
     go Asking h = (refl, refl)

@@ -18,18 +18,18 @@ abbrev at : List ℕ → ℕ → ℕ → ℕ → ℕ → ℕ
 at src first stride i p = getD src (first + p * stride + i) 0
 
 abbrev Inv-loop : tie.InvT-loop
-Inv-loop src first stride qs x out₀ n i₀ out i = (n ≡ length out₀) × (i ≤ n) × Upto (λ k. 0) i out₀ out
+Inv-loop src qs x out₀ n first stride i₀ out i = (n ≡ length out₀) × (i ≤ n) × Upto (λ k. 0) i out₀ out
 
 abbrev μ-loop : tie.MeasureT-loop
-μ-loop src first stride qs x out₀ n i₀ out i = n - i
+μ-loop src qs x out₀ n first stride i₀ out i = n - i
 
 abbrev Inv-loop2 : tie.InvT-loop2
-Inv-loop2 src first stride qs x out₀ n i k₀ out k =
+Inv-loop2 src qs x out₀ n first stride i k₀ out k =
     (length out ≡ n) × (k ≤ length qs)
     × ((j : ℕ) → j < n → bitXor (getD out j 0) (blend qs x (at src first stride j) (drop k qs)) ≡ value qs (at src first stride j) x)
 
 abbrev μ-loop2 : tie.MeasureT-loop2
-μ-loop2 src first stride qs x out₀ n i k₀ out k = length qs - k
+μ-loop2 src qs x out₀ n first stride i k₀ out k = length qs - k
 
 pub combine-spec : {M : Type 1} → statement M
 combine-spec =
@@ -55,18 +55,18 @@ combine-spec =
     (λ c. omega (arith, c .before .shared-slice-known3 .given (c .before .before .before .loop2 .k)))
     (λ c.
     let k = c .before .before .before .loop2 .k in
-    omega (arith, c .before .before .before .before .before .before .before .before .before .pre k (omega arith)))
+    omega (arith, c .before .before .before .before .before .before .before .before .before .pre .0 k (omega arith)))
     (λ c.
     let k = c .before .before .before .loop2 .k in
-    omega (arith, c .before .before .before .before .before .before .before .before .before .pre k (omega arith)))
+    omega (arith, c .before .before .before .before .before .before .before .before .before .pre .0 k (omega arith)))
     (λ c.
     let k = c .before .before .before .loop2 .k in
-    omega (arith, c .before .before .before .before .before .before .before .before .before .pre k (omega arith)))
+    omega (arith, c .before .before .before .before .before .before .before .before .before .pre .0 k (omega arith)))
     (λ c. search needs)
     (λ c. search needs)
     (λ c.
     let k = c .before .before .before .before .loop2 .k in
-    omega (arith, c .before .before .before .before .before .before .before .before .before .before .pre k (omega arith)))
+    omega (arith, c .before .before .before .before .before .before .before .before .before .before .pre .0 k (omega arith)))
     (λ c κs. search needs)
     (λ c. search needs)
     (λ c. search needs)
@@ -78,14 +78,15 @@ combine-spec =
       omega arith,
       omega arith,
       λ j hj.
-          let f : ℕ → ℕ = at (a .src .now) (a .first) (a .stride) j in
+          let f : ℕ → ℕ = at (a .src .now) (a .s .head) (a .s .size) j in
           let e : getD (c .before .before .add-scaled .last .0) j 0 ≡ bitXor (getD (l .out) j 0) (mul (weightOf (a .qs .now) (a .x) p) (f p)) =
-          c .before .before .add-scaled .ensures j (omega arith) ∙ ap (bitXor (getD (l .out) j 0)) (ap₂ mul (c .before .before .before .before .before .weight .ensures) (part-at (a .first + p * a .stride) _ _ j hj)) in
+          c .before .before .add-scaled .ensures j (omega arith) ∙ ap (bitXor (getD (l .out) j 0)) (ap₂ mul (c .before .before .before .before .before .weight .ensures) (part-at (a .s .head + p * a .s .size) _ _ j hj)) in
           ap (λ (n : ℕ). bitXor n (blend (a .qs .now) (a .x) f (drop (l .k + 1) (a .qs .now)))) e
           ∙ blend-turn (a .qs .now) (l .k) (a .x) f (getD (l .out) j 0) _ h (l .inv .2 j hj),
     ))
     (λ c. search needs)
     (λ c.
     let l = c .before .loop2 in
-    let a = c .before .before .before .before .before .before .before .args in
-    to-tabulate (l .out) (length (a .out .now)) _ (l .inv .0) (λ i h. blend-end (a .qs .now) (l .k) (a .x) (at (a .src .now) (a .first) (a .stride) i) _ _ (omega arith) (l .inv .2 i h))))
+    let e = c .before .before .before .before .before .before .before in
+    let a = e .args in
+    to-tabulate (l .out) (a .s .fragment) _ (omega (arith, e .pre .1, l .inv .0)) (λ i h. blend-end (a .qs .now) (l .k) (a .x) (at (a .src .now) (a .s .head) (a .s .size) i) _ _ (omega arith) (l .inv .2 i (omega (arith, e .pre .1))))))

@@ -1,6 +1,6 @@
-use native.Mathlib.Omega.{arith}
+use mathlib.Core.Path.{refl, _∙_}
 use borrow.Author.Needs.{needs}
-use Rattle.octets.proofs.Laws.{slot-fits}
+use Rattle.fragments.proofs.Laws.{runs-room}
 use Rattle.fragments.proofs.decode.Statement.{statement}
 use Rattle.fragments.proofs.decode.Tie as tie
 
@@ -8,6 +8,9 @@ pub decode-spec : {M : Type 1} → statement M
 decode-spec =
     tie.close
     (tie.spec
-    (λ c κs. (c .before .before .before .before .pre .0, c .before .before .before .before .pre .1, λ k h. omega (arith, slot-fits k (c .before .before .before .before .args .m) (c .before .before .before .before .args .f) h, c .before .before .before .before .pre .2)))
+    (λ c κs. tt)
+    (λ c κs.
+    let e = c .before .before .before .before .before in
+    rw (c .before .runs-of .ensures) (e .pre .0, refl, e .pre .1, runs-room (e .args .m) (e .args .s .fragment) (e .args .item .now) (e .pre .2)))
     (λ c. search needs)
-    (λ c. search needs))
+    (λ c. c .before .before .lay .ensures ∙ rw (c .before .before .before .before .runs-of .ensures)))

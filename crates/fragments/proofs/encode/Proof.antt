@@ -1,7 +1,8 @@
 -- `fragments::encode` meets its contract. Assumes nothing.
-use mathlib.Core.Path.{_∙_}
+use mathlib.Core.Path.{refl, _∙_}
 use borrow.Author.Needs.{needs}
-use Rattle.fragments.proofs.Laws.{points-length, runs-within, points-encode}
+use Rattle.terms.specs.Terms.{runsOf}
+use Rattle.fragments.proofs.Laws.{points-length, points-within, points-encode, runs-room}
 use Rattle.fragments.proofs.encode.Statement.{statement}
 use Rattle.fragments.proofs.encode.Tie as tie
 
@@ -9,14 +10,16 @@ pub encode-spec : {M : Type 1} → statement M
 encode-spec =
     tie.close
     (tie.spec
-    (λ c. search needs)
-    (λ c. let s = c .before .before .before in points-length (s .args .m) (s .pre .1))
+    (λ c κs. tt)
+    (λ c. c .before .before .before .pre .1)
+    (λ c. let e = c .before .before .before .before in points-length (e .args .m) (e .pre .1))
     (λ c κs.
-    let s = c .before .before .before .before in
-    let a = s .args in
-    (runs-within (a .m) (a .f) (a .item .now) (s .pre .1) (s .pre .0), s .pre .2, s .pre .3))
+    let e = c .before .before .before .before .before in
+    let a = e .args in
+    rw (c .before .before .runs-of .ensures)
+    (points-within (a .item .now) (runsOf (a .m) (a .to .fragment)) (a .m) (e .pre .1) (runs-room (a .m) (a .to .fragment) (a .item .now) (e .pre .0)), refl, e .pre .2, e .pre .3))
     (λ c. search needs)
     (λ c.
-    let s = c .before .before .before .before .before .before .before in
-    let a = s .args in
-    c .before .before .lay .ensures ∙ points-encode (a .m) (a .f) (a .item .now) (a .first) (a .stride) (a .n) (a .desk .now) (s .pre .1)))
+    let e = c .before .before .before .before .before .before .before .before in
+    let a = e .args in
+    c .before .before .lay .ensures ∙ rw (c .before .before .before .before .before .runs-of .ensures) (points-encode (a .m) (a .item .now) (a .to) (a .to .n) (a .desk .now) (e .pre .1))))

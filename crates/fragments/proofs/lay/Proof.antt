@@ -1,18 +1,19 @@
-use mathlib.Core.Path.{_≡_, refl}
-use Prim.Native.Nat.{_-_, _≤_}
+use mathlib.Core.Path.{_≡_, refl, sym, _∙_}
+use Prim.Native.Nat.{_+_, _-_, _≤_}
 use native.Mathlib.Omega.{arith}
 use borrow.Author.Needs.{needs}
 use lib.ListN.{length}
+use Rattle.terms.specs.Terms.{fragmentAt}
 use Rattle.fragments.specs.Fragments.{laid}
-use Rattle.fragments.proofs.Laws.{laid-more, laid-none}
+use Rattle.fragments.proofs.Laws.{laid-more, laid-none, part-length}
 use Rattle.fragments.proofs.lay.Statement.{statement}
 use Rattle.fragments.proofs.lay.Tie as tie
 
 abbrev Inv-loop : tie.InvT-loop
-Inv-loop src first stride f qs n out₀ start step k₀ out k = (k ≤ n) × (length out ≡ length out₀) × (out ≡ laid src first stride f qs start step k out₀)
+Inv-loop src s qs out₀ to k₀ out k = (k ≤ to .n) × (length out ≡ length out₀) × (out ≡ laid src s qs to k out₀)
 
 abbrev μ-loop : tie.MeasureT-loop
-μ-loop src first stride f qs n out₀ start step k₀ out k = n - k
+μ-loop src s qs out₀ to k₀ out k = to .n - k
 
 pub lay-spec : {M : Type 1} → statement M
 lay-spec =
@@ -20,13 +21,32 @@ lay-spec =
     (tie.spec
     Inv-loop
     μ-loop
-    (λ c. (omega arith, refl, laid-none _ _ _ _ _ _ _ _))
-    (λ c. search needs)
-    (λ c. let h = c .before .before .before .before .before .before .pre .2 (c .before .before .loop .k) (omega arith) in omega (arith, h))
-    (λ c. let h = c .before .before .before .before .before .before .pre .2 (c .before .before .loop .k) (omega arith) in omega (arith, h))
-    (λ c κs. let h = c .before .before .before .before .before .before .pre .2 (c .before .before .loop .k) (omega arith) in (c .before .before .before .before .before .before .pre .0, omega (arith, h)))
+    (λ c. (omega arith, refl, laid-none _ _ _ _ _))
+    (λ c. let l = c .before .before .before in let h = l .before .before .before .before .pre .3 (l .loop .k) (omega arith) in omega (arith, h))
+    (λ c. let l = c .before .before .before .before in let h = l .before .before .before .before .pre .3 (l .loop .k) (omega arith) in omega (arith, h))
+    (λ c. let l = c .before .before .before .before .before in let h = l .before .before .before .before .pre .3 (l .loop .k) (omega arith) in omega (arith, h))
     (λ c. omega arith)
     (λ c. omega arith)
-    (λ c. let a = c .before .before .before .before .before .before .before .before .before .args in let l = c .before .before .before .before .before .loop in (omega arith, omega arith, laid-more (a .src .now) (a .first) (a .stride) (a .f) (a .qs .now) (a .start) (a .step) (l .k) (a .out .now) (l .out) _ (l .inv .2) (c .before .before .regenerate .ensures)))
-    (λ c. c .before .loop .inv .1)
-    (λ c. let e : c .before .loop .k ≡ c .before .before .before .before .before .args .n = omega arith in rw e at (c .before .loop .inv .2)))
+    (λ c. omega arith)
+    (λ c. let l = c .before .before .before .before .before in let h = l .before .before .before .before .pre .3 (l .loop .k) (omega arith) in omega (arith, h))
+    (λ c κs.
+    let l = c .before .before .before .before .before .before in
+    let e = l .before .before .before .before in
+    let h = e .pre .3 (l .loop .k) (omega arith) in
+    (e .pre .0, part-length (fragmentAt (e .args .to) (l .loop .k)) (e .args .to .fragment) (l .loop .out) (omega (arith, h)) ∙ sym (e .pre .1)))
+    (λ c. omega arith)
+    (λ c. omega arith)
+    (λ c.
+    let l = c .before .before .before .before .before .before .before .before .before in
+    let e = l .before .before .before .before in
+    let a = e .args in
+    let at = fragmentAt (a .to) (l .loop .k) in (
+      omega arith,
+      search needs,
+      laid-more (a .src .now) (a .s) (a .qs .now) (a .to) (l .loop .k) (at + a .to .fragment - at) (a .out .now) (l .loop .out) _ (e .pre .0) (e .pre .1) (omega arith)
+          (l .loop .inv .2) (c .before .before .regenerate .ensures),
+    ))
+    (λ c. c .before .before .loop .inv .1)
+    (λ c.
+    let l = c .before .before in
+    let k : l .loop .k ≡ l .before .before .before .before .args .to .n = omega arith in rw k at (l .loop .inv .2)))

@@ -9,7 +9,7 @@ use Rattle.packing.proofs.session_of.Tie as tie
 
 returns : tie.Need-returns
 unfolding sessionOf
-returns c = picks.no _ _ (sym (c .before .before .session-shaped .ensures) ∙ not-true (c .before .before .session-shaped .result) (c .before .if1 .taken)) (c .no-session .ensures)
+returns c = picks.no _ _ (sym (c .before .before .session-shaped .ensures) ∙ not-true (c .before .before .session-shaped .result) (c .before .if1 .taken)) (c .none .ensures)
 
 returns-2 : tie.Need-returns-2
 unfolding sessionOf

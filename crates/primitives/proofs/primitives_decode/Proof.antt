@@ -11,6 +11,14 @@ primitives-decode-spec =
     (tie.spec
     (λ c κs. search needs)
     (λ c. refused _ _ _ (sym (c .before .decode-fits .ensures) ∙ not-true (c .before .decode-fits .result) (c .if1 .taken)))
-    (λ c κs. let h = decode-is _ _ _ _ _ (sym (c .before .before .decode-fits .ensures) ∙ not-false (c .before .before .decode-fits .result) (c .before .if1 .left)) in (named-within _ (c .before .before .before .before .before .before .args .desk .now) (c .before .before .before .before .before .before .args .nodes .now) (h .1), h .0 .high, h .0 .length-is))
+    (λ c κs. tt)
+    (λ c κs.
+    let t = c .before .before in
+    let a = t .before .before .before .before .before .args in
+    let h = decode-is _ _ _ _ _ (sym (t .before .decode-fits .ensures) ∙ not-false (t .before .decode-fits .result) (t .if1 .left)) in
+    rw (c .before .runs-of .ensures) (named-within _ (a .desk .now) (a .nodes .now) (h .1), h .0 .high, h .0 .length-is))
     (λ c. search needs)
-    (λ c. done _ _ _ (sym (c .before .before .before .before .before .decode-fits .ensures) ∙ not-false (c .before .before .before .before .before .decode-fits .result) (c .before .before .before .before .if1 .left)) (c .before .before .decode .ensures)))
+    (λ c.
+    let r = c .before .before .before .before in
+    let t = r .before in
+    done _ _ _ (sym (t .before .decode-fits .ensures) ∙ not-false (t .before .decode-fits .result) (t .if1 .left)) (c .before .before .decode .ensures ∙ rw (r .runs-of .ensures))))

@@ -11,6 +11,14 @@ primitives-encode-spec =
     (tie.spec
     (λ c κs. search needs)
     (λ c. refused _ _ _ (sym (c .before .encode-fits .ensures) ∙ not-true (c .before .encode-fits .result) (c .if1 .taken)))
-    (λ c κs. let e = sym (c .before .before .encode-fits .ensures) ∙ not-false (c .before .before .encode-fits .result) (c .before .if1 .left) in let h = encode-is _ _ _ _ _ e in (h .1 .length-is, h .1 .high, h .2 .high, encode-room _ _ _ _ _ e))
+    (λ c κs. tt)
+    (λ c κs.
+    let t = c .before .before in
+    let e = sym (t .before .encode-fits .ensures) ∙ not-false (t .before .encode-fits .result) (t .if1 .left) in
+    let h = encode-is _ _ _ _ _ e in
+    rw (c .before .runs-of .ensures) (h .1 .length-is, h .1 .high, h .2 .high, encode-room _ _ _ _ _ e))
     (λ c. search needs)
-    (λ c. done _ _ _ (sym (c .before .before .before .before .before .encode-fits .ensures) ∙ not-false (c .before .before .before .before .before .encode-fits .result) (c .before .before .before .before .if1 .left)) (c .before .before .encode .ensures)))
+    (λ c.
+    let r = c .before .before .before .before in
+    let t = r .before in
+    done _ _ _ (sym (t .before .encode-fits .ensures) ∙ not-false (t .before .encode-fits .result) (t .if1 .left)) (c .before .before .encode .ensures ∙ rw (r .runs-of .ensures))))

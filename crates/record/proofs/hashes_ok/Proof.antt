@@ -1,5 +1,7 @@
 use native.Mathlib.Omega.{arith}
 use borrow.Author.Tests.{not-true, not-false}
+use Prim.Native.Nat.{_+_, _-_, _≤_}
+use Rattle.terms.proofs.Places.{slots-are}
 use Rattle.record.proofs.Records as laws
 use borrow.Author.Needs.{needs}
 use Rattle.record.proofs.hashes_ok.Statement.{statement}
@@ -9,57 +11,34 @@ pub hashes-ok-spec : {M : Type 1} → statement M
 hashes-ok-spec =
     tie.close
     (tie.spec
-    (λ c. search needs)
+    (λ c κs. search needs)
+    (λ c. let e = c .before .before in let q = slots-are _ _ (e .pre .0) (c .slots-of .ensures) in omega arith)
+    (λ c. let e = c .before .before .before in let q = slots-are _ _ (e .pre .0) (c .before .slots-of .ensures) in omega arith)
+    (λ c. let e = c .before .before .before in let q = slots-are _ _ (e .pre .0) (c .before .slots-of .ensures) in omega arith)
+    (λ c. let e = c .before .before .before in let q = slots-are _ _ (e .pre .0) (c .before .slots-of .ensures) in omega arith)
+    (λ c. let e = c .before .before .before in let q = slots-are _ _ (e .pre .0) (c .before .slots-of .ensures) in omega arith)
+    (λ c κs. let e = c .before .before .before in let q = slots-are _ _ (e .pre .0) (c .before .slots-of .ensures) in (omega arith, omega arith, omega arith))
     (λ c.
-    let s = c .before in
-    let w = laws.lies _ _ _ (s .pre .0) (s .pre .1) in
-    omega arith)
-    (λ c.
-    let s = c .before in
-    let w = laws.lies _ _ _ (s .pre .0) (s .pre .1) in
-    omega arith)
-    (λ c.
-    let s = c .before in
-    let w = laws.lies _ _ _ (s .pre .0) (s .pre .1) in
-    omega arith)
-    (λ c.
-    let s = c .before in
-    let w = laws.lies _ _ _ (s .pre .0) (s .pre .1) in
-    omega arith)
-    (λ c.
-    let s = c .before in
-    let w = laws.lies _ _ _ (s .pre .0) (s .pre .1) in
-    omega arith)
-    (λ c. search needs)
-    (λ c. search needs)
-    (λ c. search needs)
-    (λ c.
-    let s = c .before .before in
-    let w = laws.lies _ _ _ (s .pre .0) (s .pre .1) in
-    omega arith)
-    (λ c. search needs)
-    (λ c κs.
     let s = c .before .before .before in
-    let w = laws.lies _ _ _ (s .pre .0) (s .pre .1) in
-    search needs)
-    (λ c.
-    let a = c .before .before .before .before .before .args in
-    let r = c .before .matches in
-    laws.hashes-no (a .p) (a .s .now) (a .at) (a .node) (r .result) (not-true (r .result) (c .if1 .taken)) (r .ensures))
-    (λ c. search needs)
-    (λ c. search needs)
-    (λ c. search needs)
-    (λ c.
-    let s = c .before .before .before .before .before .before in
-    let w = laws.lies _ _ _ (s .pre .0) (s .pre .1) in
-    omega arith)
+    let e = s .before .before in
+    let a = e .args in
+    let q = slots-are _ _ (e .pre .0) (s .slots-of .ensures) in
+    let r = c .before .verifier-ok in
+    laws.hashes-no (a .p) (a .s .now) (a .at) (s .slots-of .result .head) (q .head-is) (a .node) (r .result) (not-true (r .result) (c .if1 .taken)) (r .ensures))
+    (λ c. let s = c .before .before .before in let q = slots-are _ _ (s .before .before .pre .0) (s .slots-of .ensures) in omega arith)
+    (λ c. let s = c .before .before .before in let q = slots-are _ _ (s .before .before .pre .0) (s .slots-of .ensures) in omega arith)
+    (λ c. let s = c .before .before .before in let q = slots-are _ _ (s .before .before .pre .0) (s .slots-of .ensures) in omega arith)
     (λ c κs.
-    let s = c .before .before .before .before .before .before .before in
-    let w = laws.lies _ _ _ (s .pre .0) (s .pre .1) in
-    search needs)
+    let s = c .before .before .before .before in
+    let e = s .before .before in
+    let a = e .args in
+    let q = slots-are _ _ (e .pre .0) (s .slots-of .ensures) in
+    (search needs, omega arith))
     (λ c.
-    let r = c .before .before .before .before .matches in
-    let s = c .before .before .before .before .before .before .before .before in
-    let a = s .args in
-    laws.hashes-last (a .p) (a .s .now) (a .at) (a .node) (r .result) _ (s .pre .2) (not-false (r .result) (c .before .before .before .if1 .left)) (r .ensures)
-    (c .matches2 .ensures)))
+    let s = c .before .before .before .before .before in
+    let e = s .before .before in
+    let a = e .args in
+    let q = slots-are _ _ (e .pre .0) (s .slots-of .ensures) in
+    let r = c .before .before .before .verifier-ok in
+    laws.hashes-last (a .p) (a .s .now) (a .at) (s .slots-of .result .head) (q .head-is) (a .node) (r .result) _ (s .slots-of .result .size) (q .size-is) (e .pre .2)
+    (not-false (r .result) (c .before .before .if1 .left)) (r .ensures) (c .entry-ok .ensures)))

@@ -6,18 +6,19 @@ use native.Mathlib.Omega.{arith}
 use lib.ListN.{length, drop}
 use Rattle.octets.specs.Bytes.{part, put}
 use Rattle.octets.proofs.Laws.{length-part, slot-fits}
+use Rattle.terms.specs.Terms.{slotAt}
 use Rattle.record.specs.Desk.{deskOf}
 use Rattle.record.proofs.Desks as laws
 use Rattle.record.proofs.heads.Statement.{statement}
 use Rattle.record.proofs.heads.Tie as tie
 
 abbrev Inv-loop : tie.InvT-loop
-Inv-loop desk₀ a h f r n k₀ desk k =
-    (k ≤ n) × (length desk ≡ length desk₀) × (part desk (a * r) h ≡ part desk₀ (a * r) h)
-    × (desk ≡ deskOf (part desk₀ (a * r) h) [] (laws.restOf desk₀ r h f) k ++ drop (k * r) desk₀)
+Inv-loop desk₀ s a k₀ desk k =
+    (k ≤ s .n) × (length desk ≡ length desk₀) × (part desk (slotAt s a) (s .head) ≡ part desk₀ (slotAt s a) (s .head))
+    × (desk ≡ deskOf (part desk₀ (slotAt s a) (s .head)) [] (laws.restOf desk₀ s) k ++ drop (slotAt s k) desk₀)
 
 abbrev μ-loop : tie.MeasureT-loop
-μ-loop desk₀ a h f r n k₀ desk k = n - k
+μ-loop desk₀ s a k₀ desk k = s .n - k
 
 pub heads-spec : {M : Type 1} → statement M
 heads-spec =
@@ -26,46 +27,47 @@ heads-spec =
     Inv-loop
     μ-loop
     (λ c.
-    let s = c .before in
-    let a = s .args in (
+    let e = c .before in
+    let a = e .args in (
       omega arith,
       refl,
       refl,
-      laws.start (a .desk .now) (part (a .desk .now) (a .a * a .r) (a .h)) (a .r) (a .h) (a .f) (a .n) (s .pre .1)
-          (length-part _ _ _ (omega (arith, slot-fits _ _ (a .r) (s .pre .2)))) (s .pre .0),
+      laws.start (a .desk .now) (part (a .desk .now) (slotAt (a .slots) (a .a)) (a .slots .head)) (a .slots) (e .pre .1)
+          (length-part _ _ _ (omega (arith, slot-fits _ _ (a .slots .size) (e .pre .2)))) (e .pre .0),
     ))
-    (λ c. let a = c .before .before .before .before .args in omega (arith, slot-fits _ _ (a .r) (c .before .before .before .before .pre .2)))
-    (λ c. let a = c .before .before .before .before .args in omega (arith, slot-fits _ _ (a .r) (c .before .loop-test .taken)))
+    (λ c. let e = c .before .before .before .before .before .before in omega (arith, slot-fits _ _ (e .args .slots .size) (e .pre .2)))
+    (λ c. let l = c .before .before .before .before .before in omega (arith, slot-fits _ _ (l .before .before .args .slots .size) (c .before .before .before .if1 .taken)))
     (λ c κs.
-    let l = c .before .before in
-    let s = l .before .before in
-    let x = slot-fits _ _ (s .args .r) (s .pre .2) in
-    let y = slot-fits _ _ (s .args .r) (c .before .loop-test .taken) in
+    let l = c .before .before .before .before .before in
+    let e = l .before .before in
+    let x = slot-fits _ _ (e .args .slots .size) (e .pre .2) in
+    let y = slot-fits _ _ (e .args .slots .size) (c .before .before .before .if1 .taken) in
     let n = l .loop .inv .1 in
     (omega arith, omega arith))
     (λ c. omega arith)
     (λ c. omega arith)
     (λ c.
-    let t = c .before .before .before .before in
-    let l = t .before .loop in
-    let s = t .before .before .before in
-    let a = s .args in
+    let l = c .before .before .before .before .before .before .before .before .loop in
+    let t = c .before .before .before .before .before .before .if1 .taken in
+    let e = c .before .before .before .before .before .before .before .before .before .before in
+    let a = e .args in
+    let s = a .slots in
     let i = l .inv in
-    let head : List ℕ = part (a .desk .now) (a .a * a .r) (a .h) in
-    let x = slot-fits _ _ (a .r) (s .pre .2) in
-    let lh = length-part (a .desk .now) (a .a * a .r) (a .h) (omega arith) in
-    let e = c .before .before .within .ensures ∙ ap (λ (z : List ℕ). put (l .desk) (l .k * a .r) z) (i .2) in
-    let stays = laws.head-stays (l .desk) head (a .a) (l .k) (a .n) (a .r) (a .h) (omega arith) lh (omega arith) (t .loop-test .taken) (i .2) in (
+    let head : List ℕ = part (a .desk .now) (slotAt s (a .a)) (s .head) in
+    let x = slot-fits _ _ (s .size) (e .pre .2) in
+    let lh = length-part (a .desk .now) (slotAt s (a .a)) (s .head) (omega arith) in
+    let z = c .before .before .within .ensures ∙ ap (λ (z : List ℕ). put (l .desk) (slotAt s (l .k)) z) (i .2) in
+    let stays = laws.head-stays (l .desk) head (a .a) (l .k) s (omega arith) lh (e .pre .0) t (i .2) in (
       omega arith,
       search needs,
-      ap (λ (z : List ℕ). part z (a .a * a .r) (a .h)) e ∙ stays,
-      e ∙ laws.turn (a .desk .now) head (a .r) (a .h) (a .f) (a .n) (s .pre .1) lh (s .pre .0) (l .k) (l .desk) (t .loop-test .taken) (i .3),
+      ap (λ (z : List ℕ). part z (slotAt s (a .a)) (s .head)) z ∙ stays,
+      z ∙ laws.turn (a .desk .now) head s (e .pre .1) lh (e .pre .0) (l .k) (l .desk) t (i .3),
     ))
-    (λ c. c .before .loop .inv .1)
+    (λ c. c .before .before .loop .inv .1)
     (λ c.
-    let l = c .before .loop in
-    let s = c .before .before .before in
-    let a = s .args in
-    let x = slot-fits _ _ (a .r) (s .pre .2) in
-    laws.done (a .desk .now) (part (a .desk .now) (a .a * a .r) (a .h)) (a .r) (a .h) (a .f) (a .n) (s .pre .1) (length-part _ _ _ (omega arith)) (s .pre .0)
+    let l = c .before .before .loop in
+    let e = c .before .before .before .before in
+    let a = e .args in
+    let x = slot-fits _ _ (a .slots .size) (e .pre .2) in
+    laws.done (a .desk .now) (part (a .desk .now) (slotAt (a .slots) (a .a)) (a .slots .head)) (a .slots) (e .pre .1) (length-part _ _ _ (omega arith)) (e .pre .0)
     (l .k) (l .desk) (omega arith) (l .inv .3)))

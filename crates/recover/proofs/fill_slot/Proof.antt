@@ -9,8 +9,14 @@ fill-slot-spec =
     (tie.spec
     (λ c. search needs)
     (λ c κs. search needs)
-    (λ c. let s = c .before .before .before .before .before .args in laws.filled-stays (s .desk .now) (s .h) (s .r) (s .f) (s .qs .now) (s .a) (s .k) _ (c .before .is-among .ensures) (c .if1 .taken))
+    (λ c. let a = c .before .before .before .before .before .args in laws.filled-stays (a .desk .now) (a .slots) (a .qs .now) (a .a) (a .k) _ (c .before .is-among .ensures) (c .if1 .taken))
+    (λ c. search needs)
+    (λ c κs. search needs)
     (λ c κs. search needs)
     (λ c. search needs)
     (λ c. search needs)
-    (λ c. let s = c .before .before .before .before .before .before .before .before .before .before .before .before .args in laws.filled-writes (s .desk .now) _ (s .h) (s .r) (s .f) (s .qs .now) (s .a) (s .k) _ (c .before .before .before .before .before .before .before .before .is-among .ensures) (c .before .before .before .before .before .before .before .if1 .left) (c .before .before .before .before .write-slot .ensures)))
+    (λ c.
+    let g = c .before .before .before .before .before .before .before in
+    let t = g .before .before .before in
+    let a = t .before .before .before .before .before .args in
+    laws.filled-writes (a .desk .now) _ _ (a .slots) (a .qs .now) (a .a) (a .k) _ (t .before .is-among .ensures) (t .if1 .left) (g .regenerate .ensures) (c .before .before .write-slot .ensures)))

@@ -9,7 +9,7 @@ mend-spec =
     tie.close
     (tie.spec
     (λ c. search needs)
-    (λ c. sym (scratch-length (c .before .before .before .before .args .f) (c .before .before .before .before .pre .1)))
-    (λ c κs. (c .before .before .before .before .pre .0, scratch-length (c .before .before .before .before .args .f) (c .before .before .before .before .pre .1), c .before .before .before .before .pre .2, c .before .before .before .before .pre .3, c .before .before .before .before .pre .4, c .before .before .before .before .pre .5))
+    (λ c. let e = c .before .before .before .before in sym (scratch-length (e .args .slots .fragment) (e .pre .1)))
+    (λ c κs. let e = c .before .before .before .before in (e .pre .0, scratch-length (e .args .slots .fragment) (e .pre .1), e .pre .2, e .pre .3, e .pre .4, e .pre .5))
     (λ c. search needs)
     (λ c. search needs))

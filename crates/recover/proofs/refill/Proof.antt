@@ -10,10 +10,11 @@ use Rattle.recover.proofs.refill.Statement.{statement}
 use Rattle.recover.proofs.refill.Tie as tie
 
 abbrev Inv-loop : tie.InvT-loop
-Inv-loop desk₀ h r f qs a n scratch₀ k₀ desk scratch k = (k ≤ n) × (length scratch ≡ f) × (length desk ≡ length desk₀) × (desk ≡ refilled desk₀ h r f qs a k)
+Inv-loop desk₀ slots qs a scratch₀ n k₀ desk scratch k =
+    (k ≤ n) × (length scratch ≡ slots .fragment) × (length desk ≡ length desk₀) × (desk ≡ refilled desk₀ slots qs a k)
 
 abbrev μ-loop : tie.MeasureT-loop
-μ-loop desk₀ h r f qs a n scratch₀ k₀ desk scratch k = n - k
+μ-loop desk₀ slots qs a scratch₀ n k₀ desk scratch k = n - k
 
 loop-holds : tie.Need-loop-holds Inv-loop μ-loop
 unfolding refilled
@@ -26,10 +27,16 @@ refill-spec =
     Inv-loop
     μ-loop
     loop-holds
-    (λ c κs. let z = slot-room (c .before .before .before .loop .k) _ _ _ (c .before .before .loop-test .taken) (c .before .before .before .before .before .before .before .pre .4) in let y = slot-room (c .before .before .before .before .before .before .before .args .a) _ _ _ (c .before .before .before .before .before .before .before .pre .5) (c .before .before .before .before .before .before .before .pre .4) in (λ j u. let q = c .before .before .before .before .before .before .before .pre .0 j u in omega arith, omega arith, c .before .before .before .before .before .before .before .pre .2, omega arith, omega arith, omega arith))
+    (λ c κs.
+    let e = c .before .before .before .before .before .before .before in
+    let z = slot-room (c .before .before .before .loop .k) _ _ _ (c .before .before .loop-test .taken) (e .pre .4) in
+    let y = slot-room (e .args .a) _ _ _ (e .pre .5) (e .pre .4) in
+    (λ j u. let q = e .pre .0 j u in omega arith, omega arith, e .pre .2, omega arith, omega arith, omega arith))
     (λ c. search needs)
     (λ c. search needs)
-    (λ c. (omega arith, omega arith, omega arith, laws.refill-more _ _ _ _ _ _ _ _ (c .before .before .before .before .before .before .before .before .loop .k) (c .before .before .before .before .before .before .before .before .loop .inv .3) (c .before .before .before .before .fill-slot .ensures)))
+    (λ c.
+    let l = c .before .before .before .before .before .before .before .before .loop in
+    (omega arith, omega arith, omega arith, laws.refill-more _ _ _ _ _ _ (l .k) (l .inv .3) (c .before .before .before .before .fill-slot .ensures)))
     (λ c. omega arith)
     (λ c. omega arith)
-    (λ c. let e : c .before .loop .k ≡ c .before .before .before .before .before .args .n = omega arith in c .before .loop .inv .3 ∙ ap (refilled _ _ _ _ _ _) e))
+    (λ c. let e : c .before .loop .k ≡ c .before .before .before .before .before .args .slots .n = omega arith in c .before .loop .inv .3 ∙ ap (refilled _ _ _ _) e))

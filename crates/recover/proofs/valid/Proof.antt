@@ -1,18 +1,19 @@
-use mathlib.Core.Path.{_≡_}
+use mathlib.Core.Path.{_≡_, sym, ap, _∙_}
 use Prim.Native.Nat.{_-_, _≤_}
 use native.Mathlib.Omega.{arith}
 use borrow.Author.Needs.{needs}
 use borrow.Author.Tests.{not-true, not-false}
 use lib.ListN.{length}
+use Rattle.terms.proofs.Places.{slots-are}
 use Rattle.recover.proofs.Laws as laws
 use Rattle.recover.proofs.valid.Statement.{statement}
 use Rattle.recover.proofs.valid.Tie as tie
 
 abbrev Inv-loop : tie.InvT-loop
-Inv-loop desk h r f qs a n scratch₀ i₀ scratch i = (i ≤ n) × (length scratch ≡ f) × laws.Agreed desk h r f qs a i
+Inv-loop p desk qs a scratch₀ slots n size at i₀ scratch i = (i ≤ n) × (length scratch ≡ p .f) × laws.Agreed p desk qs a i
 
 abbrev μ-loop : tie.MeasureT-loop
-μ-loop desk h r f qs a n scratch₀ i₀ scratch i = n - i
+μ-loop p desk qs a scratch₀ slots n size at i₀ scratch i = n - i
 
 pub valid-spec : {M : Type 1} → statement M
 valid-spec =
@@ -20,12 +21,62 @@ valid-spec =
     (tie.spec
     Inv-loop
     μ-loop
-    (λ c. let s = c .before .before .before .args in (omega arith, c .before .before .before .pre .2, laws.agreed-none (s .desk .now) (s .h) (s .r) (s .f) (s .qs .now) (s .a)))
-    (λ c κs. (c .before .before .before .before .before .before .pre .0, c .before .before .before .before .before .before .pre .1, omega arith, omega arith, omega arith))
+    (λ c κs. search needs)
+    (λ c. let e = c .before .before .before .before in let r = laws.head-room _ _ (c .slots-of .ensures) (e .args .a) _ (e .pre .3) in omega (arith, r))
+    (λ c. let e = c .before .before .before .before in let r = laws.head-room _ _ (c .slots-of .ensures) (e .args .a) _ (e .pre .3) in let q = slots-are _ _ (e .pre .0) (c .slots-of .ensures) in omega (arith, r))
+    (λ c. let e = c .before .before .before .before in let a = e .args in (omega arith, e .pre .2, laws.agreed-none (a .p) (a .desk .now) (a .qs .now) (a .a)))
+    (λ c. let s = c .before .before in let q = slots-are _ _ (s .before .before .before .before .pre .0) (s .slots-of .ensures) in omega arith)
+    (λ c κs.
+    let s = c .before .before .before in
+    let e = s .before .before .before .before in
+    rw (s .slots-of .ensures) (e .pre .1, c .before .before .loop .inv .1))
+    (λ c.
+    let s = c .before .before .before .before .before .before .before in
+    let q = slots-are _ _ (s .before .before .before .before .pre .0) (s .slots-of .ensures) in
+    omega arith)
+    (λ c.
+    let l = c .before .before .before .before .before .before in
+    let s = l .before in
+    let e = s .before .before .before .before in
+    let q = slots-are _ _ (e .pre .0) (s .slots-of .ensures) in
+    let r = laws.head-room _ _ (s .slots-of .ensures) (e .args .a) _ (e .pre .3) in
+    omega (arith, r))
+    (λ c κs.
+    let l = c .before .before .before .before .before .before in
+    let s = l .before in
+    let e = s .before .before .before .before in
+    let q = slots-are _ _ (e .pre .0) (s .slots-of .ensures) in
+    let r = laws.head-room _ _ (s .slots-of .ensures) (e .args .a) _ (e .pre .3) in
+    (omega arith, omega (arith, r)))
     (λ c. search needs)
-    (λ c. let s = c .before .before .before .before .before .before .before .before .before .before .args in laws.agreed-not (s .desk .now) (s .h) (s .r) (s .f) (s .qs .now) (s .a) (c .before .before .before .before .before .before .loop .i) (s .n) _ (omega arith) (omega arith) (c .before .before .before .proves .ensures) (not-true (c .before .before .before .proves .result) (c .if1 .taken)))
+    (λ c.
+    let g = c .before .before .before .before .before in
+    let l = g .before .before .before in
+    let s = l .before in
+    let e = s .before .before .before .before in
+    let a = e .args in
+    let q = slots-are _ _ (e .pre .0) (s .slots-of .ensures) in
+    let r = laws.head-room _ _ (s .slots-of .ensures) (a .a) _ (e .pre .3) in
+    laws.agreed-not (a .p) (a .desk .now) (a .qs .now) (a .a) (l .loop .i) (c .before .entry-ok .result) _ (s .slots-of .result) (s .slots-of .ensures)
+    (g .regenerate .ensures) (c .before .entry-ok .ensures) (omega arith) (omega (arith, e .pre .3)) (not-true (c .before .entry-ok .result) (c .if1 .taken)))
     (λ c. search needs)
     (λ c. search needs)
-    (λ c. let s = c .before .before .before .before .before .before .before .before .before .before .args in (omega arith, omega arith, laws.agreed-more (s .desk .now) (s .h) (s .r) (s .f) (s .qs .now) (s .a) (c .before .before .before .before .before .before .loop .i) _ (omega arith) (c .before .before .before .before .before .before .loop .inv .2) (c .before .before .before .proves .ensures) (not-false (c .before .before .before .proves .result) (c .if1 .left))))
+    (λ c.
+    let g = c .before .before .before .before .before in
+    let l = g .before .before .before in
+    let s = l .before in
+    let e = s .before .before .before .before in
+    let a = e .args in
+    let q = slots-are _ _ (e .pre .0) (s .slots-of .ensures) in (
+      omega arith,
+      omega arith,
+      laws.agreed-more (a .p) (a .desk .now) (a .qs .now) (a .a) (l .loop .i) (c .before .entry-ok .result) _ (s .slots-of .result) (s .slots-of .ensures)
+          (g .regenerate .ensures) (c .before .entry-ok .ensures) (omega (arith, e .pre .3)) (l .loop .inv .2) (not-false (c .before .entry-ok .result) (c .if1 .left)),
+    ))
     (λ c. search needs)
-    (λ c. let s = c .before .before .before .before .before .args in laws.agreed-all (s .desk .now) (s .h) (s .r) (s .f) (s .qs .now) (s .a) (c .before .loop .i) (s .n) (omega arith) (c .before .loop .inv .2)))
+    (λ c.
+    let s = c .before .before in
+    let e = s .before .before .before .before in
+    let a = e .args in
+    let q = slots-are _ _ (e .pre .0) (s .slots-of .ensures) in
+    laws.agreed-all (a .p) (a .desk .now) (a .qs .now) (a .a) (c .before .loop .i) (omega arith) (c .before .loop .inv .2)))

@@ -1,4 +1,5 @@
 use mathlib.Core.Path.{sym}
+use Rattle.terms.proofs.Plans.{plan-is}
 use Rattle.recover.proofs.Laws.{scratch-length}
 use borrow.Author.Needs.{needs}
 use Rattle.recover.proofs.validated.Statement.{statement}
@@ -8,7 +9,7 @@ pub validated-spec : {M : Type 1} → statement M
 validated-spec =
     tie.close
     (tie.spec
-    (λ c. search needs)
-    (λ c. sym (scratch-length (c .before .before .before .args .f) (c .before .before .before .pre .1)))
-    (λ c κs. (c .before .before .before .pre .0, c .before .before .before .pre .1, scratch-length (c .before .before .before .args .f) (c .before .before .before .pre .1), c .before .before .before .pre .2, c .before .before .before .pre .3))
+    (λ c. let q = plan-is _ (c .before .before .pre .0) in search needs)
+    (λ c. let e = c .before .before .before in sym (scratch-length (e .args .p .f) (plan-is _ (e .pre .0) .f-high)))
+    (λ c κs. let e = c .before .before .before in (e .pre .0, e .pre .1, scratch-length (e .args .p .f) (plan-is _ (e .pre .0) .f-high), e .pre .2))
     (λ c. search needs))

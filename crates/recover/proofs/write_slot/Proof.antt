@@ -13,7 +13,8 @@ write-slot-spec =
     (λ c. search needs)
     (λ c κs. search needs)
     (λ c. search needs)
-    (λ c κs. search needs)
-    (λ c. search needs)
-    (λ c. search needs)
-    (λ c. let s = c .before .before .before .before .before .before .before .before .before .before .before .before .before .before .before .before .before .args in laws.write-is (s .desk .now) _ _ (s .scratch .now) _ (s .h) (s .r) (s .f) (s .qs .now) (s .a) (s .k) (c .before .before .before .before .before .before .before .before .before .before .before .before .before .before .before .before .before .pre .0) (c .before .before .before .before .before .before .before .before .before .before .before .before .before .before .before .before .before .pre .1) (c .before .before .before .before .before .before .before .before .before .before .before .before .before .before .before .before .before .pre .4) (c .before .before .before .before .before .before .before .before .before .before .before .before .before .before .before .before .before .pre .5) (c .before .before .before .before .before .before .before .before .before .before .before .before .before .before .before .before .before .pre .2) (c .before .before .before .before .before .before .before .before .before .before .before .regenerate .ensures) (c .before .before .before .before .before .before .copy .ensures) (c .before .before .within .ensures)))
+    (λ c.
+    let x = c .before .before .before .before .before .before in
+    let e = x .before .before .before .before in
+    let a = e .args in
+    laws.write-is (a .desk .now) _ _ (a .fragment .now) (a .slots) (a .a) (a .k) (e .pre .0) (e .pre .2) (e .pre .3) (e .pre .1) (x .copy .ensures) (c .before .before .within .ensures)))

@@ -18,5 +18,5 @@ closing-spec =
     (λ c κs. search needs)
     (λ c. let h = slot-room (c .before .before .before .lead .given .0 .0) _ _ _ (laws.lead-room _ _ _ _ _ _ (c .before .before .before .before .before .leading .ensures) (c .before .before .before .lead .given .1)) (c .before .before .before .before .before .before .before .pre .0) in omega (arith, h, c .before .before .before .before .before .before .before .good))
     (λ c κs. let h = slot-room (c .before .before .before .lead .given .0 .0) _ _ _ (laws.lead-room _ _ _ _ _ _ (c .before .before .before .before .before .leading .ensures) (c .before .before .before .lead .given .1)) (c .before .before .before .before .before .before .before .pre .0) in omega (arith, h))
-    (λ c. (laws.close-none _ _ _ _ _ _ _ _ _ _ (c .before .before .before .leading .ensures) (c .before .enum-told .given .1) (c .zero-stamp .ensures), refl, omega arith))
-    (λ c. (laws.close-some _ _ _ _ _ _ _ _ (c .before .before .before .before .lead .given .0 .0) _ (c .before .before .members .result) _ _ (c .before .before .before .before .before .before .leading .ensures) (c .before .before .before .before .lead .given .1) (c .before .before .before .before .before .before .before .before .pre .3) (c .before .before .members .ensures .2) (c .before .before .members .ensures .1) (c .before .before .members .ensures .0) (c .before .decide .ensures) (c .stamp-at .ensures), c .before .before .members .ensures .2, c .before .before .members .ensures .1)))
+    (λ c. (laws.close-none _ _ _ _ _ _ _ (c .before .before .before .leading .ensures) (c .before .enum-told .given .1) (c .zero-stamp .ensures), refl, omega arith))
+    (λ c. (laws.close-some _ _ _ _ _ (c .before .before .before .before .lead .given .0 .0) _ (c .before .before .members .result) _ _ (c .before .before .before .before .before .before .leading .ensures) (c .before .before .before .before .lead .given .1) (c .before .before .before .before .before .before .before .before .pre .3) (c .before .before .members .ensures .2) (c .before .before .members .ensures .1) (c .before .before .members .ensures .0) (c .before .decide .ensures) (c .stamp-at .ensures), c .before .before .members .ensures .2, c .before .before .members .ensures .1)))

@@ -8,10 +8,10 @@ use Rattle.rounds.proofs.leading.Statement.{statement}
 use Rattle.rounds.proofs.leading.Tie as tie
 
 abbrev Inv-loop : tie.InvT-loop
-Inv-loop desk n r marks best₀ i₀ best i = (i ≤ n) × (best ≡ leadOf marks desk r i)
+Inv-loop desk slots marks n best₀ i₀ best i = (i ≤ n) × (best ≡ leadOf marks desk slots i)
 
 abbrev μ-loop : tie.MeasureT-loop
-μ-loop desk n r marks best₀ i₀ best i = n - i
+μ-loop desk slots marks n best₀ i₀ best i = n - i
 
 loop-holds : tie.Need-loop-holds Inv-loop μ-loop
 unfolding leadOf
@@ -25,8 +25,8 @@ leading-spec =
     μ-loop
     loop-holds
     (λ c. omega arith)
-    (λ c κs. (c .before .before .before .before .pre .0, c .before .before .before .before .pre .1, c .before .loop-test .taken, subst (λ (x : Lead). leadIn x (c .before .before .before .before .args .n)) (sym (c .before .before .loop .inv .1)) (laws.lead-below _ _ _ _ _ (c .before .before .loop .inv .0))))
+    (λ c κs. (c .before .before .before .before .pre .0, c .before .before .before .before .pre .1, c .before .loop-test .taken, subst (λ (x : Lead). leadIn x (c .before .before .before .before .args .slots .n)) (sym (c .before .before .loop .inv .1)) (laws.lead-below _ _ _ _ _ (c .before .before .loop .inv .0))))
     (λ c. omega arith)
     (λ c. omega arith)
     (λ c. (omega arith, laws.lead-turn _ _ _ _ _ _ (c .before .before .before .loop .inv .1) (c .step .ensures)))
-    (λ c. c .before .loop .inv .1 ∙ ap (leadOf _ _ _) (let e : c .before .loop .i ≡ c .before .before .before .args .n = omega arith in e)))
+    (λ c. c .before .loop .inv .1 ∙ ap (leadOf _ _ _) (let e : c .before .loop .i ≡ c .before .before .before .args .slots .n = omega arith in e)))

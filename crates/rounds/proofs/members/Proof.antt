@@ -9,10 +9,10 @@ use Rattle.rounds.proofs.members.Statement.{statement}
 use Rattle.rounds.proofs.members.Tie as tie
 
 abbrev Inv-loop : tie.InvT-loop
-Inv-loop desk n r h a marks set₀ i₀ set i = (i ≤ n) × (set .size ≤ i) × (length (set .nodes) ≡ 16) × (listed set ≡ setOf marks desk r h a i)
+Inv-loop desk slots a marks n set₀ i₀ set i = (i ≤ n) × (set .size ≤ i) × (length (set .nodes) ≡ 16) × (listed set ≡ setOf marks desk slots a i)
 
 abbrev μ-loop : tie.MeasureT-loop
-μ-loop desk n r h a marks set₀ i₀ set i = n - i
+μ-loop desk slots a marks n set₀ i₀ set i = n - i
 
 loop-holds : tie.Need-loop-holds Inv-loop μ-loop
 unfolding setOf
@@ -30,5 +30,5 @@ members-spec =
     (λ c κs. (omega arith, omega arith, c .before .before .before .loop .inv .2))
     (λ c. omega arith)
     (λ c. omega arith)
-    (λ c. let z = laws.add-size (c .before .before .before .before .loop .set) (c .before .before .before .before .loop .i) (c .before .joins .result) in let e = c .add .ensures in (omega arith, (let k : c .add .result .size ≤ c .before .before .before .before .loop .set .size + 1 = rw e z in omega arith), ap (λ (x : Set). length (x .nodes)) e ∙ laws.add-len _ _ _ ∙ c .before .before .before .before .loop .inv .2, laws.members-turn _ _ _ _ _ _ _ _ _ (omega arith) (c .before .before .before .before .loop .inv .3) (c .before .joins .ensures) e))
-    (λ c. let e : c .before .loop .i ≡ c .before .before .before .args .n = omega arith in (c .before .loop .inv .3 ∙ ap (setOf _ _ _ _ _) e, omega arith, c .before .loop .inv .2)))
+    (λ c. let z = laws.add-size (c .before .before .before .before .loop .set) (c .before .before .before .before .loop .i) (c .before .joins .result) in let e = c .add .ensures in (omega arith, (let k : c .add .result .size ≤ c .before .before .before .before .loop .set .size + 1 = rw e z in omega arith), ap (λ (x : Set). length (x .nodes)) e ∙ laws.add-len _ _ _ ∙ c .before .before .before .before .loop .inv .2, laws.members-turn _ _ _ _ _ _ _ _ (omega arith) (c .before .before .before .before .loop .inv .3) (c .before .joins .ensures) e))
+    (λ c. let e : c .before .loop .i ≡ c .before .before .before .args .slots .n = omega arith in (c .before .loop .inv .3 ∙ ap (setOf _ _ _ _) e, omega arith, c .before .loop .inv .2)))

@@ -9,10 +9,10 @@ use Rattle.rounds.proofs.slots_fit.Statement.{statement}
 use Rattle.rounds.proofs.slots_fit.Tie as tie
 
 abbrev Inv-loop : tie.InvT-loop
-Inv-loop desk n r b marks i₀ i = (i ≤ n) × (slotsFit marks desk r b i ≡ true)
+Inv-loop desk slots b marks n i₀ i = (i ≤ n) × (slotsFit marks desk slots b i ≡ true)
 
 abbrev μ-loop : tie.MeasureT-loop
-μ-loop desk n r b marks i₀ i = n - i
+μ-loop desk slots b marks n i₀ i = n - i
 
 pub slots-fit-spec : {M : Type 1} → statement M
 slots-fit-spec =

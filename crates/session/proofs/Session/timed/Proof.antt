@@ -10,6 +10,5 @@ timed-spec =
     (λ c κs. search needs)
     (λ c. search needs)
     (λ c.
-    let later = c .before .before .later in
-    let args = c .before .before .before .before .args in
-    laws.timed-is (args .self) (args .i) (args .t .0) _ (later .ensures)))
+    let args = c .before .before .args in
+    laws.timed-is (args .t1) (args .i) (args .t .0) _ (c .later .ensures)))

@@ -64,21 +64,21 @@ write-request-spec =
     )))) (with-part .ensures))
     (λ c κs. search needs)
     (λ c κs.
-    let record-length = c .before .before .before .before .before .record-length in
-    let args = c .before .before .before .before .before .before .before .before .before .args in
-    let pre = c .before .before .before .before .before .before .before .before .before .pre in
+    let record-length = c .before .before .before .before .before .before .record-length in
+    let args = c .before .before .before .before .before .before .before .before .before .before .args in
+    let pre = c .before .before .before .before .before .before .before .before .before .before .pre in
     let o = laws.owing (args .p) (args .self) (args .node) (args .desk .now) (length (args .request .now)) pre in
     let e = record-length .ensures in
     omega arith)
     (λ c. search needs)
     (λ c.
     let read-request = c .before .before .read-request in
-    let if2 = c .before .before .before .before .if2 in
-    let reads = c .before .before .before .before .before .reads in
-    let if1 = c .before .before .before .before .before .before .if1 in
-    let storing = c .before .before .before .before .before .before .before .storing in
-    let asked = c .before .before .before .before .before .before .before .before .before .asked in
-    let args = c .before .before .before .before .before .before .before .before .before .before .before .before .args in
+    let if2 = c .before .before .before .before .before .if2 in
+    let reads = c .before .before .before .before .before .before .reads in
+    let if1 = c .before .before .before .before .before .before .before .if1 in
+    let storing = c .before .before .before .before .before .before .before .before .storing in
+    let asked = c .before .before .before .before .before .before .before .before .before .before .asked in
+    let args = c .before .before .before .before .before .before .before .before .before .before .before .before .before .args in
     laws.the-same _ _ _ _ _ (laws.asks-record (args .p) (args .self) (args .node) (args .desk .now) _ (asked .ensures) _ (storing .ensures)
     (if1 .left) _ (reads .ensures) (if2 .taken)) (read-request .ensures))
     (λ c κs.

@@ -89,7 +89,7 @@ pub fn head_bytes(version: u64) -> usize
 }
 
 // All that stands before the body of a frame.
-fn header_of(f: &[u8]) -> Header
+pub fn header_of(f: &[u8]) -> Header
     requires { ⌜ headBytes 1 ≤ length (now f) ⌝ }
     ensures { λ h. ⌜ (h ≡ headerIn (now (f .entry))) × (h .kind < 256) × (h .node < 256) ⌝ }
 {

@@ -15,7 +15,7 @@ use mathlib.Core.List.{List, [], _∷_, _++_}
 use mathlib.Core.Logic.{_⊎_, inl, inr}
 use native.Mathlib.Omega.{arith}
 use borrow.Author.Tests.{ltb-true, ltb-false, eqb-true, eqb-false, ne-eqb, not-false}
-use lib.Dec.{ltb, eqb}
+use lib.Dec.{eqb}
 use lib.ListN.{length}
 use Rattle.terms.specs.Ladder.{Rung, on, first, _and_, None}
 use Rattle.terms.specs.Stamp.{time}
@@ -35,13 +35,13 @@ use Rattle.session.specs.declared.Operation.{Operation}
 use Rattle.session.specs.declared.Operation.the-variants.{Write, Read}
 use Rattle.session.specs.declared.opening.Opened.{Opened}
 use Rattle.session.specs.declared.opening.Opening.the-variants.{Accepted}
-use Rattle.session.specs.Session.{isStoring, isEnded, replies, askNow, markedOf, nextOf, storingOf, refused, saidOf}
+use Rattle.session.specs.Session.{isStoring, isEnded, replies, askNow, markedOf, nextOf, storingOf, refused, saidOf, roundOpen}
 use Rattle.session.specs.Opening.{OpenCall}
 use Rattle.session.specs.Ranges.{inRange}
 use Rattle.session.specs.Reply.{lengthsOk, sameOperation, awaited, isHeard, replyLadder, recordLadder}
 use Rattle.session.specs.Reader.{Outcome, outcome, closed, readReply, ReadReplyCall}
 use Rattle.session.specs.Writer.{Leaves, leaves, timedOf, writeReply, WriteReplyCall}
-use Rattle.session.proofs.Rules.{in-range-is}
+use Rattle.session.proofs.Rules.{range-stands}
 use Rattle.session.proofs.Openings.{accepted-session}
 use Rattle.session.proofs.Closings as shapes
 use Rattle.client.specs.Asks.{Goes, stays, ends, opens, Moves, IsOver, NotCounted}
@@ -76,7 +76,7 @@ module _ (s : Session) (low : 1 ≤ s .round .number) (going : isEnded (s .round
 
 module _ (p : Plan) (s : Session) (f d i : List ℕ) where
   low-round : inRange p s d ≡ true → 1 ≤ s .round .number
-  low-round e = in-range-is p s d true (sym e) refl .round-low
+  low-round e = range-stands p s d e .low
 
   abbrev To : Outcome → Type 0
   To o = Moves s (o .session)
@@ -105,19 +105,19 @@ module _ (p : Plan) (s : Session) (f d i : List ℕ) where
             repairs = λ a l v. repair-opens s low going q (heardAs p f) (frameNode f) (close .stamp);
           })
 
-      asks : None (readLadder p s f d (length i)) → isStoring (s .round .stage) ≡ false → (x : Bool) → ltb (heardCount (afterReply p s f .marks)) (replies p) ≡ x
+      asks : None (readLadder p s f d (length i)) → isStoring (s .round .stage) ≡ false → (x : Bool) → roundOpen p (afterReply p s f) ≡ x
           → To (readReply p s f d i)
       asks n q true h = subst To (sym (reading.waits-read p s f d i n q (ltb-true _ _ h))) (still s (afterReply p s f) refl refl refl)
       asks n q false h = subst To (sym (reading.closes-read p s f d i n q (ltb-false _ _ h))) (closing n q)
 
       stores : None (readLadder p s f d (length i)) → isStoring (s .round .stage) ≡ true
-          → (x : Bool) → ltb (heardCount (markedOf s (frameNode f) Record .marks)) (replies p) ≡ x → To (readReply p s f d i)
+          → (x : Bool) → roundOpen p (markedOf s (frameNode f) Record) ≡ x → To (readReply p s f d i)
       stores n q true h = subst To (sym (reading.waits-repair p s f d i n q (ltb-true _ _ h))) (still s (markedOf s (frameNode f) Record) refl refl refl)
       stores n q false h = subst To (sym (reading.ends-repair p s f d i n q (ltb-false _ _ h))) (record { opening = refl; goes = ends refl })
 
       go : None (readLadder p s f d (length i)) → (x : Bool) → isStoring (s .round .stage) ≡ x → To (readReply p s f d i)
-      go n true q = stores n q (ltb (heardCount (markedOf s (frameNode f) Record .marks)) (replies p)) refl
-      go n false q = asks n q (ltb (heardCount (afterReply p s f .marks)) (replies p)) refl
+      go n true q = stores n q (roundOpen p (markedOf s (frameNode f) Record)) refl
+      go n false q = asks n q (roundOpen p (afterReply p s f)) refl
 
   abbrev Leads : Leaves → Type 0
   Leads o = Moves s (o .session)
@@ -143,19 +143,19 @@ module _ (p : Plan) (s : Session) (f d i : List ℕ) where
           subst Leads (sym (writing.opens-write p s f d i n q h (eqb-false (asked .greatest .0) 18446744073709551615 g)))
           (write-opens s (low-round (range n)) (clear (writeLadder p s f d (length i)) n 14) q Record (frameNode f) _ (time (bodyOf f)))
 
-      asks : None (writeLadder p s f d (length i)) → isStoring (s .round .stage) ≡ false → (x : Bool) → ltb (heardCount (asked .marks)) (replies p) ≡ x
+      asks : None (writeLadder p s f d (length i)) → isStoring (s .round .stage) ≡ false → (x : Bool) → roundOpen p asked ≡ x
           → Leads (writeReply p s f d i)
       asks n q true h = subst Leads (sym (writing.waits-time p s f d i n q (ltb-true _ _ h))) (still s asked refl refl refl)
       asks n q false h = full n q (ltb-false _ _ h) (eqb (asked .greatest .0) 18446744073709551615) refl
 
       stores : None (writeLadder p s f d (length i)) → isStoring (s .round .stage) ≡ true
-          → (x : Bool) → ltb (heardCount (markedOf s (frameNode f) Record .marks)) (replies p) ≡ x → Leads (writeReply p s f d i)
+          → (x : Bool) → roundOpen p (markedOf s (frameNode f) Record) ≡ x → Leads (writeReply p s f d i)
       stores n q true h = subst Leads (sym (writing.waits-write p s f d i n q (ltb-true _ _ h))) (still s (markedOf s (frameNode f) Record) refl refl refl)
       stores n q false h = subst Leads (sym (writing.ends-write p s f d i n q (ltb-false _ _ h))) (record { opening = refl; goes = ends refl })
 
       go : None (writeLadder p s f d (length i)) → (x : Bool) → isStoring (s .round .stage) ≡ x → Leads (writeReply p s f d i)
-      go n true q = stores n q (ltb (heardCount (markedOf s (frameNode f) Record .marks)) (replies p)) refl
-      go n false q = asks n q (ltb (heardCount (asked .marks)) (replies p)) refl
+      go n true q = stores n q (roundOpen p (markedOf s (frameNode f) Record)) refl
+      go n false q = asks n q (roundOpen p asked) refl
 
 -- A CALL LEAVES THE OPEN ROUND AS IT IS, OR ENDS THE SESSION, OR OPENS THE NEXT ROUND, whose ask number is 1 more: a refused reply and one
 -- that its round goes on after are of the first kind

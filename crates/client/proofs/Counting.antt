@@ -7,7 +7,7 @@ use mathlib.Core.List.{List, [], _∷_}
 use native.Mathlib.Nat.{add-zero}
 use native.Mathlib.Omega.{arith}
 use borrow.Author.Tests.{lt-leb, le-leb, leb-true, leb-false, ltb-true, ltb-false}
-use lib.Dec.{leb, ltb}
+use lib.Dec.{leb}
 use lib.ListN.{length, length-set}
 use Rattle.terms.specs.Ladder.{_and_, None}
 use Rattle.terms.specs.declared.Ask.{Ask}
@@ -23,7 +23,7 @@ use Rattle.session.specs.declared.Session.{Session}
 use Rattle.session.specs.declared.Operation.the-variants.{Read}
 use Rattle.session.specs.declared.opening.Opened.{Opened}
 use Rattle.session.specs.declared.opening.Opening.the-variants.{Accepted}
-use Rattle.session.specs.Session.{isAsking, isStoring, isEnded, replies, markedOf, endedOf, Said, refused, stillOpen, saidOf, isRefused}
+use Rattle.session.specs.Session.{isAsking, isStoring, isEnded, replies, markedOf, endedOf, Said, refused, stillOpen, saidOf, isRefused, roundOpen}
 use Rattle.session.specs.Opening.{OpenCall}
 use Rattle.session.specs.Reply.{isHeard}
 use Rattle.session.specs.Reader.{Outcome, outcome, readReply}
@@ -155,12 +155,12 @@ module _ (p : Plan) (s : Session) (f d i : List ℕ) (k : ℕ) (a : At s k) wher
     -- a repair round
     in-repair : isStoring (s .round .stage) ≡ true → Turned p s k (readReply p s f d i)
     unfolding roundsBehind
-    in-repair q = go (ltb (heardCount (markedOf s (frameNode f) Record .marks)) (replies p)) refl
+    in-repair q = go (roundOpen p (markedOf s (frameNode f) Record)) refl
       where
         off : isAsking (s .round .stage) ≡ false
         off = not-asking (s .round .stage) q
 
-        go : (x : Bool) → ltb (heardCount (markedOf s (frameNode f) Record .marks)) (replies p) ≡ x → Turned p s k (readReply p s f d i)
+        go : (x : Bool) → roundOpen p (markedOf s (frameNode f) Record) ≡ x → Turned p s k (readReply p s f d i)
         go true g =
             subst (Turned p s k) (sym (reading.waits-repair p s f d i n q (ltb-true _ _ g)))
             (apart (rw off) (record {

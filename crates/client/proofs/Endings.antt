@@ -9,9 +9,8 @@ use mathlib.Core.Path.{_≡_, refl, sym, _∙_, subst}
 use mathlib.Core.Bool.{Bool, true, false}
 use mathlib.Core.List.{List}
 use native.Mathlib.Omega.{arith}
-use lib.Dec.{ltb}
 use lib.ListN.{length}
-use Rattle.terms.specs.Terms.{recordLength, COMPLETE, slotsOf}
+use Rattle.terms.specs.Terms.{COMPLETE, slotsOf}
 use Rattle.terms.specs.declared.Plan.{Plan}
 use Rattle.terms.proofs.Facts.{facts}
 use Rattle.frame.specs.Frame.{frameNode}
@@ -21,7 +20,7 @@ use Rattle.rounds.specs.Rounds.{bitOf, heardCount, markOf, setOf}
 use Rattle.rounds.proofs.Closes.{Best, candidate, Members, members-are}
 use Rattle.session.specs.declared.Session.{Session}
 use Rattle.session.specs.declared.Took.{Took}
-use Rattle.session.specs.Session.{isStoring, replies, markedOf, Said, refused, stillOpen, done, neverWritten, aborted, roundsSpent, clockSpent, saidOf}
+use Rattle.session.specs.Session.{isStoring, markedOf, Said, refused, stillOpen, done, neverWritten, aborted, roundsSpent, clockSpent, saidOf, roundOpen}
 use Rattle.session.specs.Reader.{ReadReplyCall, Outcome, outcome, closed, settled, stored, accepted}
 use Rattle.session.specs.Writer.{WriteReplyCall}
 use Rattle.client.specs.Endings.{Exactly, readLadder, afterReply, deskAfter, Candidate, size, WhenNever, WhenAborted, WhenSpent, WhenDone, WhenOpen, DoneByRead, RepairOpens, WriteDone, WriteClock, WriteOpen, ReadGives, WriteGives}
@@ -95,7 +94,7 @@ module _ (i : List ℕ) where
   settled-stays : (p : Plan) (s : Session) (d : List ℕ) → Stays (settled p s d i)
   unfolding settled
   settled-stays p s d =
-      shapes.pick Stays (ltb (heardCount (s .marks)) (replies p)) (λ e. refl)
+      shapes.pick Stays (roundOpen p s) (λ e. refl)
       (shapes.goes Stays p s (closed p s d) d i
       (record { finds = λ x y e. wrong e; never = λ e. refl; aborts = λ e. refl; spends = λ h e. refl; next = λ a l h e. refl; repairs = λ a l v e. refl }))
 
@@ -103,7 +102,7 @@ module _ (i : List ℕ) where
   unfolding accepted stored
   accepted-stays p s f d =
       shapes.pick Stays (isStoring (s .round .stage))
-      (shapes.pick Stays (ltb (heardCount (markedOf s (frameNode f) Record .marks)) (replies p)) (λ e. refl) (λ e. wrong e))
+      (shapes.pick Stays (roundOpen p (markedOf s (frameNode f) Record)) (λ e. refl) (λ e. wrong e))
       (subst Stays (sym (reading.heard-settles p s f d i)) (settled-stays p (afterReply p s f) (deskAfter p f d)))
 
 pub only-done-writes : (p : Plan) (s : Session) (f d i : List ℕ) (t : Took) (d₂ i₂ : List ℕ) → ReadReplyCall p s f d i t d₂ i₂

@@ -5,8 +5,8 @@ use mathlib.Core.Bool.{Bool, true, false, cond}
 use mathlib.Core.List.{List}
 use mathlib.Core.Logic.{_⊎_, inl, inr}
 use native.Mathlib.Omega.{arith}
-use borrow.Author.Tests.{ltb-true, ltb-false, lt-ltb, le-ltb, leb-true, leb-false, lt-leb, le-leb, not-false}
-use lib.Dec.{ltb, leb}
+use borrow.Author.Tests.{ltb-true, ltb-false, leb-true, leb-false, lt-leb, le-leb, not-false}
+use lib.Dec.{leb}
 use lib.ListN.{length, length-drop}
 use Rattle.octets.specs.Bytes.{put}
 use Rattle.octets.proofs.Laws.{length-put, slot-room}
@@ -33,12 +33,12 @@ use Rattle.rounds.proofs.Laws.{lead-room}
 use Rattle.rounds.proofs.Closes.{candidate, no-candidate}
 use Rattle.session.specs.declared.Session.{Session}
 use Rattle.session.specs.declared.Operation.the-variants.{Read}
-use Rattle.session.specs.Session.{isStoring, replies, markedOf, endedOf, nextOf, storingOf, Said, refused, stillOpen, done, neverWritten, aborted, roundsSpent, clockSpent}
+use Rattle.session.specs.Session.{isStoring, replies, markedOf, endedOf, nextOf, storingOf, Said, refused, stillOpen, done, neverWritten, aborted, roundsSpent, clockSpent, roundOpen}
 use Rattle.session.specs.Ranges.{inRange}
 use Rattle.session.specs.Reply.{bears, lengthsOk, sameOperation}
 use Rattle.recover.specs.Recover.{decoded, collected, repaired}
 use Rattle.session.specs.Reader.{Outcome, outcome, failing, acted, closed, settled, heard, stored, accepted, readReply}
-use Rattle.session.proofs.Rules.{lengths-are, in-range-is}
+use Rattle.session.proofs.Rules.{lengths-are, range-stands, few-open, many-over}
 use Rattle.session.proofs.Readers as readers
 use Rattle.client.specs.Endings.{readLadder, afterReply, deskAfter, Closes, Candidate, size, valid, Fails, ReadGives}
 use Rattle.terms.proofs.Ladders as ladders
@@ -194,7 +194,7 @@ module _ (p : Plan) (s : Session) (f d i : List ℕ) where
     is-accepted = one-ladder ∙ ladders.is-passed (readLadder p s f d (length i)) refuse (accepted p s f d i) n
 
     pub low-round : s .round .number ≤ p .w
-    low-round = in-range-is p s d true (sym (t .range)) refl .round-high
+    low-round = range-stands p s d (t .range) .high
 
     -- the desk keeps its length, and the candidate's slot lies in it
     desk-is : length e ≡ p .n * recordLength p
@@ -219,27 +219,27 @@ module _ (p : Plan) (s : Session) (f d i : List ℕ) where
     unfolding accepted
     in-read q = is-accepted ∙ rw q (heard-settles p s f d i)
 
-    in-repair : isStoring (s .round .stage) ≡ true → readReply p s f d i ≡ stored p s f d i
+    in-repair : isStoring (s .round .stage) ≡ true → readReply p s f d i ≡ stored p (markedOf s (frameNode f) Record) d i
     unfolding accepted
     in-repair q = is-accepted ∙ rw q
 
     pub waits-read : isStoring (s .round .stage) ≡ false → heardCount (u .marks) < replies p → readReply p s f d i ≡ outcome stillOpen u e i
     unfolding settled
-    waits-read q h = in-read q ∙ rw (lt-ltb (heardCount (u .marks)) (replies p) h)
+    waits-read q h = in-read q ∙ rw (few-open p u h)
 
     pub closes-read : isStoring (s .round .stage) ≡ false → replies p ≤ heardCount (u .marks) → readReply p s f d i ≡ acted p u c e i
     unfolding settled
-    closes-read q h = in-read q ∙ rw (le-ltb (heardCount (u .marks)) (replies p) h)
+    closes-read q h = in-read q ∙ rw (many-over p u h)
 
     pub waits-repair : isStoring (s .round .stage) ≡ true → heardCount (markedOf s (frameNode f) Record .marks) < replies p
         → readReply p s f d i ≡ outcome stillOpen (markedOf s (frameNode f) Record) d i
     unfolding stored
-    waits-repair q h = in-repair q ∙ rw (lt-ltb (heardCount (markedOf s (frameNode f) Record .marks)) (replies p) h)
+    waits-repair q h = in-repair q ∙ rw (few-open p (markedOf s (frameNode f) Record) h)
 
     pub ends-repair : isStoring (s .round .stage) ≡ true → replies p ≤ heardCount (markedOf s (frameNode f) Record .marks)
         → readReply p s f d i ≡ outcome (done (stampNumber (s .stamp)) (s .round .number)) (endedOf (markedOf s (frameNode f) Record)) d (collected p d i)
     unfolding stored
-    ends-repair q h = in-repair q ∙ rw (le-ltb (heardCount (markedOf s (frameNode f) Record .marks)) (replies p) h)
+    ends-repair q h = in-repair q ∙ rw (many-over p (markedOf s (frameNode f) Record) h)
 
     pub spends : (a : ℕ) → Candidate p s f d a → Fails p (size p s f d a) (valid p s f d a) → s .round .number ≡ p .w
         → acted p u c e i ≡ outcome (roundsSpent (s .round .number)) (endedOf u) e i
@@ -305,7 +305,7 @@ module _ (p : Plan) (s : Session) (f d i : List ℕ) where
     accepted-gives : Gives (accepted p s f d i)
     accepted-gives = subst Gives is-accepted (go (isStoring (s .round .stage)) refl)
       where
-        stores : isStoring (s .round .stage) ≡ true → (x : Bool) → ltb (heardCount (markedOf s (frameNode f) Record .marks)) (replies p) ≡ x → Gives (readReply p s f d i)
+        stores : isStoring (s .round .stage) ≡ true → (x : Bool) → roundOpen p (markedOf s (frameNode f) Record) ≡ x → Gives (readReply p s f d i)
         stores q true h =
             let z = ltb-true _ _ h in
             subst Gives (sym (waits-repair q z)) (inl (record { accepted = n; few = rw q z }))
@@ -313,13 +313,13 @@ module _ (p : Plan) (s : Session) (f d i : List ℕ) where
             let z = ltb-false _ _ h in
             subst Gives (sym (ends-repair q z)) (inr (record { accepted = n; stores = q; enough = z; of = refl; counted = refl }))
 
-        asks : isStoring (s .round .stage) ≡ false → (x : Bool) → ltb (heardCount (u .marks)) (replies p) ≡ x → Gives (readReply p s f d i)
+        asks : isStoring (s .round .stage) ≡ false → (x : Bool) → roundOpen p u ≡ x → Gives (readReply p s f d i)
         asks q true h = let z = ltb-true _ _ h in subst Gives (sym (waits-read q z)) (inl (record { accepted = n; few = rw q z }))
         asks q false h = let z = ltb-false _ _ h in subst Gives (sym (closes-read q z)) (closed-gives q z)
 
         go : (x : Bool) → isStoring (s .round .stage) ≡ x → Gives (readReply p s f d i)
-        go true q = stores q (ltb (heardCount (markedOf s (frameNode f) Record .marks)) (replies p)) refl
-        go false q = asks q (ltb (heardCount (u .marks)) (replies p)) refl
+        go true q = stores q (roundOpen p (markedOf s (frameNode f) Record)) refl
+        go false q = asks q (roundOpen p u) refl
 
   -- THE ANSWER OF A READ'S REPLY MEETS ITS CONDITION, whichever it is …
   pub gives : ReadGives p s f d (length i) (readReply p s f d i .said)

@@ -24,7 +24,7 @@ use Rattle.terms.proofs.Stamps.{stamp-at-number}
 use Rattle.fragments.specs.Fragments.{All, Distinct, among, from, tabulate, eval, value, regenerated, Sources, laid}
 use Rattle.fragments.proofs.Lists.{getD-tabulate, all-at}
 use Rattle.fragments.proofs.Interp.{all, all-map, Bytes, value-ext, only, newton, length-newton, bytes-newton, newton-at}
-use Rattle.fragments.proofs.Laws.{among-all, among-from, length-regenerated}
+use Rattle.fragments.proofs.Laws.{among-all, among-from, itself, length-regenerated}
 use Rattle.fragments.proofs.Theorems.{coefficients, octets-bytes, all-bytes}
 use Rattle.record.specs.Desk.{slotOf, fragmentIn}
 use Rattle.terms.proofs.Places.{record-length}
@@ -202,4 +202,4 @@ module _ (p : Plan) (s : Session) (d : List ℕ) (a : ℕ) (ok : planOk p ≡ tr
       (λ k h. own k h ∙ fragment-in p full k ∙ fragment-held k (omega (arith, facts p ok .needed-nodes)))
     where
       own : (k : ℕ) → k < p .m → regenerated full (slotsOf p) (from 0 (p .m)) k ≡ part full (fragmentAt (slotsOf p) k) (p .f)
-      own k h = unfold regenerated in rw (among-from k (p .m), lt-ltb k (p .m) h)
+      own k h = sym (itself full (slotsOf p) (from 0 (p .m)) k (sym (among-from k (p .m) ∙ lt-ltb k (p .m) h)))

@@ -9,7 +9,6 @@ use mathlib.Core.Path.{_≡_, refl, sym, _∙_, subst}
 use mathlib.Core.Bool.{Bool, true, false, cond}
 use mathlib.Core.List.{List, [], _∷_}
 use native.Mathlib.Omega.{arith}
-use lib.Dec.{ltb}
 use lib.ListN.{length}
 use Rattle.octets.specs.Bytes.{put, Octets}
 use Rattle.octets.proofs.Meaning.{octets-drop, octets-put}
@@ -21,19 +20,19 @@ use Rattle.terms.proofs.Rungs.{clash}
 use Rattle.frame.specs.Frame.{frameNode, bodyOf}
 use Rattle.rounds.specs.declared.Heard.the-variants.{Record}
 use Rattle.rounds.specs.declared.Lead.the-variants.{Node}
-use Rattle.rounds.specs.Rounds.{heardCount}
 use Rattle.session.specs.declared.Session.{Session}
 use Rattle.session.specs.declared.Stage.{Stage}
 use Rattle.session.specs.declared.Stage.the-variants.{Asking, Storing, Ended}
 use Rattle.session.specs.declared.Took.{Took}
 use Rattle.session.specs.declared.Operation.the-variants.{Read}
-use Rattle.session.specs.Session.{isAsking, isStoring, isEnded, replies, markedOf, endedOf, refused, stillOpen, done}
+use Rattle.session.specs.Session.{isAsking, isStoring, isEnded, markedOf, endedOf, refused, stillOpen, done, roundOpen}
 use Rattle.session.specs.Reply.{bears, replyLadder, recordLadder}
 use Rattle.recover.specs.Recover.{decoded, collected, repaired}
 use Rattle.session.specs.Reader.{Outcome, outcome, acted, closed, settled, stored, accepted, readReply, ReadReplyCall}
 use Rattle.session.proofs.Checks.{outcome-all}
 use Rattle.session.proofs.Closings.{led, sized, goes}
-use Rattle.session.proofs.ReadKept.{Hearing, hearing, not-asking}
+use Rattle.session.proofs.ReadKept.{not-asking}
+use Rattle.session.proofs.Known.{Known, known-reply, reply}
 use Rattle.client.specs.Endings.{afterReply, deskAfter}
 use Rattle.client.specs.Turns.{Turn, ReadTurn, Calls}
 use Rattle.client.specs.Repair.{Holds, EachTurn, Rests}
@@ -68,7 +67,7 @@ module _ (p : Plan) (u : Session) (e i : List ℕ) (ok : planOk p ≡ true) (lon
 
   settles : Full (settled p u e i)
   unfolding settled
-  settles = go (ltb (heardCount (u .marks)) (replies p))
+  settles = go (roundOpen p u)
     where
       go : (c : Bool) → Full (cond c (outcome stillOpen u e i) (acted p u (closed p u e) e i))
       go true = λ t. never (sym asks ∙ t)
@@ -88,12 +87,12 @@ module _ (p : Plan) (s : Session) (f d i : List ℕ) (asks : isStoring (s .round
   abbrev Right : Outcome → Type 0
   Right x = isStoring (x .session .round .stage) ≡ true → Refilled p (afterReply p s f) (deskAfter p f d) (x .desk)
 
-  takes : Hearing p s f d → Right (accepted p s f d i)
+  takes : Known (replyLadder Read p s f d (length i)) p s d → Right (accepted p s f d i)
   unfolding accepted
   takes q =
       rw asks
       (subst Right (sym (heard-settles p s f d i))
-      (settles p (afterReply p s f) (deskAfter p f d) i (q .plan-ok) (length-after p d f (q .reply .node-low) (q .desk-is)) asks))
+      (settles p (afterReply p s f) (deskAfter p f d) i (q .plan-ok) (length-after p d f (reply Read p s f d (length i) q .node-low) (q .desk-is)) asks))
 
   pub refills : Refilled p (afterReply p s f) (deskAfter p f d) d₂
   unfolding readReply first
@@ -101,7 +100,7 @@ module _ (p : Plan) (s : Session) (f d i : List ℕ) (asks : isStoring (s .round
       subst Right (sym (call .is))
       (outcome-all Right (replyLadder Read p s f d (length i)) (λ (j : ℕ). outcome (refused j) s d i) _ (λ j z. never (sym asks ∙ z))
       (λ e. outcome-all Right (recordLadder p s f) (λ (j : ℕ). outcome (refused j) s d i) (accepted p s f d i) (λ j z. never (sym asks ∙ z))
-      (λ g. takes (hearing p s f d (length i) e))))
+      (λ g. takes (known-reply Read p s f d (length i) e))))
       opens
 
   -- A REPLY THAT OPENS A REPAIR ROUND fills the desk: every slot k holds the set's timestamp and cross checksum and fragment k of the
@@ -131,7 +130,7 @@ module _ (p : Plan) (s : Session) (f d i : List ℕ) (past : isAsking (s .round 
 
   counts : isEnded (s .round .stage) ≡ false → Stays (accepted p s f d i)
   unfolding accepted stored
-  counts e = rw (storing (s .round .stage) past e) (go (ltb (heardCount (markedOf s (frameNode f) Record .marks)) (replies p)))
+  counts e = rw (storing (s .round .stage) past e) (go (roundOpen p (markedOf s (frameNode f) Record)))
     where
       go : (b : Bool)
           → Stays (cond b (outcome stillOpen (markedOf s (frameNode f) Record) d i)
@@ -144,7 +143,7 @@ module _ (p : Plan) (s : Session) (f d i : List ℕ) (past : isAsking (s .round 
   stays =
       outcome-all Stays (replyLadder Read p s f d (length i)) (λ (j : ℕ). outcome (refused j) s d i) _ turned-away
       (λ e. outcome-all Stays (recordLadder p s f) (λ (j : ℕ). outcome (refused j) s d i) (accepted p s f d i) turned-away
-      (λ g. counts (hearing p s f d (length i) e .going)))
+      (λ g. counts (known-reply Read p s f d (length i) e .going)))
 
 module _ (p : Plan) (u : Session) (e d : List ℕ) (r : Refilled p u e d) where
   rests : (s : Session) (ts : List Turn) → isAsking (s .round .stage) ≡ false → Calls (ReadTurn p) s d ts → EachTurn (Rests p (closed p u e) e d) ts

@@ -5,8 +5,8 @@ use mathlib.Core.Bool.{Bool, true, false, cond}
 use mathlib.Core.List.{List}
 use mathlib.Core.Logic.{_⊎_, inl, inr}
 use native.Mathlib.Omega.{arith}
-use borrow.Author.Tests.{ltb-true, ltb-false, lt-ltb, le-ltb, eqb-true, eqb-false, eq-eqb, ne-eqb}
-use lib.Dec.{ltb, eqb}
+use borrow.Author.Tests.{ltb-true, ltb-false, eqb-true, eqb-false, eq-eqb, ne-eqb}
+use lib.Dec.{eqb}
 use lib.ListN.{length}
 use Rattle.terms.specs.Ladder.{first, None}
 use Rattle.terms.specs.Stamp.{time, stampNumber, top}
@@ -15,9 +15,10 @@ use Rattle.frame.specs.Frame.{frameNode, bodyOf}
 use Rattle.rounds.specs.declared.Heard.the-variants.{Record}
 use Rattle.rounds.specs.Rounds.{heardCount}
 use Rattle.session.specs.declared.Session.{Session}
-use Rattle.session.specs.Session.{isStoring, replies, markedOf, endedOf, storingOf, Said, refused, stillOpen, done, neverWritten, aborted, roundsSpent, clockSpent}
+use Rattle.session.specs.Session.{isStoring, replies, markedOf, endedOf, storingOf, Said, refused, stillOpen, done, neverWritten, aborted, roundsSpent, clockSpent, roundOpen}
 use Rattle.recover.specs.Records.{stampFor, recordsFor}
 use Rattle.session.specs.Writer.{timedOf, newTime, Leaves, leaves, timeEnd, timeTurn, writeTurn, acceptedWrite, writeReply}
+use Rattle.session.proofs.Rules.{few-open, many-over, over-many}
 use Rattle.client.specs.Endings.{writeLadder, WriteGives}
 use Rattle.terms.proofs.Ladders as ladders
 
@@ -43,30 +44,30 @@ module _ (p : Plan) (s : Session) (f d i : List ℕ) where
     module _ (q : isStoring (s .round .stage) ≡ true) where
       pub waits-write : heardCount (kept .marks) < replies p → writeReply p s f d i ≡ leaves stillOpen kept d
       unfolding acceptedWrite writeTurn
-      waits-write h = is-accepted ∙ rw (q, lt-ltb (heardCount (kept .marks)) (replies p) h)
+      waits-write h = is-accepted ∙ rw (q, few-open p kept h)
 
       pub ends-write : replies p ≤ heardCount (kept .marks) → writeReply p s f d i ≡ leaves (done (stampNumber (s .stamp)) 0) (endedOf kept) d
       unfolding acceptedWrite writeTurn
-      ends-write h = is-accepted ∙ rw (q, le-ltb (heardCount (kept .marks)) (replies p) h)
+      ends-write h = is-accepted ∙ rw (q, many-over p kept h)
 
     -- ---- the time round
     module _ (q : isStoring (s .round .stage) ≡ false) where
       pub waits-time : heardCount (asked .marks) < replies p → writeReply p s f d i ≡ leaves stillOpen asked d
       unfolding acceptedWrite timeTurn
-      waits-time h = is-accepted ∙ rw (q, lt-ltb (heardCount (asked .marks)) (replies p) h)
+      waits-time h = is-accepted ∙ rw (q, few-open p asked h)
 
       module _ (h : replies p ≤ heardCount (asked .marks)) where
         pub spends-clock : asked .greatest .0 ≡ top → writeReply p s f d i ≡ leaves clockSpent (endedOf asked) d
         unfolding acceptedWrite timeTurn timeEnd
         spends-clock g =
-            is-accepted ∙ rw (q, le-ltb (heardCount (asked .marks)) (replies p) h, eq-eqb (asked .greatest .0) top g)
+            is-accepted ∙ rw (q, many-over p asked h, eq-eqb (asked .greatest .0) top g)
 
         pub opens-write : (asked .greatest .0 ≡ top → ⊥)
             → writeReply p s f d i
             ≡ leaves stillOpen (storingOf asked (stampFor p (newTime (asked .greatest .0)) i)) (recordsFor p (newTime (asked .greatest .0)) i)
         unfolding acceptedWrite timeTurn timeEnd
         opens-write g =
-            is-accepted ∙ rw (q, le-ltb (heardCount (asked .marks)) (replies p) h, ne-eqb (asked .greatest .0) top g)
+            is-accepted ∙ rw (q, many-over p asked h, ne-eqb (asked .greatest .0) top g)
 
     -- ---- it gives one of the answers, with its condition
     abbrev Gives : Leaves → Type 0
@@ -75,7 +76,7 @@ module _ (p : Plan) (s : Session) (f d i : List ℕ) where
     accepted-gives : Gives (acceptedWrite p s f d i)
     accepted-gives = subst Gives is-accepted (go (isStoring (s .round .stage)) refl)
       where
-        stores : isStoring (s .round .stage) ≡ true → (x : Bool) → ltb (heardCount (kept .marks)) (replies p) ≡ x → Gives (writeReply p s f d i)
+        stores : isStoring (s .round .stage) ≡ true → (x : Bool) → roundOpen p kept ≡ x → Gives (writeReply p s f d i)
         stores q true h =
             let z = ltb-true _ _ h in subst Gives (sym (waits-write q z)) (record { accepted = n; goes = inl (rw q z) })
         stores q false h =
@@ -91,13 +92,13 @@ module _ (p : Plan) (s : Session) (f d i : List ℕ) where
             let z = eqb-false (asked .greatest .0) top g in
             subst Gives (sym (opens-write q h z)) (record { accepted = n; goes = inr (q, rw q z) })
 
-        asks : isStoring (s .round .stage) ≡ false → (x : Bool) → ltb (heardCount (asked .marks)) (replies p) ≡ x → Gives (writeReply p s f d i)
+        asks : isStoring (s .round .stage) ≡ false → (x : Bool) → roundOpen p asked ≡ x → Gives (writeReply p s f d i)
         asks q true h = let z = ltb-true _ _ h in subst Gives (sym (waits-time q z)) (record { accepted = n; goes = inl (rw q z) })
         asks q false h = clock q (ltb-false _ _ h) (eqb (asked .greatest .0) top) refl
 
         go : (x : Bool) → isStoring (s .round .stage) ≡ x → Gives (writeReply p s f d i)
-        go true q = stores q (ltb (heardCount (kept .marks)) (replies p)) refl
-        go false q = asks q (ltb (heardCount (asked .marks)) (replies p)) refl
+        go true q = stores q (roundOpen p kept) refl
+        go false q = asks q (roundOpen p asked) refl
 
   -- THE ANSWER OF A WRITE'S REPLY MEETS ITS CONDITION, whichever it is …
   pub gives : WriteGives p s f d (length i) (writeReply p s f d i .said)
@@ -110,18 +111,18 @@ module _ (p : Plan) (s : Session) (f d i : List ℕ) where
   pub so-gives : (x : Said) → WriteGives p s f d (length i) x → writeReply p s f d i .said ≡ x
   so-gives (refused k) g =
       ap (λ (o : Leaves). o .said) (one-ladder ∙ ladders.is-given (writeLadder p s f d (length i)) refuse (acceptedWrite p s f d i) k g)
-  so-gives stillOpen g = go (isStoring (s .round .stage)) refl (ltb (heardCount (asked .marks)) (replies p)) refl (g .goes)
+  so-gives stillOpen g = go (isStoring (s .round .stage)) refl (roundOpen p asked) refl (g .goes)
     where
       n : None (writeLadder p s f d (length i))
       n = g .accepted
 
-      go : (x : Bool) → isStoring (s .round .stage) ≡ x → (y : Bool) → ltb (heardCount (asked .marks)) (replies p) ≡ y
+      go : (x : Bool) → isStoring (s .round .stage) ≡ x → (y : Bool) → roundOpen p asked ≡ y
           → (heardCount (cond x kept asked .marks) < replies p) ⊎ ((x ≡ false) × (cond x kept asked .greatest .0 ≡ top → ⊥))
           → writeReply p s f d i .said ≡ stillOpen
       go true q y k (inl h) = ap (λ (o : Leaves). o .said) (waits-write n q h)
       go true q y k (inr h) = absurd (let z : _≡_ {A = ℕ} 0 1 = let w = h .0 in cc in omega arith)
       go false q true k h = ap (λ (o : Leaves). o .said) (waits-time n q (ltb-true _ _ k))
-      go false q false k (inl h) = let z : replies p ≤ heardCount (asked .marks) = ltb-false (heardCount (asked .marks)) (replies p) k in absurd (omega arith)
+      go false q false k (inl h) = let z : replies p ≤ heardCount (asked .marks) = over-many p asked k in absurd (omega arith)
       go false q false k (inr h) = ap (λ (o : Leaves). o .said) (opens-write n q (ltb-false _ _ k) (h .1))
   so-gives (done stamp rounds) g =
       let q = g .stores in

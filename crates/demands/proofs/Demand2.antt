@@ -14,12 +14,13 @@ use mathlib.Core.Bool.{true}
 use mathlib.Core.List.{List, []}
 use lib.ListN.{length}
 use Rattle.octets.specs.Bytes.{Octets, over, be}
-use Rattle.fragments.specs.Fragments.{All, Distinct, laid, encoded}
+use Rattle.fragments.specs.Fragments.{All, Distinct, Room, laid, encoded}
 use Rattle.fragments.proofs.Theorems.{any-m-of-n}
 use Rattle.terms.specs.Stamp.{stamp}
-use Rattle.terms.specs.Terms.{planOk, recordLength}
+use Rattle.terms.specs.Terms.{planOk, recordLength, slotsOf, runsOf}
 use Rattle.terms.specs.declared.Ask.{Ask}
 use Rattle.terms.specs.declared.Plan.{Plan}
+use Rattle.terms.specs.declared.Slots.{Slots}
 use Rattle.frame.specs.Frame.{kindOf, frameNode, askOf, bodyOf, frame}
 use Rattle.node.specs.declared.Answer.the-variants.{Replied}
 use Rattle.node.specs.declared.Made.the-variants.{Fresh}
@@ -29,7 +30,6 @@ use Rattle.session.specs.declared.opening.Opened.{Opened}
 use Rattle.session.specs.declared.opening.Opening.the-variants.{Accepted}
 use Rattle.session.specs.declared.Operation.the-variants.{Write, Read}
 use Rattle.session.specs.Opening.{OpenCall}
-use Rattle.session.specs.Reader.{headLength}
 use Rattle.recover.specs.Records.{recordsFor}
 use Rattle.store.specs.History.{Call, History, lastBook}
 use Rattle.client.specs.Turns.{Turn, ReadTurn, WriteTurn, Calls}
@@ -82,15 +82,15 @@ pub read-as-the-report : (p : Plan) (a : Ask) (r : Opened) (d : List ℕ) (cs : 
     → EachTells p (r .session) d [] cs × AllClose p (closedOver p (r .session) d [] cs)
 read-as-the-report = opened-read
 
--- An item of m·F bytes, encoded into n fragments of F bytes wherever in a buffer, comes back from any m of them.
-pub comes-back : (m F : ℕ) (item : List ℕ) → m ≤ 256 → Octets item → length item ≡ m * F → (n : ℕ) (desk : List ℕ) (first stride : ℕ) → F ≤ stride
-    → ((k : ℕ) → k < n → first + k * stride + F ≤ length desk) → n ≤ 256 → (nodes : List ℕ) → Distinct nodes → All (λ (z : ℕ). z < n) nodes
-    → length nodes ≡ m → (out : List ℕ) → length out ≡ m * F → laid (encoded m F item first stride n desk) first stride F nodes 0 F m out ≡ item
+-- An item of m·F bytes, encoded into n fragments of F bytes in whatever slots of a buffer, comes back from any m of them.
+pub comes-back : (m : ℕ) (s : Slots) (item : List ℕ) → m ≤ 256 → Octets item → length item ≡ m * s .fragment → (n : ℕ) (desk : List ℕ) → s .fragment ≤ s .size
+    → Room s n desk → n ≤ 256 → (nodes : List ℕ) → Distinct nodes → All (λ (z : ℕ). z < n) nodes → length nodes ≡ m → (out : List ℕ) → length out ≡ m * s .fragment
+    → laid (encoded m item s n desk) s nodes (runsOf m (s .fragment)) m out ≡ item
 comes-back = any-m-of-n
 
 -- The N records that our writer makes of an item at a time, in its desk, give the item to our reader's decoding from any m of its N slots.
 -- For a reply that is answered done: read-comes-back and repair-comes-back of client.
 pub written-comes-back : (p : Plan) (time : ℕ) (item : List ℕ) → planOk p ≡ true → Octets item → length item ≡ p .m * p .f → (out : List ℕ)
     → length out ≡ p .m * p .f → (nodes : List ℕ) → Distinct nodes → All (λ (z : ℕ). z < p .n) nodes → length nodes ≡ p .m
-    → laid (recordsFor p time item) (headLength p) (recordLength p) (p .f) nodes 0 (p .f) (p .m) out ≡ item
+    → laid (recordsFor p time item) (slotsOf p) nodes (runsOf (p .m) (p .f)) (p .m) out ≡ item
 written-comes-back = block-comes-back

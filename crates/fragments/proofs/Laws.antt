@@ -61,11 +61,13 @@ length-regenerated src s qs x h = go (among x qs) refl
     go true e = length-part src (fragmentAt s x) (s .fragment) (among-all (λ (p : ℕ). fragmentAt s p + s .fragment ≤ length src) x qs h e)
     go false e = length-tabulate (s .fragment) (λ i. value qs (λ p. getD src (fragmentAt s p + i) 0) x)
 
-pub itself : (src : List ℕ) (s : Slots) (qs : List ℕ) (x : ℕ) (out : List ℕ) → true ≡ among x qs → Sources src s qs → length out ≡ s .fragment
+pub itself : (src : List ℕ) (s : Slots) (qs : List ℕ) (x : ℕ) → true ≡ among x qs → part src (fragmentAt s x) (s .fragment) ≡ regenerated src s qs x
+unfolding regenerated
+itself src s qs x e = rw (← e)
+
+pub copied : (src : List ℕ) (s : Slots) (qs : List ℕ) (x : ℕ) (out : List ℕ) → true ≡ among x qs → Sources src s qs → length out ≡ s .fragment
     → put out 0 (part src (fragmentAt s x) (s .fragment)) ≡ regenerated src s qs x
-itself src s qs x out e h l =
-    let g : part src (fragmentAt s x) (s .fragment) ≡ regenerated src s qs x = unfold regenerated in rw (← e) in
-    ap (put out 0) g ∙ put-whole out (regenerated src s qs x) (l ∙ sym (length-regenerated src s qs x h))
+copied src s qs x out e h l = ap (put out 0) (itself src s qs x e) ∙ put-whole out (regenerated src s qs x) (l ∙ sym (length-regenerated src s qs x h))
 
 pub computed : (src : List ℕ) (s : Slots) (qs : List ℕ) (x : ℕ) (v : List ℕ) → false ≡ among x qs
     → v ≡ tabulate (s .fragment) (λ i. value qs (λ p. getD src (fragmentAt s p + i) 0) x) → v ≡ regenerated src s qs x

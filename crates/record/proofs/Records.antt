@@ -42,7 +42,7 @@ module _ (p : Plan) (s : List ℕ) (at : ℕ) where
   pub fragment-at : fragmentOf p (part s at (recordLength p)) ≡ part s (at + slotsOf p .head) (p .f)
   fragment-at = part-part s at (recordLength p) (slotsOf p .head) (p .f) (omega (arith, record-length p))
 
-  pub entry-at : (node : ℕ) → node < p .n → entryOf node (crossOf p (part s at (recordLength p))) ≡ part s (at + 40 + 32 * node) 32
+  pub entry-at : (node : ℕ) → node < p .n → entryOf node (crossOf p (part s at (recordLength p))) ≡ part s ((at + 40) + 32 * node) 32
   entry-at node h = ap (entryOf node) cross-at ∙ part-part s (at + 40) (32 * p .n) (32 * node) 32 (omega arith)
 
   pub start-of : (n : ℕ) → n ≤ recordLength p → part (part s at (recordLength p)) 0 n ≡ part s at n
@@ -66,7 +66,7 @@ module _ (p : Plan) (s : List ℕ) (at : ℕ) where
 
     pub hashes-last : (node : ℕ) (r q : Bool) (size : ℕ) → size ≡ recordLength p → node < p .n → r ≡ true
         → r ≡ alike (sha256 (part s (at + 40) (head - 40))) (part s (at + 8) 32)
-        → q ≡ alike (fragmentHash p node (take (at + size - (at + head)) (drop (at + head) s))) (part s (at + 40 + 32 * node) 32)
+        → q ≡ alike (fragmentHash p node (take (at + size - (at + head)) (drop (at + head) s))) (part s ((at + 40) + 32 * node) 32)
         → q ≡ hashesOk p node (part s at (recordLength p))
     unfolding hashesOk
     hashes-last node r q size es h e f g =

@@ -75,7 +75,8 @@ pub fn hashes_ok(p: Plan, node: u64, s: &[u8], at: usize) -> bool
     let head = slots.head;
     let from = at + head;
     let end = at + slots.size;
-    let entry = at + 40 + 32 * (node as usize);
+    let cross = at + 40;
+    let entry = cross + 32 * (node as usize);
     if !verifier_ok(s, at, head) {
         return false;
     }

@@ -63,10 +63,10 @@ module _ (p : Plan) (d qs : List ℕ) (a : ℕ) where
   agreed-none = unfold crossMade row part alike in refl
 
   module _ (i : ℕ) (x : Bool) (g : List ℕ) (slots : Slots) (es : slots ≡ slotsOf p) (eg : g ≡ regenerated d slots qs i)
-      (e : x ≡ alike (fragmentHash p i g) (part d (a * slots .size + 40 + 32 * i) 32)) where
+      (e : x ≡ alike (fragmentHash p i g) (part d ((slotAt slots a + 40) + 32 * i) 32)) where
     entry-is : x ≡ entry p (regenerated d (slotsOf p) qs) d start i
     entry-is =
-        e ∙ (λ j. alike (fragmentHash p i (eg j)) (part d (a * es j .size + 40 + 32 * i) 32))
+        e ∙ (λ j. alike (fragmentHash p i (eg j)) (part d ((slotAt (es j) a + 40) + 32 * i) 32))
         ∙ ap (λ (s : Slots). alike (fragmentHash p i (regenerated d s qs i)) (part d (start + 32 * i) 32)) es
 
     pub agreed-more : start + 32 * (i + 1) ≤ length d → Agreed i → x ≡ true → Agreed (i + 1)

@@ -13,13 +13,14 @@ use lib.ListN.{length, getD, length-append}
 use Rattle.octets.specs.Bytes.{part, over}
 use Rattle.octets.proofs.Meaning.{over-more, getD-part, over-whole}
 use Rattle.terms.proofs.Rungs.{clash}
-use Rattle.terms.specs.Terms.{recordLength}
+use Rattle.terms.specs.Terms.{slotsOf, fragmentAt, runsOf}
 use Rattle.terms.specs.declared.Plan.{Plan}
+use Rattle.terms.specs.declared.Slots.{Slots}
 use Rattle.fragments.specs.Fragments.{among, tabulate, value, regenerated, laid}
 use Rattle.fragments.proofs.Lists.{tabulate-ext}
 use Rattle.fragments.proofs.Interp.{all-map, value-ext}
 use Rattle.record.specs.Desk.{fragmentIn}
-use Rattle.record.proofs.Records.{fragment-at}
+use Rattle.record.proofs.Desks.{fragment-in}
 use Rattle.recover.proofs.Filled.{each-source}
 use Rattle.report.specs.Triple.{Message, each, upTo, strung}
 use Rattle.report.specs.Figure3.{of-first-triple}
@@ -33,11 +34,6 @@ module _ (p : Plan) (d : List ℕ) where
   numbers-of [] = refl
   numbers-of (q ∷ qs) = ap (λ (l : List ℕ). q ∷ l) (numbers-of qs)
 
-  pub fragment-place : (q : ℕ) → fragmentIn p d q ≡ part d (40 + 32 * p .n + q * recordLength p) (p .f)
-  fragment-place q =
-      let z : q * recordLength p + 40 + 32 * p .n ≡ 40 + 32 * p .n + q * recordLength p = omega arith in
-      fragment-at p d (q * recordLength p) ∙ ap (λ (k : ℕ). part d k (p .f)) z
-
   fragment-from : (qs : List ℕ) (k : ℕ) → among k qs ≡ true → fragmentFrom (each (bearing p d) qs) k ≡ fragmentIn p d k
   unfolding fragmentFrom among each
   fragment-from [] k e = absurd (clash (sym e))
@@ -49,24 +45,24 @@ module _ (p : Plan) (d : List ℕ) where
       go false h m ih = ih m
 
   pub generated-is : (qs : List ℕ) (k : ℕ)
-      → generatedBy (p .f) (each (bearing p d) qs) k ≡ regenerated d (40 + 32 * p .n) (recordLength p) (p .f) qs k
+      → generatedBy (p .f) (each (bearing p d) qs) k ≡ regenerated d (slotsOf p) qs k
   unfolding generatedBy regenerated
   generated-is qs k = rw (numbers-of qs) (go (among k qs) refl)
     where
       byte : (i : ℕ) → i < p .f → (q : ℕ) → among q qs ≡ true
-          → getD (fragmentFrom (each (bearing p d) qs) q) i 0 ≡ getD d (40 + 32 * p .n + q * recordLength p + i) 0
+          → getD (fragmentFrom (each (bearing p d) qs) q) i 0 ≡ getD d (fragmentAt (slotsOf p) q + i) 0
       byte i hi q m =
-          ap (λ (l : List ℕ). getD l i 0) (fragment-from qs q m ∙ fragment-place q) ∙ getD-part d (40 + 32 * p .n + q * recordLength p) (p .f) i hi
+          ap (λ (l : List ℕ). getD l i 0) (fragment-from qs q m ∙ sym (fragment-in p d q)) ∙ getD-part d (fragmentAt (slotsOf p) q) (p .f) i hi
 
       go : (t : Bool) → among k qs ≡ t
           → cond t (fragmentFrom (each (bearing p d) qs) k) (tabulate (p .f) (λ i. value qs (λ q. getD (fragmentFrom (each (bearing p d) qs) q) i 0) k))
-          ≡ cond t (part d (40 + 32 * p .n + k * recordLength p) (p .f))
-          (tabulate (p .f) (λ i. value qs (λ q. getD d (40 + 32 * p .n + q * recordLength p + i) 0) k))
-      go true e = fragment-from qs k e ∙ fragment-place k
+          ≡ cond t (part d (fragmentAt (slotsOf p) k) (p .f))
+          (tabulate (p .f) (λ i. value qs (λ q. getD d (fragmentAt (slotsOf p) q + i) 0) k))
+      go true e = fragment-from qs k e ∙ sym (fragment-in p d k)
       go false e =
           tabulate-ext (p .f) (λ i. value qs (λ q. getD (fragmentFrom (each (bearing p d) qs) q) i 0) k)
-          (λ i. value qs (λ q. getD d (40 + 32 * p .n + q * recordLength p + i) 0) k)
-          (λ i hi. value-ext qs (λ q. getD (fragmentFrom (each (bearing p d) qs) q) i 0) (λ q. getD d (40 + 32 * p .n + q * recordLength p + i) 0) k
+          (λ i. value qs (λ q. getD d (fragmentAt (slotsOf p) q + i) 0) k)
+          (λ i hi. value-ext qs (λ q. getD (fragmentFrom (each (bearing p d) qs) q) i 0) (λ q. getD d (fragmentAt (slotsOf p) q + i) 0) k
           (all-map (λ q m. byte i hi q m) qs (each-source (λ (q : ℕ). among q qs ≡ true) qs (λ q e. e))))
 
 -- ---- runs laid one after the other are the runs strung together
@@ -75,18 +71,19 @@ unfolding strung
 length-strung g f zero h = sym (zero-mul f)
 length-strung g f (suc n) h = length-append (strung g n) (g n) ∙ omega (arith, length-strung g f n h, h n, suc-mul n f)
 
-module _ (d : List ℕ) (h r f : ℕ) (qs : List ℕ) (size : (k : ℕ) → length (regenerated d h r f qs k) ≡ f) where
-  laid-over : (n : ℕ) (i : List ℕ) → laid d h r f qs 0 f n i ≡ over (strung (regenerated d h r f qs) n) i
+module _ (d : List ℕ) (slots : Slots) (qs : List ℕ) (size : (k : ℕ) → length (regenerated d slots qs k) ≡ slots .fragment) where
+  laid-over : (m n : ℕ) (i : List ℕ) → laid d slots qs (runsOf m (slots .fragment)) n i ≡ over (strung (regenerated d slots qs) n) i
   unfolding laid strung
-  laid-over zero i = unfold over in refl
-  laid-over (suc n) i =
+  laid-over m zero i = unfold over in refl
+  laid-over m (suc n) i =
+      let f : ℕ = slots .fragment in
       let z : 0 + n * f ≡ n * f = zero-add (n * f) in
-      rw (z, laid-over n i)
-      (over-more i (strung (regenerated d h r f qs) n) (regenerated d h r f qs n) (n * f) (length-strung (regenerated d h r f qs) f n size))
+      rw (z, laid-over m n i)
+      (over-more i (strung (regenerated d slots qs) n) (regenerated d slots qs n) (n * f) (length-strung (regenerated d slots qs) f n size))
 
-  pub laid-is : (m : ℕ) (i : List ℕ) → length i ≡ m * f → laid d h r f qs 0 f m i ≡ strung (regenerated d h r f qs) m
+  pub laid-is : (m : ℕ) (i : List ℕ) → length i ≡ m * slots .fragment → laid d slots qs (runsOf m (slots .fragment)) m i ≡ strung (regenerated d slots qs) m
   laid-is m i l =
-      laid-over m i ∙ over-whole (strung (regenerated d h r f qs) m) i (l ∙ sym (length-strung (regenerated d h r f qs) f m size))
+      laid-over m m i ∙ over-whole (strung (regenerated d slots qs) m) i (l ∙ sym (length-strung (regenerated d slots qs) (slots .fragment) m size))
 
 -- ---- N requests of one timestamp
 module _ (D : ℕ → List ℕ) (T : ℕ) (C : List ℕ) where

@@ -19,7 +19,7 @@ use Rattle.terms.specs.declared.Member.the-variants.{Repairable}
 use Rattle.terms.specs.declared.Clients.the-variants.{Byzantine}
 use Rattle.fragments.specs.Fragments.{among, regenerated}
 use Rattle.frame.specs.Frame.{kindOf, frame, goodRequest, shaped, bodyFits, forParty, oneOf, goodFrame, goodReply}
-use Rattle.record.specs.Record.{fragmentHash, hashesOk, timeZero}
+use Rattle.record.specs.Record.{fragmentHash, hashesOk, timeZero, prefixOf}
 use Rattle.record.specs.Desk.{row, crossMade}
 use Rattle.rounds.specs.declared.Bound.the-variants.{Free}
 use Rattle.rounds.specs.Rounds.{heardCount, every, slotStamp, slotsFit, slotFits, underOf, leadOf, stepOf, aheadOf, joinsOf, setOf, closeWith}
@@ -101,7 +101,7 @@ left : Outcome
 left = readReply plan start reply desk (0 ∷ [])
 
 said-is : left .said ≡ done (stampNumber (stampAt rec 0)) 1
-unfolding left reply desk rec readReply first planOk countsOk limitsOk columnOf all recordLength lengthsOk inRange standingRules openRules every heardCount slotsFit slotFits goodReply goodFrame shaped forParty oneOf bodyFits awaited askNow kindAwaited isHeard bears accepted heard settled closeWith leadOf stepOf aheadOf slotStamp joinsOf setOf actFor actOn sound validates decided classOf among regenerated fragmentHash row crossMade hashesOk underOf num numFrom part put be beOnto alike timeZero stampAt stampNumber then sha256 after compressOf addedOf roundsOf roundOf T1 T2 scheduleOf words padding bigEndian K
+unfolding left reply desk rec readReply first planOk countsOk limitsOk columnOf all recordLength lengthsOk inRange standingRules openRules every heardCount slotsFit slotFits goodReply goodFrame shaped forParty oneOf bodyFits awaited askNow kindAwaited isHeard bears accepted heard settled closeWith leadOf stepOf aheadOf slotStamp joinsOf setOf actFor actOn sound validates decided classOf among regenerated fragmentHash prefixOf row crossMade hashesOk underOf num numFrom part put be beOnto alike timeZero stampAt stampNumber then sha256 after compressOf addedOf roundsOf roundOf T1 T2 scheduleOf words padding bigEndian K
 said-is = refl
 
 pub call : turns.Turn
@@ -120,7 +120,7 @@ heard-one : Message
 heard-one = bearing plan (put desk 0 rec) 0
 
 closed-one : closing plan start reply desk 1 [] ≡ (heard-one ∷ []) ∷ []
-unfolding heard-one closing responses responseOf reply desk rec first planOk countsOk limitsOk columnOf all recordLength lengthsOk inRange standingRules openRules every heardCount slotsFit slotFits goodReply goodFrame shaped forParty oneOf bodyFits awaited askNow kindAwaited isHeard bears fragmentHash hashesOk underOf num numFrom part put be beOnto alike timeZero sha256 after compressOf addedOf roundsOf roundOf T1 T2 scheduleOf words padding bigEndian K
+unfolding heard-one closing responses responseOf reply desk rec first planOk countsOk limitsOk columnOf all recordLength lengthsOk inRange standingRules openRules every heardCount slotsFit slotFits goodReply goodFrame shaped forParty oneOf bodyFits awaited askNow kindAwaited isHeard bears fragmentHash prefixOf hashesOk underOf num numFrom part put be beOnto alike timeZero sha256 after compressOf addedOf roundsOf roundOf T1 T2 scheduleOf words padding bigEndian K
 closed-one = refl
 
 one-apart : (m : Message) → Apart (m ∷ [])
@@ -200,7 +200,7 @@ pub taken : node.ServedOutcome
 taken = served plan request book (replicate 88 0)
 
 replied-is : taken .answer ≡ replied 55
-unfolding taken request book rec served first planOk countsOk limitsOk columnOf all recordLength node.bookReplyOk goodBook headed filled rising timed recordsFrom goodRequest goodFrame shaped forParty oneOf bodyFits timeFails hashFails otherHeld noRoom some fragmentHash hashesOk timeZero answered sends replyTo over laidAs header joined num numFrom part be beOnto alike sha256 after compressOf addedOf roundsOf roundOf T1 T2 scheduleOf words padding bigEndian K
+unfolding taken request book rec served first planOk countsOk limitsOk columnOf all recordLength node.bookReplyOk goodBook headed filled rising timed recordsFrom goodRequest goodFrame shaped forParty oneOf bodyFits timeFails hashFails otherHeld noRoom some fragmentHash prefixOf hashesOk timeZero answered sends replyTo over laidAs header joined num numFrom part be beOnto alike sha256 after compressOf addedOf roundsOf roundOf T1 T2 scheduleOf words padding bigEndian K
 replied-is = refl
 
 node-met : NodeCall plan request book (replicate 88 0) (Replied 55) (taken .book) (taken .reply)

@@ -13,7 +13,7 @@ use Rattle.octets.specs.Bytes.{part, num, alike, Octets}
 use Rattle.octets.proofs.Laws.{part-part, slot-room, length-part, part-first, part-last}
 use Rattle.sha256.specs.Sha256.{sha256}
 use Rattle.terms.specs.Stamp.{stamp, time, stampAt, stampNumber}
-use Rattle.terms.specs.Terms.{planOk, recordLength, COMPLETE, INCOMPLETE, classOf, verdictOf, unsure, decided}
+use Rattle.terms.specs.Terms.{planOk, recordLength, COMPLETE, INCOMPLETE, classOf, verdictOf, unsure, decided, slotsOf, thresholdsOf}
 use Rattle.terms.specs.declared.Plan.{Plan}
 use Rattle.terms.specs.declared.Member.{Member}
 use Rattle.terms.specs.declared.Member.the-variants.{Repairable, NonRepair}
@@ -29,7 +29,7 @@ use Rattle.terms.proofs.Picks.{either}
 use Rattle.fragments.specs.Fragments.{All, regenerated, Sources}
 use Rattle.fragments.proofs.Lists.{all-take, all-at}
 use Rattle.fragments.proofs.Laws.{length-regenerated}
-use Rattle.record.specs.Record.{crossOf, fragmentOf, fragmentHash}
+use Rattle.record.specs.Record.{crossOf, fragmentOf, fragmentHash, prefixOf}
 use Rattle.record.specs.Desk.{slotOf, fragmentIn, crossMade, row}
 use Rattle.terms.proofs.Places.{record-length}
 use Rattle.record.proofs.Records.{cross-at}
@@ -39,11 +39,11 @@ use Rattle.rounds.specs.declared.Lead.the-variants.{Nobody, Node}
 use Rattle.rounds.specs.Rounds.{heardCount, markOf, restUnheard, slotStamp, leadOf, setOf, Closed, closeWith}
 use Rattle.rounds.proofs.Laws.{lead-room}
 use Rattle.rounds.proofs.Closes.{candidate, no-candidate, members-are}
-use Rattle.recover.specs.Recover.{validates, recordFrom, refilled, trusted, sound, decoded}
+use Rattle.recover.specs.Recover.{validates, recordFrom, refilled, trusted, sound, decoded, repaired as refill}
 use Rattle.recover.proofs.Filled.{length-filled, filled-record}
 use Rattle.session.specs.declared.Session.{Session}
 use Rattle.session.specs.Session.{replies, endedOf, storingOf, stillOpen, done, neverWritten}
-use Rattle.session.specs.Reader.{Outcome, outcome, headLength, repaired as refill, failing, actOn, actFor, acted, closed}
+use Rattle.session.specs.Reader.{Outcome, outcome, failing, actOn, actFor, acted, closed}
 use Rattle.session.proofs.Closings.{Led, led, Lowest, lowest-are, heads-alike}
 use Rattle.report.specs.Triple.{Triple, Message, null, each, strung}
 use Rattle.report.specs.Figure2.{MAKE-CROSS-CHECKSUM, DO-WRITE}
@@ -79,17 +79,17 @@ module _ (p : Plan) (s : Session) (d i : List ℕ) (u : Full p s d i) where
   set = responses p (s .marks) d (p .n)
 
   abbrev close : Lead → Closed
-  close l = closeWith (s .marks) d (p .n) (headLength p) (recordLength p) (p .member) (COMPLETE p) (INCOMPLETE p) l
+  close l = closeWith (s .marks) d (slotsOf p) (p .member) (thresholdsOf p) l
 
   -- ---- the first triple
-  module _ (e : leadOf (s .marks) d (recordLength p) (p .n) ≡ Nobody) where
+  module _ (e : leadOf (s .marks) d (slotsOf p) (p .n) ≡ Nobody) where
     zero-is : ts-candidate set ≡ 0
     unfolding ts-candidate
     zero-is = max-is p (s .marks) d (p .n) ∙ rw e
 
     all-are : CandidateSet set ≡ set
     unfolding CandidateSet
-    all-are = rw zero-is (all-first p (s .marks) d (p .n) (no-candidate (s .marks) d (recordLength p) (p .n) e))
+    all-are = rw zero-is (all-first p (s .marks) d (p .n) (no-candidate (s .marks) d (slotsOf p) (p .n) e))
 
     big : COMPLETE p ≤ length set
     big =
@@ -99,7 +99,7 @@ module _ (p : Plan) (s : Session) (d i : List ℕ) (u : Full p s d i) where
     first-so : of-first-triple set ≡ true
     first-so =
         let f = facts p (u .plan) in
-        let a = all-first p (s .marks) d (p .n) (no-candidate (s .marks) d (recordLength p) (p .n) e) in
+        let a = all-first p (s .marks) d (p .n) (no-candidate (s .marks) d (slotsOf p) (p .n) e) in
         subst (λ (l : List Message). of-first-triple l ≡ true) a
         (heads-first p (s .marks) d set (omega (arith, ap length a, big)))
 
@@ -118,30 +118,30 @@ module _ (p : Plan) (s : Session) (d i : List ℕ) (u : Full p s d i) where
         (record { never = λ z. (refl, refl); value = λ z. absurd (omega arith) })
 
   -- ---- a record of node a
-  module _ (a : ℕ) (e : leadOf (s .marks) d (recordLength p) (p .n) ≡ Node a) where
+  module _ (a : ℕ) (e : leadOf (s .marks) d (slotsOf p) (p .n) ≡ Node a) where
     abbrev h : ℕ
-    h = 40 + 32 * p .n
+    h = slotsOf p .head
 
     abbrev r : ℕ
     r = recordLength p
 
     abbrev Z : List ℕ
-    Z = setOf (s .marks) d r h a (p .n)
+    Z = setOf (s .marks) d (slotsOf p) a (p .n)
 
     abbrev qs : List ℕ
     qs = take (p .m) Z
 
     abbrev T : ℕ
-    T = slotStamp d r a
+    T = slotStamp d (slotsOf p) a
 
     abbrev cs : List Message
     cs = each (bearing p d) Z
 
     ha : a < p .n
-    ha = lead-room (s .marks) d r (p .n) a (leadOf (s .marks) d r (p .n)) refl e
+    ha = lead-room (s .marks) d (slotsOf p) (p .n) a (leadOf (s .marks) d (slotsOf p) (p .n)) refl e
 
     low : 1 ≤ T
-    low = subst (λ (x : ℕ). 1 ≤ x) (slot-stamp p (s .marks) d a) (stamp-low (slotOf p d a) (u .times a ha (candidate (s .marks) d r (p .n) a e .marked)))
+    low = subst (λ (x : ℕ). 1 ≤ x) (slot-stamp p (s .marks) d a) (stamp-low (slotOf p d a) (u .times a ha (candidate (s .marks) d (slotsOf p) (p .n) a e .marked)))
 
     stamp-cand : ts-candidate set ≡ T
     unfolding ts-candidate
@@ -152,7 +152,7 @@ module _ (p : Plan) (s : Session) (d i : List ℕ) (u : Full p s d i) where
     set-cand =
         candidate-set-is p (s .marks) d (u .desk) (u .octets) a (ts-candidate set) ha stamp-cand (omega (arith, stamp-cand, low))
         (λ k hk m z. u .cross (bearing p d k) (bearing p d a) (in-responses p (s .marks) d (p .n) k hk m)
-        (in-responses p (s .marks) d (p .n) a ha (candidate (s .marks) d r (p .n) a e .marked))
+        (in-responses p (s .marks) d (p .n) a ha (candidate (s .marks) d (slotsOf p) (p .n) a e .marked))
         (slot-stamp p (s .marks) d k ∙ z ∙ sym (slot-stamp p (s .marks) d a)))
         (p .n) (omega arith)
 
@@ -164,14 +164,14 @@ module _ (p : Plan) (s : Session) (d i : List ℕ) (u : Full p s d i) where
     heads = subst (λ (l : List ℕ). All (λ (q : ℕ). part d (q * r) h ≡ part d (a * r) h) l) (led-so .nodes-are) (heads-alike p s d a led-so)
 
     below : All (λ (q : ℕ). q < p .n) qs
-    below = all-take (λ (q : ℕ). q < p .n) (p .m) Z (members-are (s .marks) d r h a (p .n) .below)
+    below = all-take (λ (q : ℕ). q < p .n) (p .m) Z (members-are (s .marks) d (slotsOf p) a (p .n) .below)
 
-    src : Sources d h r (p .f) qs
+    src : Sources d (slotsOf p) qs
     src k l =
         let b : getD qs k 0 < p .n = all-at (λ (q : ℕ). q < p .n) qs below k l in
         omega (arith, slot-room (getD qs k 0) (p .n) r (length d) b (omega (arith, u .desk)), record-length p)
 
-    generated-so : (k : ℕ) → generated p cs k ≡ regenerated d h r (p .f) qs k
+    generated-so : (k : ℕ) → generated p cs k ≡ regenerated d (slotsOf p) qs k
     generated-so k = ap (λ (l : List Message). generatedBy (p .f) l k) (take-each (p .m) (bearing p d) Z) ∙ generated-is p d qs k
 
     -- the cross checksum and the timestamp by the head of a slot
@@ -199,16 +199,16 @@ module _ (p : Plan) (s : Session) (d i : List ℕ) (u : Full p s d i) where
 
     -- ---- validation
     valid-is : 1 ≤ length Z → VALIDATE-CANDIDATE-SET (family p) cs ≡ sound p (close (Node a)) a d
-    unfolding VALIDATE-CANDIDATE-SET sound validates MAKE-CROSS-CHECKSUM crossMade fragmentHash closeWith
+    unfolding VALIDATE-CANDIDATE-SET sound validates MAKE-CROSS-CHECKSUM crossMade fragmentHash prefixOf closeWith
     valid-is k = rw (not-first Z heads) (go (p .clients))
       where
-        made : strung (λ (j : ℕ). sha256 (generated p cs j)) (p .n) ≡ row (λ (j : ℕ). sha256 (regenerated d h r (p .f) qs j)) (p .n)
+        made : strung (λ (j : ℕ). sha256 (generated p cs j)) (p .n) ≡ row (λ (j : ℕ). sha256 (regenerated d (slotsOf p) qs j)) (p .n)
         made =
-            strung-same (λ (j : ℕ). sha256 (generated p cs j)) (λ (j : ℕ). sha256 (regenerated d h r (p .f) qs j)) (p .n) (λ j hj. ap sha256 (generated-so j))
-            ∙ strung-row (λ (j : ℕ). sha256 (regenerated d h r (p .f) qs j)) (p .n)
+            strung-same (λ (j : ℕ). sha256 (generated p cs j)) (λ (j : ℕ). sha256 (regenerated d (slotsOf p) qs j)) (p .n) (λ j hj. ap sha256 (generated-so j))
+            ∙ strung-row (λ (j : ℕ). sha256 (regenerated d (slotsOf p) qs j)) (p .n)
 
         go : (c : Clients) → cond (lies c) (alike (strung (λ (j : ℕ). sha256 (generated p cs j)) (p .n)) (CC-of cs)) true
-            ≡ trusted c (alike (row (λ (j : ℕ). sha256 (regenerated d h r (p .f) qs j)) (p .n)) (part d (a * r + 40) (32 * p .n)))
+            ≡ trusted c (alike (row (λ (j : ℕ). sha256 (regenerated d (slotsOf p) qs j)) (p .n)) (part d (a * r + 40) (32 * p .n)))
         go Crash = refl
         go Byzantine = ap₂ alike made (cross-so Z k heads ∙ cross-at p d (a * r))
 
@@ -217,8 +217,8 @@ module _ (p : Plan) (s : Session) (d i : List ℕ) (u : Full p s d i) where
     unfolding decodedFrom decoded closeWith
     decode-is =
         rw (not-first Z heads)
-        (strung-same (generated p cs) (regenerated d h r (p .f) qs) (p .m) (λ k hk. generated-so k)
-        ∙ sym (laid-is d h r (p .f) qs (λ k. length-regenerated d h r (p .f) qs k src) (p .m) i (u .item)))
+        (strung-same (generated p cs) (regenerated d (slotsOf p) qs) (p .m) (λ k hk. generated-so k)
+        ∙ sym (laid-is d (slotsOf p) qs (λ k. length-regenerated d (slotsOf p) qs k src) (p .m) i (u .item)))
 
     number-is : stampNumber (stampAt d (a * r)) ≡ T
     unfolding slotStamp
@@ -227,13 +227,10 @@ module _ (p : Plan) (s : Session) (d i : List ℕ) (u : Full p s d i) where
 
     -- ---- repair
     abbrev filled : List ℕ
-    filled = refilled d h r (p .f) qs a (p .n)
-
-    parts : h + p .f ≡ r
-    parts = sym (record-length p)
+    filled = refilled d (slotsOf p) qs a (p .n)
 
     abbrev rec : ℕ → List ℕ
-    rec k = recordFrom d h r (p .f) qs a k
+    rec k = recordFrom d (slotsOf p) qs a k
 
     source-heads : All (λ (q : ℕ). part d (q * r) h ≡ part d (a * r) h) qs
     source-heads = all-take (λ (q : ℕ). part d (q * r) h ≡ part d (a * r) h) (p .m) Z heads
@@ -251,17 +248,17 @@ module _ (p : Plan) (s : Session) (d i : List ℕ) (u : Full p s d i) where
     long-head = length-part d (a * r) h (omega (arith, slot-room a (p .n) r (length d) ha (omega (arith, u .desk)), record-length p))
 
     rec-head : (k : ℕ) → part (rec k) 0 h ≡ part d (a * r) h
-    rec-head k = part-first (part d (a * r) h) (regenerated d h r (p .f) qs k) h long-head
+    rec-head k = part-first (part d (a * r) h) (regenerated d (slotsOf p) qs k) h long-head
 
-    rec-rest : (k : ℕ) → part (rec k) h (p .f) ≡ regenerated d h r (p .f) qs k
-    rec-rest k = part-last (part d (a * r) h) (regenerated d h r (p .f) qs k) h (p .f) long-head (length-regenerated d h r (p .f) qs k src)
+    rec-rest : (k : ℕ) → part (rec k) h (p .f) ≡ regenerated d (slotsOf p) qs k
+    rec-rest k = part-last (part d (a * r) h) (regenerated d (slotsOf p) qs k) h (p .f) long-head (length-regenerated d (slotsOf p) qs k src)
 
     -- slot k is the request to node k
     sends-one : p .m ≤ length Z → (k : ℕ) → k < p .n → bearing p filled k ≡ request (generated p cs) T (CC-of cs) k
     unfolding slotStamp
     sends-one z k hk =
         ap (λ (x : List ℕ). message k (tripleOf p x))
-        (filled-record d h r (p .f) qs a (p .n) parts (omega (arith, u .desk)) below (lowest-so z .leader) source-heads k hk)
+        (filled-record d (slotsOf p) qs a (p .n) (record-length p) (omega (arith, u .desk)) below (lowest-so z .leader) source-heads k hk)
         ∙ (λ j. message k (record { ts = stamped j; D = body j; CC = crossed j }))
       where
         stamped : stamp (rec k) ≡ T
@@ -287,7 +284,7 @@ module _ (p : Plan) (s : Session) (d i : List ℕ) (u : Full p s d i) where
           holds =
               strung-same (fragmentIn p filled) (generated p cs) (p .m) (λ k hk. ap (λ (x : Message). x .Response .D) (sends-one z k (omega arith)))
               ∙ sym (requests-decode (generated p cs) T (CC-of cs) p low (f .needed-nodes));
-          size = length-filled d h r (p .f) qs a (p .n) parts (omega (arith, u .desk)) below (lowest-so z .leader) ∙ u .desk;
+          size = length-filled d (slotsOf p) qs a (p .n) (record-length p) (omega (arith, u .desk)) below (lowest-so z .leader) ∙ u .desk;
         }
 
     -- ---- the next round, or the cut
@@ -380,8 +377,8 @@ module _ (p : Plan) (s : Session) (d i : List ℕ) (u : Full p s d i) where
 
   -- WHAT A CLOSED READ ROUND COMES TO IS WHAT FIGURE 3 DECIDES OF ITS RESPONSE SET
   pub round-decides : Decides p s d i (acted p s (closed p s d) d i) (LOOP (family p) set)
-  round-decides = go (leadOf (s .marks) d (recordLength p) (p .n)) refl
+  round-decides = go (leadOf (s .marks) d (slotsOf p) (p .n)) refl
     where
-      go : (l : Lead) → leadOf (s .marks) d (recordLength p) (p .n) ≡ l → Decides p s d i (acted p s (close l) d i) (LOOP (family p) set)
+      go : (l : Lead) → leadOf (s .marks) d (slotsOf p) (p .n) ≡ l → Decides p s d i (acted p s (close l) d i) (LOOP (family p) set)
       go Nobody e = first-round e
       go (Node a) e = led-round a e

@@ -16,7 +16,7 @@ use Rattle.octets.proofs.Laws.{length-put, slot-fits}
 use Rattle.octets.proofs.Meaning.{octets-drop, octets-put}
 use Rattle.terms.specs.Ladder.{first, _and_, None}
 use Rattle.terms.specs.Stamp.{stamp, time, stampNumber}
-use Rattle.terms.specs.Terms.{planOk, recordLength}
+use Rattle.terms.specs.Terms.{planOk, recordLength, slotsOf}
 use Rattle.terms.specs.declared.Plan.{Plan}
 use Rattle.terms.specs.declared.Ask.{Ask}
 use Rattle.terms.proofs.Down.{clear}
@@ -29,6 +29,7 @@ use Rattle.frame.specs.Frame.{frameNode, bodyOf, goodReply}
 use Rattle.frame.proofs.Frames.{reply-is}
 use Rattle.record.specs.Record.{hashesOk, timeZero}
 use Rattle.record.specs.Desk.{slotOf, fragmentIn}
+use Rattle.record.proofs.Desks.{fragment-in}
 use Rattle.terms.proofs.Places.{record-length}
 use Rattle.rounds.specs.declared.Heard.the-variants.{Unheard, First, Record}
 use Rattle.rounds.specs.declared.Mark.{Mark}
@@ -62,7 +63,7 @@ use Rattle.report.specs.Run.{closedBy, closing, closedOver, Tells, Repai
 use Rattle.report.proofs.Lists.{strung-same}
 use Rattle.report.proofs.Sets.{size-is}
 use Rattle.report.proofs.Hears.{puts, said-by, said-first, valid-record, valid-first, in-time-is, first-in-time, unheard-has, record-after, first-after, gathers-more, gathers-none}
-use Rattle.report.proofs.Erasure.{fragment-place, laid-is}
+use Rattle.report.proofs.Erasure.{laid-is}
 use Rattle.report.proofs.Round.{Full, round-decides}
 use Rattle.report.proofs.Marks.{no-mark, mark-none, none-heard, slot-own, slot-other, Passed, one-cross}
 use Rattle.client.specs.Turns.{ReadTurn, Calls}
@@ -216,10 +217,7 @@ positive zero h = absurd (eqb-false 0 0 h refl)
 positive (suc x) h = omega arith
 
 module _ (p : Plan) (d i : List ℕ) (ok : planOk p ≡ true) (ld : length d ≡ p .n * recordLength p) (li : length i ≡ p .m * p .f) where
-  abbrev head : ℕ
-  head = 40 + 32 * p .n
-
-  src : Sources d head (recordLength p) (p .f) (from 0 (p .m))
+  src : Sources d (slotsOf p) (from 0 (p .m))
   src k l =
       let f = facts p ok in
       let h : k < p .m = omega (arith, length-from 0 (p .m)) in
@@ -229,11 +227,11 @@ module _ (p : Plan) (d i : List ℕ) (ok : planOk p ≡ true) (ld : length d ≡
   collected-is : collected p d i ≡ strung (fragmentIn p d) (p .m)
   unfolding collected
   collected-is =
-      laid-is d head (recordLength p) (p .f) (from 0 (p .m)) (λ k. length-regenerated d head (recordLength p) (p .f) (from 0 (p .m)) k src) (p .m) i li
-      ∙ strung-same (regenerated d head (recordLength p) (p .f) (from 0 (p .m))) (fragmentIn p d) (p .m) own
+      laid-is d (slotsOf p) (from 0 (p .m)) (λ k. length-regenerated d (slotsOf p) (from 0 (p .m)) k src) (p .m) i li
+      ∙ strung-same (regenerated d (slotsOf p) (from 0 (p .m))) (fragmentIn p d) (p .m) own
     where
-      own : (k : ℕ) → k < p .m → regenerated d head (recordLength p) (p .f) (from 0 (p .m)) k ≡ fragmentIn p d k
-      own k h = sym (itself d head (recordLength p) (p .f) (from 0 (p .m)) k (sym (among-from k (p .m) ∙ lt-ltb k (p .m) h))) ∙ sym (fragment-place p d k)
+      own : (k : ℕ) → k < p .m → regenerated d (slotsOf p) (from 0 (p .m)) k ≡ fragmentIn p d k
+      own k h = sym (itself d (slotsOf p) (from 0 (p .m)) k (sym (among-from k (p .m) ∙ lt-ltb k (p .m) h))) ∙ fragment-in p d k
 
   stores : (s : Session) (f : List ℕ) (sets : List (List Message)) → s .round .stage ≡ Storing → Stores p s d sets → AllClose p sets
       → heardCount (markedOf s (frameNode f) Record .marks) ≤ replies p → Leaves p (stored p s f d i) sets

@@ -16,7 +16,7 @@ use Rattle.octets.proofs.Laws.{part-part, slot-room}
 use Rattle.octets.proofs.Meaning.{part-add, be-part, is-alike, not-alike}
 use Rattle.terms.proofs.Rungs.{clash}
 use Rattle.terms.specs.Stamp.{stamp}
-use Rattle.terms.specs.Terms.{recordLength}
+use Rattle.terms.specs.Terms.{recordLength, slotsOf}
 use Rattle.terms.specs.declared.Plan.{Plan}
 use Rattle.record.specs.Record.{crossOf}
 use Rattle.record.specs.Desk.{slotOf}
@@ -78,16 +78,16 @@ module _ (p : Plan) (ms : List Mark) (d : List ℕ) where
   abbrev stampsOf : List Message → List ℕ
   stampsOf l = each (λ (x : Message). x .Response .ts) l
 
-  pub slot-stamp : (i : ℕ) → stamp (slotOf p d i) ≡ slotStamp d (recordLength p) i
+  pub slot-stamp : (i : ℕ) → stamp (slotOf p d i) ≡ slotStamp d (slotsOf p) i
   unfolding slotStamp
   slot-stamp i = stamp-at p d (i * recordLength p)
 
   abbrev leadStamp : Lead → ℕ
   leadStamp Nobody = 0
-  leadStamp (Node a) = slotStamp d (recordLength p) a
+  leadStamp (Node a) = slotStamp d (slotsOf p) a
 
   max-step : (n : ℕ) (l : Lead) (xs : List Message) (h : Heard) → MAX (stampsOf xs) ≡ leadStamp l
-      → MAX (stampsOf (xs ++ responseOf p d n h)) ≡ leadStamp (stepOf d (recordLength p) l n h)
+      → MAX (stampsOf (xs ++ responseOf p d n h)) ≡ leadStamp (stepOf d (slotsOf p) l n h)
   unfolding responseOf stepOf each aheadOf
   max-step n l xs Unheard e = ap (λ (k : List Message). MAX (stampsOf k)) (append-nil xs) ∙ e
   max-step n l xs First e =
@@ -96,18 +96,18 @@ module _ (p : Plan) (ms : List Mark) (d : List ℕ) where
       ap MAX (each-append (λ (x : Message). x .Response .ts) xs _) ∙ max-snoc (stampsOf xs) (stamp (slotOf p d n))
       ∙ ap₂ larger e (slot-stamp n) ∙ ahead l
     where
-      ahead : (b : Lead) → larger (leadStamp b) (slotStamp d (recordLength p) n) ≡ leadStamp (aheadOf d (recordLength p) b n)
-      ahead Nobody = larger-high 0 (slotStamp d (recordLength p) n) (omega arith)
-      ahead (Node b) = go (ltb (slotStamp d (recordLength p) b) (slotStamp d (recordLength p) n))
+      ahead : (b : Lead) → larger (leadStamp b) (slotStamp d (slotsOf p) n) ≡ leadStamp (aheadOf d (slotsOf p) b n)
+      ahead Nobody = larger-high 0 (slotStamp d (slotsOf p) n) (omega arith)
+      ahead (Node b) = go (ltb (slotStamp d (slotsOf p) b) (slotStamp d (slotsOf p) n))
         where
-          go : (t : Bool) → cond t (slotStamp d (recordLength p) n) (slotStamp d (recordLength p) b) ≡ leadStamp (cond t (Node n) (Node b))
+          go : (t : Bool) → cond t (slotStamp d (slotsOf p) n) (slotStamp d (slotsOf p) b) ≡ leadStamp (cond t (Node n) (Node b))
           go true = refl
           go false = refl
 
-  pub max-is : (n : ℕ) → MAX (stampsOf (responses p ms d n)) ≡ leadStamp (leadOf ms d (recordLength p) n)
+  pub max-is : (n : ℕ) → MAX (stampsOf (responses p ms d n)) ≡ leadStamp (leadOf ms d (slotsOf p) n)
   unfolding responses leadOf
   max-is zero = unfold each MAX in refl
-  max-is (suc n) = max-step n (leadOf ms d (recordLength p) n) (responses p ms d n) (markOf ms n) (max-is n)
+  max-is (suc n) = max-step n (leadOf ms d (slotsOf p) n) (responses p ms d n) (markOf ms n) (max-is n)
 
   -- ---- all say the first triple
   abbrev NoRecord : ℕ → Type 0
@@ -163,17 +163,17 @@ module _ (p : Plan) (ms : List Mark) (d : List ℕ) where
   module _ (ld : length d ≡ p .n * recordLength p) (od : Octets d) where
     -- timestamp and cross checksum are alike exactly where the timestamps are, if one timestamp is one cross checksum
     joins : (i a : ℕ) → i < p .n → a < p .n
-        → (slotStamp d (recordLength p) i ≡ slotStamp d (recordLength p) a → crossOf p (slotOf p d i) ≡ crossOf p (slotOf p d a))
-        → eqb (slotStamp d (recordLength p) i) (slotStamp d (recordLength p) a)
-        ≡ alike (part d (i * recordLength p) (40 + 32 * p .n)) (part d (a * recordLength p) (40 + 32 * p .n))
+        → (slotStamp d (slotsOf p) i ≡ slotStamp d (slotsOf p) a → crossOf p (slotOf p d i) ≡ crossOf p (slotOf p d a))
+        → eqb (slotStamp d (slotsOf p) i) (slotStamp d (slotsOf p) a)
+        ≡ alike (part d (i * recordLength p) (slotsOf p .head)) (part d (a * recordLength p) (slotsOf p .head))
     unfolding slotStamp
-    joins i a hi ha one = go (eqb (slotStamp d (recordLength p) i) (slotStamp d (recordLength p) a)) refl
+    joins i a hi ha one = go (eqb (slotStamp d (slotsOf p) i) (slotStamp d (slotsOf p) a)) refl
       where
         fits : (k : ℕ) → k < p .n → k * recordLength p + 40 ≤ length d
         fits k h = omega (arith, slot-room k (p .n) (recordLength p) (length d) h (omega (arith, ld)), record-length p)
 
-        go : (t : Bool) → eqb (slotStamp d (recordLength p) i) (slotStamp d (recordLength p) a) ≡ t
-            → t ≡ alike (part d (i * recordLength p) (40 + 32 * p .n)) (part d (a * recordLength p) (40 + 32 * p .n))
+        go : (t : Bool) → eqb (slotStamp d (slotsOf p) i) (slotStamp d (slotsOf p) a) ≡ t
+            → t ≡ alike (part d (i * recordLength p) (slotsOf p .head)) (part d (a * recordLength p) (slotsOf p .head))
         go true e =
             let z : num (part d (i * recordLength p) 40) ≡ num (part d (a * recordLength p) 40) = eqb-true _ _ e in
             let s : part d (i * recordLength p) 40 ≡ part d (a * recordLength p) 40 =
@@ -183,18 +183,18 @@ module _ (p : Plan) (ms : List Mark) (d : List ℕ) where
             sym (is-alike _ _ (part-add d (i * recordLength p) 40 (32 * p .n) ∙ ap₂ (λ (x y : List ℕ). x ++ y) s c ∙ sym (part-add d (a * recordLength p) 40 (32 * p .n))))
         go false e = sym (not-alike _ _ (λ q. eqb-false _ _ e (ap num (sym (start i) ∙ ap (λ (l : List ℕ). part l 0 40) q ∙ start a))))
           where
-            start : (k : ℕ) → part (part d (k * recordLength p) (40 + 32 * p .n)) 0 40 ≡ part d (k * recordLength p) 40
-            start k = part-part d (k * recordLength p) (40 + 32 * p .n) 0 40 (omega arith) ∙ ap (λ (j : ℕ). part d j 40) (add-zero (k * recordLength p))
+            start : (k : ℕ) → part (part d (k * recordLength p) (slotsOf p .head)) 0 40 ≡ part d (k * recordLength p) 40
+            start k = part-part d (k * recordLength p) (slotsOf p .head) 0 40 (omega arith) ∙ ap (λ (j : ℕ). part d j 40) (add-zero (k * recordLength p))
 
-    module _ (a m : ℕ) (ha : a < p .n) (em : m ≡ slotStamp d (recordLength p) a) (low : 1 ≤ m)
-        (one : (i : ℕ) → i < p .n → markOf ms i ≡ Record → slotStamp d (recordLength p) i ≡ slotStamp d (recordLength p) a
+    module _ (a m : ℕ) (ha : a < p .n) (em : m ≡ slotStamp d (slotsOf p) a) (low : 1 ≤ m)
+        (one : (i : ℕ) → i < p .n → markOf ms i ≡ Record → slotStamp d (slotsOf p) i ≡ slotStamp d (slotsOf p) a
         → crossOf p (slotOf p d i) ≡ crossOf p (slotOf p d a)) where
       abbrev bears : List Message → List Message
       bears l = suchThat (λ (x : Message). eqb (x .Response .ts) m) l
 
       set-step : (n : ℕ) (qs : List ℕ) (h : Heard) → markOf ms n ≡ h → n < p .n → bears (responses p ms d n) ≡ each (bearing p d) qs
           → bears (responses p ms d n ++ responseOf p d n h)
-          ≡ each (bearing p d) (cond (joinsOf d (recordLength p) (40 + 32 * p .n) a n h) (qs ++ (n ∷ [])) qs)
+          ≡ each (bearing p d) (cond (joinsOf d (slotsOf p) a n h) (qs ++ (n ∷ [])) qs)
       unfolding responseOf joinsOf suchThat each
       set-step n qs Unheard e hn ih = ap bears (append-nil (responses p ms d n)) ∙ ih
       set-step n qs First e hn ih =
@@ -203,17 +203,17 @@ module _ (p : Plan) (ms : List Mark) (d : List ℕ) where
       set-step n qs Record e hn ih =
           those-append (λ (x : Message). eqb (x .Response .ts) m) (responses p ms d n) _
           ∙ ap (λ (b : Bool). bears (responses p ms d n) ++ cond b (bearing p d n ∷ []) []) test
-          ∙ go (alike (part d (n * recordLength p) (40 + 32 * p .n)) (part d (a * recordLength p) (40 + 32 * p .n)))
+          ∙ go (alike (part d (n * recordLength p) (slotsOf p .head)) (part d (a * recordLength p) (slotsOf p .head)))
         where
-          test : eqb (stamp (slotOf p d n)) m ≡ alike (part d (n * recordLength p) (40 + 32 * p .n)) (part d (a * recordLength p) (40 + 32 * p .n))
+          test : eqb (stamp (slotOf p d n)) m ≡ alike (part d (n * recordLength p) (slotsOf p .head)) (part d (a * recordLength p) (slotsOf p .head))
           test = ap₂ eqb (slot-stamp n) em ∙ joins n a hn ha (one n hn e)
 
           go : (t : Bool) → bears (responses p ms d n) ++ cond t (bearing p d n ∷ []) [] ≡ each (bearing p d) (cond t (qs ++ (n ∷ [])) qs)
           go true = ap (λ (l : List Message). l ++ (bearing p d n ∷ [])) ih ∙ sym (each-append (bearing p d) qs (n ∷ []))
           go false = append-nil (bears (responses p ms d n)) ∙ ih
 
-      pub candidate-set-is : (n : ℕ) → n ≤ p .n → bears (responses p ms d n) ≡ each (bearing p d) (setOf ms d (recordLength p) (40 + 32 * p .n) a n)
+      pub candidate-set-is : (n : ℕ) → n ≤ p .n → bears (responses p ms d n) ≡ each (bearing p d) (setOf ms d (slotsOf p) a n)
       unfolding responses setOf
       candidate-set-is zero h = unfold suchThat each in refl
       candidate-set-is (suc n) h =
-          set-step n (setOf ms d (recordLength p) (40 + 32 * p .n) a n) (markOf ms n) refl (omega arith) (candidate-set-is n (omega arith))
+          set-step n (setOf ms d (slotsOf p) a n) (markOf ms n) refl (omega arith) (candidate-set-is n (omega arith))

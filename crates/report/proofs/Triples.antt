@@ -14,8 +14,9 @@ use Rattle.sha256.specs.Sha256.{sha256}
 use Rattle.terms.specs.Ladder.{_and_, _or_}
 use Rattle.terms.specs.Stamp.{stamp, time}
 use Rattle.terms.specs.declared.Plan.{Plan}
+use Rattle.terms.specs.Terms.{slotsOf}
 use Rattle.frame.proofs.Frames.{body-is}
-use Rattle.record.specs.Record.{crossOf, fragmentOf, verifierOf, entryOf, fragmentHash, hashesOk}
+use Rattle.record.specs.Record.{crossOf, fragmentOf, verifierOf, entryOf, fragmentHash, hashesOk, prefixOf}
 use Rattle.report.specs.Figure1.{initial, VALIDATE}
 use Rattle.report.specs.Ours.{family, tripleOf, timeIn, verifierIn}
 
@@ -29,7 +30,7 @@ unfolding num numFrom
 stamp-none = ap num (part-none 0 40)
 
 pub none-is : (p : Plan) → tripleOf p [] ≡ initial
-none-is p = λ i. record { ts = stamp-none i; D = part-none (40 + 32 * p .n) (p .f) i; CC = part-none 40 (32 * p .n) i }
+none-is p = λ i. record { ts = stamp-none i; D = part-none (slotsOf p .head) (p .f) i; CC = part-none 40 (32 * p .n) i }
 
 -- ---- a record's timestamp
 -- a time of 1 or more makes a timestamp of 1 or more
@@ -60,7 +61,7 @@ time-none = refl
 
 -- ---- VALIDATE is the two hash checks
 pub validate-is : (p : Plan) (S : ℕ) (x : List ℕ) → 40 ≤ length x → Octets x → VALIDATE (family p) S (tripleOf p x) ≡ hashesOk p S x
-unfolding VALIDATE hashesOk fragmentHash
+unfolding VALIDATE hashesOk fragmentHash prefixOf
 validate-is p S x l o =
     ap (λ (v : List ℕ). cond (not (alike (sha256 (crossOf p x)) v) or not (alike (sha256 (fragmentOf p x)) (entryOf S (crossOf p x)))) false true)
     (verifier-in x l o)

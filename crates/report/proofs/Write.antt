@@ -21,9 +21,10 @@ use Rattle.terms.proofs.Down.{clear}
 use Rattle.terms.proofs.Rungs.{both, clash}
 use Rattle.terms.proofs.Plans.{plan-is}
 use Rattle.terms.proofs.Stamps.{stamp-at-number}
+use Rattle.terms.specs.Terms.{slotsOf}
 use Rattle.fragments.specs.Fragments.{fragment}
 use Rattle.fragments.proofs.Theorems.{length-fragment}
-use Rattle.record.specs.Record.{crossOf, fragmentOf, fragmentHash}
+use Rattle.record.specs.Record.{crossOf, fragmentOf, fragmentHash, prefixOf}
 use Rattle.record.specs.Desk.{slotOf, crossMade, stampMade}
 use Rattle.record.proofs.Desks.{length-cross}
 use Rattle.frame.specs.Frame.{frameNode, bodyOf}
@@ -65,7 +66,7 @@ module _ (p : Plan) (t : ℕ) (i : List ℕ) (l : length i ≡ p .m * p .f) wher
   ts = MAKE-TIMESTAMP (family p) t CC
 
   pub cross-is : crossFor p i ≡ CC
-  unfolding crossFor crossMade fragmentHash MAKE-CROSS-CHECKSUM
+  unfolding crossFor crossMade fragmentHash prefixOf MAKE-CROSS-CHECKSUM
   cross-is = sym (strung-row (λ (k : ℕ). sha256 (fragment (p .m) (p .f) i k)) (p .n))
 
   abbrev bytes : List ℕ
@@ -86,7 +87,7 @@ module _ (p : Plan) (t : ℕ) (i : List ℕ) (l : length i ≡ p .m * p .f) wher
 
   length-crossed : length (crossFor p i) ≡ 32 * p .n
   unfolding crossFor
-  length-crossed = length-cross (fragment (p .m) (p .f) i) (p .n)
+  length-crossed = length-cross p (fragment (p .m) (p .f) i) (p .n)
 
   abbrev message : ℕ → Triple → Message
   message k x = record { S = k; Response = x }
@@ -108,7 +109,7 @@ module _ (p : Plan) (t : ℕ) (i : List ℕ) (l : length i ≡ p .m * p .f) wher
 
       body : fragmentOf p (slotOf p (recordsFor p t i) k) ≡ fragment (p .m) (p .f) i k
       body =
-          part-middle (slotOf p (recordsFor p t i) k) (bytes ++ crossFor p i) (fragment (p .m) (p .f) i k) [] (40 + 32 * p .n) (p .f)
+          part-middle (slotOf p (recordsFor p t i) k) (bytes ++ crossFor p i) (fragment (p .m) (p .f) i k) [] (slotsOf p .head) (p .f)
           (is ∙ sym (append-assoc bytes (crossFor p i) (fragment (p .m) (p .f) i k)) ∙ ap (λ (y : List ℕ). (bytes ++ crossFor p i) ++ y) (sym (append-nil (fragment (p .m) (p .f) i k))))
           (length-append bytes (crossFor p i) ∙ omega (arith, length-bytes, length-crossed)) (length-fragment (p .m) (p .f) i l k)
 

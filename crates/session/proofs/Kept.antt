@@ -5,7 +5,7 @@ use mathlib.Core.Path.{_≡_, refl, sym, _∙_, subst}
 use mathlib.Core.Bool.{Bool, true, false, cond}
 use mathlib.Core.List.{List}
 use native.Mathlib.Omega.{arith}
-use borrow.Author.Tests.{eqb-false}
+use borrow.Author.Tests.{eqb-false, not-true}
 use lib.Dec.{ltb, eqb}
 use lib.ListN.{length, set}
 use Rattle.octets.specs.Bytes.{part, num, Octets}
@@ -22,7 +22,6 @@ use Rattle.frame.proofs.Frames.{body-part}
 use Rattle.record.proofs.Desks.{time-made}
 use Rattle.rounds.specs.declared.Heard.{Heard}
 use Rattle.rounds.specs.declared.Heard.the-variants.{Record}
-use Rattle.rounds.specs.Rounds.{heardCount}
 use Rattle.session.specs.declared.Session.{Session}
 use Rattle.session.specs.declared.Took.{Took}
 use Rattle.session.specs.declared.Operation.{Operation}
@@ -30,16 +29,17 @@ use Rattle.session.specs.declared.opening.Opened.{Opened}
 use Rattle.session.specs.declared.opening.Opening.the-variants.{Accepted}
 use Rattle.session.specs.Opening.{OpenCall}
 use Rattle.session.specs.declared.Operation.the-variants.{Write}
-use Rattle.session.specs.Session.{isStoring, readRound, replies, withGreatest, withMarks, markedOf, endedOf, storingOf, refused, stillOpen, done, clockSpent}
+use Rattle.session.specs.Session.{isStoring, readRound, withGreatest, withMarks, markedOf, endedOf, storingOf, refused, stillOpen, done, clockSpent, roundOpen, isRead}
 use Rattle.session.specs.Ranges.{inRange}
 use Rattle.session.specs.Reply.{replyLadder}
 use Rattle.recover.specs.Records.{crossFor, stampFor, recordsFor}
 use Rattle.session.specs.Writer.{laterOf, timedOf, newTime, leaves, Leaves, timeEnd, timeTurn, writeTurn, acceptedWrite, writeReply, WriteReplyCall}
-use Rattle.session.proofs.Checks.{none-applies, outcome-all}
-use Rattle.session.proofs.Made.{OpenIs, in-range-facts, ended-in-range, open-in-range, end-stands, storing-in-range, rest-set, none-set}
+use Rattle.session.proofs.Checks.{outcome-all}
+use Rattle.session.proofs.Made.{OpenIs, ended-in-range, open-in-range, end-stands, storing-in-range, rest-set, none-set}
 use Rattle.session.proofs.Openings.{accepted-session, accepted-in-range}
 use Rattle.recover.proofs.Records.{length-records}
-use Rattle.session.proofs.Writers.{Taking, taking, time-there}
+use Rattle.session.proofs.Writers.{time-there}
+use Rattle.session.proofs.Known.{Known, known-reply, same, item-is, reply}
 use Rattle.session.proofs.Rules.{StandingIs}
 
 -- a session in its ranges with its desk, which is N·R bytes; its greatest time has 8 bytes
@@ -89,7 +89,7 @@ heard-stands p s n m g h q =
 
 -- a time, write or repair round that stays open
 pub heard-open : (p : Plan) (s : Session) (n : ℕ) (g : Time) (d : List ℕ) → readRound s ≡ false → OpenIs p s d
-    → ltb (heardCount (heardOf s n Record g .marks)) (replies p) ≡ true → OpenIs p (heardOf s n Record g) d
+    → roundOpen p (heardOf s n Record g) ≡ true → OpenIs p (heardOf s n Record g) d
 heard-open p s n g d w o e =
     record {
       stamped = o .stamped;
@@ -105,26 +105,23 @@ module _ (p : Plan) (s : Session) (f d i : List ℕ) (o : Octets f) (k : Kept p 
   Good x = Kept p (x .session) (x .desk)
 
   module _ (e : first (replyLadder Write p s f d (length i)) (λ (j : ℕ). j) 0 ≡ 0) where
-    q : Taking p s f d (length i)
-    q = taking p s f d (length i) e
+    q : Known (replyLadder Write p s f d (length i)) p s d
+    q = known-reply Write p s f d (length i) e
 
     no-read : readRound s ≡ false
-    no-read = rw (q .writes)
-
-    held : StandingIs p s × OpenIs p s d
-    held = in-range-facts p s d (k .range) (none-applies (replyLadder Write p s f d (length i)) refl e .1 .1 .1 .0)
+    no-read = rw (not-true (isRead (s .operation)) (same Write p s f d (length i) q))
 
     module _ (g : Time) (small : g .0 < 256 ^ 8) where
       abbrev u : Session
       u = heardOf s (frameNode f) Record g
 
       stands : StandingIs p u
-      stands = heard-stands p s (frameNode f) Record g (q .reply .node-low) (held .0)
+      stands = heard-stands p s (frameNode f) Record g (reply Write p s f d (length i) q .node-low) (q .stands)
 
-      still : ltb (heardCount (u .marks)) (replies p) ≡ true → Kept p u d
+      still : roundOpen p u ≡ true → Kept p u d
       still c =
           record {
-            range = open-in-range p u d stands (heard-open p s (frameNode f) g d no-read (held .1) c);
+            range = open-in-range p u d stands (heard-open p s (frameNode f) g d no-read (q .opens) c);
             desk-is = k .desk-is;
             clock = small;
           }
@@ -134,17 +131,17 @@ module _ (p : Plan) (s : Session) (f d i : List ℕ) (o : Octets f) (k : Kept p 
 
       in-write : Good (writeTurn p u d)
       unfolding writeTurn
-      in-write = go (ltb (heardCount (u .marks)) (replies p)) refl
+      in-write = go (roundOpen p u) refl
         where
-          go : (c : Bool) → ltb (heardCount (u .marks)) (replies p) ≡ c → Good (cond c (leaves stillOpen u d) (leaves (done (stampNumber (u .stamp)) 0) (endedOf u) d))
+          go : (c : Bool) → roundOpen p u ≡ c → Good (cond c (leaves stillOpen u d) (leaves (done (stampNumber (u .stamp)) 0) (endedOf u) d))
           go true c = still c
           go false c = ends
 
       in-time : Good (timeTurn p u d i)
       unfolding timeTurn timeEnd
-      in-time = go (ltb (heardCount (u .marks)) (replies p)) (eqb (g .0) top) refl refl
+      in-time = go (roundOpen p u) (eqb (g .0) top) refl refl
         where
-          go : (c m : Bool) → ltb (heardCount (u .marks)) (replies p) ≡ c → eqb (g .0) top ≡ m
+          go : (c m : Bool) → roundOpen p u ≡ c → eqb (g .0) top ≡ m
               → Good (cond c (leaves stillOpen u d)
               (cond m (leaves clockSpent (endedOf u) d) (leaves stillOpen (storingOf u (stampFor p (newTime (g .0)) i)) (recordsFor p (newTime (g .0)) i))))
           go true m c v = still c
@@ -153,7 +150,7 @@ module _ (p : Plan) (s : Session) (f d i : List ℕ) (o : Octets f) (k : Kept p 
               let z = eqb-false (g .0) top v in
               record {
                 range = storing-in-range p u (stampFor p (newTime (g .0)) i) _ (q .plan-ok) stands (stamp-low p (newTime (g .0)) i (omega arith) (omega arith));
-                desk-is = length-records p (newTime (g .0)) i (q .lengths .item-is);
+                desk-is = length-records p (newTime (g .0)) i (item-is Write p s f d (length i) q);
                 clock = small;
               }
 

@@ -1,6 +1,7 @@
 pub mod Rules
 pub mod Checks
 pub mod Made
+pub mod Known
 pub mod Openings
 pub mod Oweds
 pub mod Closings

@@ -11,26 +11,26 @@ use lib.ListN.{getD, set, drop, replicate}
 use lib.Seq.{drop-set-lt}
 use Rattle.terms.specs.Ladder.{all, _and_, _or_}
 use Rattle.terms.specs.Terms.{planOk, slotsOf}
-use Rattle.terms.specs.declared.Slots.{Slots}
 use Rattle.terms.specs.declared.Plan.{Plan}
 use Rattle.terms.specs.declared.Timestamp.{Timestamp}
 use Rattle.terms.proofs.Facts.{facts}
 use Rattle.terms.proofs.Rungs.{both}
+use Rattle.terms.specs.declared.Slots.{Slots}
 use Rattle.rounds.specs.declared.Bound.{Bound}
 use Rattle.rounds.specs.declared.Heard.{Heard}
 use Rattle.rounds.specs.declared.Heard.the-variants.{Record}
 use Rattle.rounds.specs.declared.Mark.{Mark}
 use Rattle.rounds.specs.Rounds.{heardCount, unheard, unheards, every, isUnheard, isNotFirst, restUnheard, noneFirst, slotFits, slotsFit}
 use Rattle.session.specs.declared.Session.{Session}
-use Rattle.session.specs.Session.{isRead, isStoring, isEnded, readRound, replies, endedOf, storingOf}
+use Rattle.session.specs.Session.{isRead, isStoring, isEnded, readRound, replies, endedOf, storingOf, roundOpen}
 use Rattle.session.specs.Ranges.{standingRules, openRules, inRange}
-use Rattle.session.proofs.Rules.{holds, last, StandingIs, standing-facts}
+use Rattle.session.proofs.Rules.{holds, last, StandingIs, standing-facts, standing-back}
 
 -- ---- the rules of refusal 9 that an open session meets, as plain facts
 pub record OpenIs (p : Plan) (s : Session) (d : List ℕ) : Type 0 where
   pub stamped : (not (isStoring (s .round .stage)) or leb 1 (s .stamp .time .0)) ≡ true
   pub firsts : (readRound s or noneFirst (s .marks)) ≡ true
-  pub few : ltb (heardCount (s .marks)) (replies p) ≡ true
+  pub few : roundOpen p s ≡ true
   pub slots : (not (readRound s) or slotsFit (s .marks) d (slotsOf p) (s .round .bound) (p .n)) ≡ true
 
 pub open-facts : (p : Plan) (s : Session) (d : List ℕ) → openRules p s d ≡ true → OpenIs p s d
@@ -38,27 +38,22 @@ unfolding openRules all
 open-facts p s d e =
     let e1 = both (not (isStoring (s .round .stage)) or leb 1 (s .stamp .time .0)) _ e in
     let e2 = both (readRound s or noneFirst (s .marks)) _ (e1 .1) in
-    let e3 = both (ltb (heardCount (s .marks)) (replies p)) _ (e2 .1) in
+    let e3 = both (roundOpen p s) _ (e2 .1) in
     let e4 = both (not (readRound s) or slotsFit (s .marks) d (slotsOf p) (s .round .bound) (p .n)) _ (e3 .1) in
     record { stamped = e1 .0; firsts = e2 .0; few = e3 .0; slots = e4 .0 }
 
 module _ (p : Plan) (s : Session) where
-  standing-back : StandingIs p s → standingRules p s ≡ true
-  unfolding standingRules
-  standing-back q =
-      sym (holds _ (q .low) (holds _ (q .high) (holds _ (q .counted) (holds _ (q .bounded) (holds _ (q .rest) (last (sym (q .opening))))))))
-
   open-back : (d : List ℕ) → OpenIs p s d → openRules p s d ≡ true
   unfolding openRules
   open-back d q = sym (holds _ (q .stamped) (holds _ (q .firsts) (holds _ (q .few) (last (sym (q .slots))))))
 
   pub ended-in-range : (d : List ℕ) → StandingIs p s → isEnded (s .round .stage) ≡ true → inRange p s d ≡ true
   unfolding inRange
-  ended-in-range d q e = rw (standing-back q, e)
+  ended-in-range d q e = rw (standing-back p s q, e)
 
   pub open-in-range : (d : List ℕ) → StandingIs p s → OpenIs p s d → inRange p s d ≡ true
   unfolding inRange
-  open-in-range d q o = rw (standing-back q, open-back d o) (go (isEnded (s .round .stage)))
+  open-in-range d q o = rw (standing-back p s q, open-back d o) (go (isEnded (s .round .stage)))
     where
       go : (t : Bool) → (t or true) ≡ true
       go true = refl

@@ -1,17 +1,19 @@
 -- Laws of the opening: its answer's number tells the answer; an accepted opening is in its ranges with any desk, and a refused one's
 -- session with none. Assumes nothing.
-use Prim.Native.Nat.{ℕ}
+use Prim.Native.Nat.{ℕ, _+_}
 use mathlib.Core.Path.{_≡_, refl, sym, ap, _∙_}
 use mathlib.Core.Bool.{Bool, true, false, not}
 use mathlib.Core.List.{List}
 use native.Mathlib.Omega.{arith}
-use borrow.Author.Tests.{le-leb, not-false}
+use borrow.Author.Tests.{leb-true, not-false}
 use Rattle.terms.specs.Ladder.{first, all, _and_, _or_}
-use Rattle.terms.specs.Terms.{planOk, slotsOf, openingOk}
+use Rattle.terms.specs.Terms.{planOk, openingOk, slotsOf}
 use Rattle.terms.specs.declared.Ask.{Ask}
 use Rattle.terms.specs.declared.Plan.{Plan}
 use Rattle.terms.proofs.Plans.{plan-is}
 use Rattle.terms.proofs.Rungs.{refusal-one}
+use Rattle.terms.proofs.Down.{clear}
+use Rattle.terms.specs.Stamp.{top}
 use Rattle.rounds.specs.declared.Bound.the-variants.{Free}
 use Rattle.session.specs.declared.Operation.{Operation}
 use Rattle.session.specs.declared.Operation.the-variants.{Write, Read}
@@ -53,7 +55,7 @@ fresh-in-range : (op : Operation) (p : Plan) (a : Ask) (d : List ℕ) → planOk
 fresh-in-range op p a d k o =
     let q = plan-is p k in
     open-in-range p (freshOf op 1 Free a) d
-    (record { low = refl; high = le-leb 1 (p .w) (q .w-low); counted = counted op; bounded = refl; rest = rest-unheards (p .n); opening = o })
+    (record { low = omega arith; high = q .w-low; counted = counted op; bounded = refl; rest = rest-unheards (p .n); opening = leb-true (a .0 + p .w) top o })
     (record { stamped = refl; firsts = firsts op; few = few-unheards p k; slots = slots op _ (slots-unheards d (slotsOf p) Free (p .n)) })
 
 module _ (op : Operation) (p : Plan) (a : Ask) (r : Opened) (call : OpenCall op p a r) where
@@ -76,5 +78,5 @@ module _ (op : Operation) (p : Plan) (a : Ask) (r : Opened) (call : OpenCall op 
     -- it is in its ranges, with any desk
     pub accepted-in-range : (d : List ℕ) → inRange p (r .session) d ≡ true
     accepted-in-range d =
-        let n = none-applies (openingLadder p (a .0)) refl nothing-refuses in
-        rw accepted-session (fresh-in-range op p a d (not-false (planOk p) (n .0)) (not-false (openingOk p (a .0)) (n .1 .0)))
+        let past = clear (openingLadder p (a .0)) (none-applies (openingLadder p (a .0)) refl nothing-refuses) in
+        rw accepted-session (fresh-in-range op p a d (not-false (planOk p) (past 1)) (not-false (openingOk p (a .0)) (past 13)))

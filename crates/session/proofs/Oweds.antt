@@ -4,18 +4,17 @@ use mathlib.Core.Path.{_≡_, refl, sym, ap, _∙_}
 use mathlib.Core.Bool.{Bool, true, false}
 use mathlib.Core.List.{List, []}
 use native.Mathlib.Omega.{arith}
-use borrow.Author.Tests.{eqb-true, leb-true, ltb-true, not-false}
-use lib.Dec.{eqb, ltb}
+use borrow.Author.Tests.{ltb-true, not-false}
+use lib.Dec.{ltb}
 use lib.ListN.{length}
 use Rattle.octets.specs.Bytes.{part, over, be}
 use Rattle.terms.specs.Ladder.{first}
-use Rattle.terms.specs.Terms.{planOk, recordLength, refusalNumber}
-use Rattle.terms.specs.Stamp.{stampNumber, top}
+use Rattle.terms.specs.Terms.{recordLength, refusalNumber}
+use Rattle.terms.specs.Stamp.{stampNumber}
 use Rattle.terms.specs.declared.Plan.{Plan}
 use Rattle.terms.specs.declared.Refusal.{Refusal}
 use Rattle.terms.specs.declared.Timestamp.{Timestamp}
-use Rattle.terms.proofs.Plans.{plan-is}
-use Rattle.terms.proofs.Rungs.{both, refusal-one}
+use Rattle.terms.proofs.Rungs.{refusal-one}
 use Rattle.frame.specs.Frame.{frame}
 use Rattle.frame.proofs.Built.{length-frame}
 use Rattle.rounds.specs.declared.Bound.{Bound}
@@ -26,45 +25,19 @@ use Rattle.session.specs.declared.Check.the-variants.{Failed}
 use Rattle.session.specs.declared.owed.Owed.{Owed}
 use Rattle.session.specs.declared.owed.Owed.the-variants.{Refused, Request}
 use Rattle.session.specs.Session.{isRead, isStoring, askNow}
-use Rattle.session.specs.Ranges.{inRange}
 use Rattle.session.specs.Reply.{checkNumber}
 use Rattle.session.specs.Owed.{roomOk, owedLadder, readRequest, requestOf, refused, written, dueOf, dues, owedTo}
-use Rattle.session.proofs.Checks.{none-applies, goes-on, check-failed}
-use Rattle.session.proofs.Rules.{in-range-is}
+use Rattle.session.proofs.Checks.{goes-on, check-failed}
+use Rattle.session.proofs.Rules.{room-is}
+use Rattle.session.proofs.Known.{Known}
 
--- ---- lengths
-pub record Room (p : Plan) (desk request : ℕ) : Type 0 where
-  pub desk-is : desk ≡ p .n * recordLength p
-  pub request-low : recordLength p + 15 ≤ request
-
-pub room-is : (p : Plan) (desk request : ℕ) → roomOk p desk request ≡ true → Room p desk request
-unfolding roomOk
-room-is p desk request e =
-    let q = both (eqb desk (p .n * recordLength p)) _ e in
-    record { desk-is = eqb-true _ _ (q .0); request-low = leb-true _ _ (q .1) }
-
--- ---- what is known where nothing refuses
-pub record Owing (p : Plan) (s : Session) (node : ℕ) (d : List ℕ) (request : ℕ) : Type 0 where
-  pub plan-ok : planOk p ≡ true
-  pub room : Room p (length d) request
-  pub round-low : 1 ≤ s .round .number
-  pub ask-high : s .opening .0 + s .round .number ≤ top
+-- ---- what is known of the node and the buffer where nothing refuses
+module _ (p : Plan) (s : Session) (node : ℕ) (d : List ℕ) (request : ℕ) (o : Known (owedLadder p s node d request) p s d) where
   pub node-low : node < p .n
+  node-low = ltb-true node (p .n) (not-false (ltb node (p .n)) (o .past 4))
 
-pub owing : (p : Plan) (s : Session) (node : ℕ) (d : List ℕ) (request : ℕ) → first (owedLadder p s node d request) (λ (k : ℕ). k) 0 ≡ 0
-    → Owing p s node d request
-owing p s node d request e =
-    let n = none-applies (owedLadder p s node d request) refl e in
-    let ok = not-false (planOk p) (n .0) in
-    let q = plan-is p ok in
-    let st = in-range-is p s d (inRange p s d) refl (not-false (inRange p s d) (n .1 .1 .0)) in
-    record {
-      plan-ok = ok;
-      room = room-is p (length d) request (not-false (roomOk p (length d) request) (n .1 .0));
-      round-low = st .round-low;
-      ask-high = omega arith;
-      node-low = ltb-true _ _ (not-false (ltb node (p .n)) (n .1 .1 .1 .1 .0));
-    }
+  pub request-low : recordLength p + 15 ≤ request
+  request-low = room-is p (length d) request (not-false (roomOk p (length d) request) (o .past 2)) .request-low
 
 -- ---- the frame of the round
 -- a frame that was written, and its length

@@ -4,17 +4,15 @@ use mathlib.Core.Bool.{Bool, true, false}
 use mathlib.Core.List.{List}
 use Prim.Native.Nat.{ℕ, _+_, _-_, _*_, _≤_, _<_}
 use native.Mathlib.Omega.{arith}
-use borrow.Author.Tests.{lt-ltb, le-ltb, lt-leb, le-leb, eqb-true, not-false}
+use borrow.Author.Tests.{lt-leb, le-leb, eqb-true}
 use lib.Dec.{eqb}
 use lib.ListN.{length, getD}
 use lib.Seq.{getD-take}
 use Rattle.octets.specs.Bytes.{part, put}
 use Rattle.octets.proofs.Laws.{slot-room}
-use Rattle.terms.specs.Ladder.{first, None}
+use Rattle.terms.specs.Ladder.{first}
 use Rattle.terms.specs.declared.Refusal.{Refusal}
-use Rattle.terms.specs.Terms.{planOk, recordLength, slotsOf, thresholdsOf, refusalNumber}
-use Rattle.terms.specs.declared.Slots.{Slots}
-use Rattle.terms.specs.declared.Thresholds.{Thresholds}
+use Rattle.terms.specs.Terms.{planOk, recordLength, refusalNumber, slotsOf, thresholdsOf}
 use Rattle.terms.specs.Stamp.{stamp, stampNumber}
 use Rattle.terms.specs.declared.Plan.{Plan}
 use Rattle.terms.specs.declared.Timestamp.{Timestamp}
@@ -23,24 +21,26 @@ use Rattle.terms.specs.declared.Verdict.the-variants.{Complete, Repair, Aborted
 use Rattle.terms.proofs.Rungs.{both}
 use Rattle.terms.proofs.Plans.{plan-is}
 use Rattle.fragments.proofs.Lists.{all-at}
+use Rattle.terms.specs.declared.Slots.{Slots}
+use Rattle.terms.specs.declared.Thresholds.{Thresholds}
 use Rattle.frame.specs.Frame.{kindOf, frameNode, bodyOf, goodReply}
 use Rattle.frame.proofs.Frames.{reply-is, body-is}
 use Rattle.rounds.specs.declared.Heard.the-variants.{First, Record}
 use Rattle.rounds.specs.declared.Lead.the-variants.{Nobody, Node}
 use Rattle.rounds.specs.declared.Close.{Close}
 use Rattle.record.specs.Record.{hashesOk}
-use Rattle.rounds.specs.Rounds.{heardCount, listed, told, Closed, closeOf}
+use Rattle.rounds.specs.Rounds.{listed, told, Closed, closeOf}
 use Rattle.rounds.proofs.Laws.{size-is}
 use Rattle.recover.specs.Recover.{sound, decoded, collected, repaired, Usable}
 use Rattle.session.specs.declared.Session.{Session}
-use Rattle.session.specs.Session.{isStoring, replies, markedOf, endedOf, nextOf, storingOf, stillOpen, done, neverWritten, aborted, roundsSpent, refused}
+use Rattle.session.specs.Session.{isStoring, markedOf, endedOf, nextOf, storingOf, stillOpen, done, neverWritten, aborted, roundsSpent, refused, roundOpen}
 use Rattle.session.specs.declared.Check.{Check}
 use Rattle.session.specs.declared.Check.the-variants.{Passed, Failed}
 use Rattle.session.specs.declared.Operation.{Operation}
 use Rattle.session.specs.declared.Operation.the-variants.{Read}
-use Rattle.session.specs.Reply.{bears, lengthsOk, replyLadder, recordLadder, checkNumber}
-use Rattle.session.proofs.Rules.{lengths-are}
-use Rattle.session.proofs.Checks.{none-applies, goes-on as ladder-goes-on, check-passed, check-failed}
+use Rattle.session.specs.Reply.{bears, replyLadder, recordLadder, checkNumber}
+use Rattle.session.proofs.Known.{Known, known-reply}
+use Rattle.session.proofs.Checks.{goes-on as ladder-goes-on, check-passed, check-failed}
 use Rattle.session.proofs.Closings.{Led, led, lead-low, nodes-below, sized, sized-whole}
 use Rattle.session.specs.Reader.{Outcome, outcome, failing, actOn, actFor, acted, closed, settled, heard, stored, accepted, readReply, Acting}
 
@@ -125,14 +125,23 @@ module _ (p : Plan) (s : Session) (d : List ℕ) (c : Close) (ok : planOk p ≡ 
       }
 
 -- ---- after a mark
-module _ (p : Plan) (s : Session) (d i : List ℕ) (n : ℕ) (e : n ≡ heardCount (s .marks)) where
-  pub settled-open : n < p .n - p .t → outcome stillOpen s d i ≡ settled p s d i
+module _ (p : Plan) (s : Session) (d i : List ℕ) (x : Bool) (e : x ≡ roundOpen p s) where
+  pub settled-open : x ≡ true → outcome stillOpen s d i ≡ settled p s d i
   unfolding settled
-  settled-open h = rw (lt-ltb (heardCount (s .marks)) (replies p) (omega arith))
+  settled-open h = rw (← e, h)
 
-  pub settled-acts : (o : Outcome) (c : Closed) → p .n - p .t ≤ n → c ≡ closed p s d → o ≡ acted p s c d i → o ≡ settled p s d i
+  pub settled-acts : (o : Outcome) (c : Closed) → x ≡ false → c ≡ closed p s d → o ≡ acted p s c d i → o ≡ settled p s d i
   unfolding settled
-  settled-acts o c h k q = q ∙ rw (k, le-ltb (heardCount (s .marks)) (replies p) (omega arith))
+  settled-acts o c h k q = q ∙ rw (k, ← e, h)
+
+  pub stored-open : x ≡ true → outcome stillOpen s d i ≡ stored p s d i
+  unfolding stored
+  stored-open h = rw (← e, h)
+
+  pub stored-done : (o : Session) (y : List ℕ) → x ≡ false → o ≡ endedOf s → y ≡ collected p d i
+      → outcome (done (stampNumber (s .stamp)) (s .round .number)) o d y ≡ stored p s d i
+  unfolding stored
+  stored-done o y h q r = rw (← e, h, q, r)
 
 -- ---- an accepted reply
 module _ (p : Plan) (s : Session) (f d i : List ℕ) (x : Bool) (b : x ≡ bears p f) where
@@ -155,49 +164,19 @@ bears-is p f x e t =
 pub body-at : (p : Plan) (f : List ℕ) (r : ℕ) → r ≡ recordLength p → length f ≡ 15 + recordLength p → part f 15 r ≡ bodyOf f
 body-at p f r e l = rw e (sym (body-is 15 f (recordLength p) l))
 
--- an accepted reply of a repair round
-module _ (p : Plan) (s m : Session) (f d i : List ℕ) (k n : ℕ) (e : k ≡ frameNode f) (g : m ≡ markedOf s k Record) (c : n ≡ heardCount (m .marks)) where
-  marks-are : n ≡ heardCount (markedOf s (frameNode f) Record .marks)
-  marks-are = c ∙ rw (g, e)
-
-  pub stored-open : n < p .n - p .t → outcome stillOpen m d i ≡ stored p s f d i
-  unfolding stored
-  stored-open h = rw (lt-ltb (heardCount (markedOf s (frameNode f) Record .marks)) (replies p) (omega (arith, marks-are)), g, e)
-
-  pub stored-done : (o : Session) (y : List ℕ) → p .n - p .t ≤ n → o ≡ endedOf m → y ≡ collected p d i
-      → outcome (done (stampNumber (s .stamp)) (s .round .number)) o d y ≡ stored p s f d i
-  unfolding stored
-  stored-done o y h q r = rw (le-ltb (heardCount (markedOf s (frameNode f) Record .marks)) (replies p) (omega (arith, marks-are)), q, g, e, r)
-
-pub accept-stored : (p : Plan) (s : Session) (f d i : List ℕ) (x : Bool) (o : Outcome) → x ≡ isStoring (s .round .stage) → x ≡ true → o ≡ stored p s f d i → o ≡ accepted p s f d i
+pub accept-stored : (p : Plan) (s : Session) (f d i : List ℕ) (x : Bool) (k : ℕ) (m : Session) (o : Outcome) → x ≡ isStoring (s .round .stage) → x ≡ true
+    → k ≡ frameNode f → m ≡ markedOf s k Record → o ≡ stored p m d i → o ≡ accepted p s f d i
 unfolding accepted
-accept-stored p s f d i x o e t q = q ∙ rw (← e, t)
+accept-stored p s f d i x k m o e t n g q = q ∙ rw (← e, t, g, n)
 
 pub accept-heard : (p : Plan) (s : Session) (f d i : List ℕ) (x : Bool) (o : Outcome) → x ≡ isStoring (s .round .stage) → x ≡ false → o ≡ heard p s f d i → o ≡ accepted p s f d i
 unfolding accepted
 accept-heard p s f d i x o e t q = q ∙ rw (← e, t)
 
 -- what is known where a reply passed
-pub record Passes (p : Plan) (f d : List ℕ) (item : ℕ) : Type 0 where
-  pub plan : planOk p ≡ true
-  pub frame : goodReply p f ≡ true
-  pub desk : length d ≡ p .n * recordLength p
-  pub item-is : item ≡ p .m * p .f
-
-module _ (op : Operation) (p : Plan) (s : Session) (f d : List ℕ) (item : ℕ) (k : Check) (e : checkNumber k ≡ first (replyLadder op p s f d item) (λ (n : ℕ). n) 0) where
-  check-none : k ≡ Passed → None (replyLadder op p s f d item)
-  check-none q = none-applies (replyLadder op p s f d item) refl (check-passed (replyLadder op p s f d item) k e q)
-
-  pub check-passes : k ≡ Passed → Passes p f d item
-  check-passes q =
-      let n = check-none q in
-      let l = lengths-are p (length d) item (not-false (lengthsOk p (length d) item) (n .1 .0)) in
-      record {
-        plan = not-false (planOk p) (n .0);
-        frame = not-false (goodReply p f) (n .1 .1 .1 .1 .0);
-        desk = l .desk-is;
-        item-is = l .item-is;
-      }
+pub check-passes : (op : Operation) (p : Plan) (s : Session) (f d : List ℕ) (item : ℕ) (k : Check) → checkNumber k ≡ first (replyLadder op p s f d item) (λ (n : ℕ). n) 0 → k ≡ Passed
+    → Known (replyLadder op p s f d item) p s d
+check-passes op p s f d item k e q = known-reply op p s f d item (check-passed (replyLadder op p s f d item) k e q)
 
 -- ---- the call
 module _ (p : Plan) (s : Session) (f d i : List ℕ) (k : Check) (e : checkNumber k ≡ first (replyLadder Read p s f d (length i)) (λ (n : ℕ). n) 0) where

@@ -1,11 +1,11 @@
 -- How code goes down a list of rules, and what is known when all hold. Assumes nothing.
-use mathlib.Core.Path.{_≡_, refl, sym, ap, ap₂, _∙_}
+use mathlib.Core.Path.{_≡_, refl, sym, ap, _∙_}
 use mathlib.Core.Bool.{Bool, true, false, not}
 use mathlib.Core.List.{List, [], _∷_}
-use Prim.Native.Nat.{ℕ, _+_, _*_, _≤_}
+use Prim.Native.Nat.{ℕ, _+_, _*_, _≤_, _<_}
 use native.Mathlib.Nat.{le-trans, mul-le-mul-right, mul-le-mul-left}
 use native.Mathlib.Omega.{arith}
-use borrow.Author.Tests.{leb-true, eqb-true, not-false}
+use borrow.Author.Tests.{leb-true, le-leb, eqb-true, ltb-true, ltb-false, lt-ltb, le-ltb, eq-eqb, ne-eqb}
 use lib.ListN.{length}
 use lib.Dec.{leb, eqb}
 use Rattle.terms.specs.Ladder.{all, _and_, _or_}
@@ -16,14 +16,14 @@ use Rattle.terms.proofs.Stamps.{stamp-at-number}
 use Rattle.terms.proofs.Rungs.{both}
 use Rattle.terms.proofs.Picks.{itself}
 use Rattle.octets.specs.Bytes.{part, num}
-use Rattle.frame.specs.Frame.{kindOf, askOf, bodyOf, answersTo}
+use Rattle.frame.specs.Frame.{kindOf, askOf, bodyOf}
 use Rattle.frame.proofs.Frames.{ReplyIs, length-4}
-use Rattle.rounds.specs.Rounds.{restUnheard}
+use Rattle.rounds.specs.Rounds.{restUnheard, heardCount}
 use Rattle.session.specs.declared.Session.{Session}
-use Rattle.session.specs.declared.Operation.{Operation}
-use Rattle.session.specs.Session.{isRead, isStoring, askNow, kindAwaited}
-use Rattle.session.specs.Reply.{awaited, lengthsOk, sameOperation}
+use Rattle.session.specs.Session.{isRead, isStoring, replies, askNow, awaitsKind, roundOpen}
+use Rattle.session.specs.Reply.{awaited, lengthsOk}
 use Rattle.terms.specs.Terms.{recordLength, openingOk}
+use Rattle.session.specs.Owed.{roomOk}
 use Rattle.session.specs.Ranges.{boundOk, standingRules, inRange}
 
 -- a rule that fails; one that holds; the last
@@ -46,6 +46,9 @@ and-fails b e = rw e
 pub and-last : {a b z : Bool} → a ≡ true → z ≡ b → z ≡ (a and b)
 and-last e p = rw e p
 
+pub and-second : (a b : Bool) → (a and b) ≡ true → b ≡ true
+and-second a b e = both a b e .1
+
 pub or-holds : {a : Bool} (b : Bool) → a ≡ true → true ≡ (a or b)
 or-holds b e = rw e
 
@@ -58,12 +61,12 @@ product-low a b x y h k = le-trans (mul-le-mul-right b h) (mul-le-mul-left x k)
 
 -- ---- the rules of refusal 9 that every session meets, as plain facts
 pub record StandingIs (p : Plan) (s : Session) : Type 0 where
-  pub low : leb 1 (s .round .number) ≡ true
-  pub high : leb (s .round .number) (p .w) ≡ true
+  pub low : 1 ≤ s .round .number
+  pub high : s .round .number ≤ p .w
   pub counted : (isRead (s .operation) or eqb (s .round .number) 1) ≡ true
   pub bounded : boundOk (s .round .bound) (s .round .number) ≡ true
   pub rest : restUnheard (s .marks) (p .n) ≡ true
-  pub opening : openingOk p (s .opening .0) ≡ true
+  pub opening : s .opening .0 + p .w ≤ top
 
 pub standing-facts : (p : Plan) (s : Session) → standingRules p s ≡ true → StandingIs p s
 unfolding standingRules all
@@ -74,23 +77,21 @@ standing-facts p s e =
     let e4 = both (boundOk (s .round .bound) (s .round .number)) _ (e3 .1) in
     let e5 = both (restUnheard (s .marks) (p .n)) _ (e4 .1) in
     let e6 = both (openingOk p (s .opening .0)) _ (e5 .1) in
-    record { low = e1 .0; high = e2 .0; counted = e3 .0; bounded = e4 .0; rest = e5 .0; opening = e6 .0 }
+    record { low = leb-true _ _ (e1 .0); high = leb-true _ _ (e2 .0); counted = e3 .0; bounded = e4 .0; rest = e5 .0; opening = leb-true _ _ (e6 .0) }
 
--- the numbers that they bound
-pub record Standing (p : Plan) (s : Session) : Type 0 where
-  pub round-low : 1 ≤ s .round .number
-  pub round-high : s .round .number ≤ p .w
-  pub ask-high : s .opening .0 + p .w ≤ top
+pub standing-back : (p : Plan) (s : Session) → StandingIs p s → standingRules p s ≡ true
+unfolding standingRules
+standing-back p s q =
+    sym (holds _ (le-leb 1 (s .round .number) (q .low)) (holds _ (le-leb (s .round .number) (p .w) (q .high))
+    (holds _ (q .counted) (holds _ (q .bounded) (holds _ (q .rest) (last (sym (le-leb (s .opening .0 + p .w) top (q .opening)))))))))
 
-pub in-range-is : (p : Plan) (s : Session) (d : List ℕ) (x : Bool) → x ≡ inRange p s d → x ≡ true → Standing p s
+pub range-stands : (p : Plan) (s : Session) (d : List ℕ) → inRange p s d ≡ true → StandingIs p s
 unfolding inRange
-in-range-is p s d x e t =
-    let q = standing-facts p s (both (standingRules p s) _ (sym e ∙ t) .0) in
-    record { round-low = leb-true _ _ (q .low); round-high = leb-true _ _ (q .high); ask-high = leb-true _ _ (q .opening) }
+range-stands p s d e = standing-facts p s (both (standingRules p s) _ e .0)
 
-pub range-stands : (op : Operation) (p : Plan) (s : Session) (d : List ℕ) → not (sameOperation op (s .operation) and inRange p s d) ≡ false → Standing p s
-range-stands op p s d e =
-    in-range-is p s d (inRange p s d) refl (both (sameOperation op (s .operation)) (inRange p s d) (not-false (sameOperation op (s .operation) and inRange p s d) e) .1)
+-- the ask number of every round has room
+pub ask-high : (p : Plan) (s : Session) → StandingIs p s → s .opening .0 + s .round .number ≤ top
+ask-high p s q = omega (arith, q .high, q .opening)
 
 -- a write reply bears a timestamp
 pub reply-stamped : (p : Plan) (f : List ℕ) → ReplyIs p f → kindOf f ≡ 4 → 55 ≤ length f
@@ -101,30 +102,61 @@ pub body-stamp : (f : List ℕ) → num (part f 15 40) ≡ stamp (bodyOf f)
 unfolding part
 body-stamp f = refl
 
+-- ---- the round is open, or over
+module _ (p : Plan) (s : Session) where
+  pub few-open : heardCount (s .marks) < replies p → roundOpen p s ≡ true
+  few-open h = lt-ltb (heardCount (s .marks)) (replies p) h
+
+  pub many-over : replies p ≤ heardCount (s .marks) → roundOpen p s ≡ false
+  many-over h = le-ltb (heardCount (s .marks)) (replies p) h
+
+  pub open-few : roundOpen p s ≡ true → heardCount (s .marks) < replies p
+  open-few e = ltb-true (heardCount (s .marks)) (replies p) e
+
+  pub over-many : roundOpen p s ≡ false → replies p ≤ heardCount (s .marks)
+  over-many e = ltb-false (heardCount (s .marks)) (replies p) e
+
+-- ---- the kinds that a round awaits
+module _ (s : Session) (k : ℕ) (e : awaitsKind s k ≡ true) where
+  pub kind-stored : isStoring (s .round .stage) ≡ true → k ≡ 4
+  unfolding awaitsKind
+  kind-stored g = eqb-true k 4 (rw g at e)
+
+  pub kind-timed : isStoring (s .round .stage) ≡ false → isRead (s .operation) ≡ false → k ≡ 2
+  unfolding awaitsKind
+  kind-timed g h = eqb-true k 2 (rw (g, h) at e)
+
 -- ---- what a round awaits, tested one after the other
-module _ (s : Session) (f : List ℕ) (ask kind : ℕ) (a : ask ≡ askNow s) (k : kind ≡ kindAwaited s) (z : Bool) (w : z ≡ answersTo f ask kind) where
-  answered : z ≡ answersTo f (askNow s) (kindAwaited s)
-  answered = w ∙ ap₂ (answersTo f) a k
+module _ (s : Session) (f : List ℕ) (ask here : ℕ) (a : ask ≡ askNow s) (h : here ≡ askOf f) where
+  pub other-ask : (here ≡ ask → ⊥) → false ≡ awaited s f
+  unfolding awaited
+  other-ask n = and-fails _ (ne-eqb (askOf f) (askNow s) (λ e. n (h ∙ e ∙ sym a)))
 
-  pub not-answered : z ≡ false → false ≡ awaited s f
-  not-answered n = unfold awaited in rw (← answered, n)
+  module _ (same : here ≡ ask) (kind : ℕ) (w : kind ≡ kindOf f) (x : Bool) (k : x ≡ awaitsKind s kind) where
+    asked : eqb (askOf f) (askNow s) ≡ true
+    asked = eq-eqb (askOf f) (askNow s) (sym h ∙ same ∙ a)
 
-  module _ (y : z ≡ true) (x : Bool) (g : x ≡ isStoring (s .round .stage)) where
-    pub no-stamp : x ≡ false → true ≡ awaited s f
-    no-stamp e = unfold awaited in rw (← answered, y, ← g, e)
+    fits : x ≡ awaitsKind s (kindOf f)
+    fits = k ∙ ap (awaitsKind s) w
 
-    -- a write reply bears a timestamp, which is compared
-    pub stamp-there : x ≡ true → (kindOf f ≡ 4 → 55 ≤ length f) → 55 ≤ length f
-    stamp-there e h =
-        let q : kindAwaited s ≡ 4 = unfold kindAwaited in rw (← g, e) in
-        let b = both (eqb (askOf f) (askNow s)) (eqb (kindOf f) (kindAwaited s)) (sym answered ∙ y) in
-        h (eqb-true (kindOf f) (kindAwaited s) (b .1) ∙ q)
-
-    pub stamp-told : x ≡ true → (t : Timestamp) (o : Bool) → t ≡ stampAt f 15 → 55 ≤ length f → o ≡ eqb (stampNumber t) (stampNumber (s .stamp)) → o ≡ awaited s f
+    pub other-kind : x ≡ false → false ≡ awaited s f
     unfolding awaited
-    stamp-told e t o p l q =
-        let n : stampNumber t ≡ stamp (bodyOf f) = ap stampNumber p ∙ stamp-at-number f 15 l ∙ body-stamp f in
-        q ∙ rw (← answered, y, ← g, e, n)
+    other-kind e = and-last asked (and-fails _ (sym fits ∙ e))
+
+    module _ (t : x ≡ true) (y : Bool) (g : y ≡ isStoring (s .round .stage)) where
+      pub no-stamp : y ≡ false → true ≡ awaited s f
+      unfolding awaited
+      no-stamp e = and-last asked (and-last (sym fits ∙ t) (or-holds _ (ap not (sym g ∙ e))))
+
+      -- a write reply bears a timestamp, which is compared
+      pub stamp-there : y ≡ true → (kindOf f ≡ 4 → 55 ≤ length f) → 55 ≤ length f
+      stamp-there e l = l (kind-stored s (kindOf f) (sym fits ∙ t) (sym g ∙ e))
+
+      pub stamp-told : y ≡ true → (u : Timestamp) (o : Bool) → u ≡ stampAt f 15 → 55 ≤ length f → o ≡ eqb (stampNumber u) (stampNumber (s .stamp)) → o ≡ awaited s f
+      unfolding awaited
+      stamp-told e u o p l q =
+          let n : stampNumber u ≡ stamp (bodyOf f) = ap stampNumber p ∙ stamp-at-number f 15 l ∙ body-stamp f in
+          and-last asked (and-last (sym fits ∙ t) (or-last (ap not (sym g ∙ e)) (q ∙ ap (λ (m : ℕ). eqb m (stampNumber (s .stamp))) n)))
 
 -- ---- lengths
 pub record Lengths (p : Plan) (desk item : ℕ) : Type 0 where
@@ -139,3 +171,13 @@ lengths-are p desk item e =
 
 pub desk-fits : (p : Plan) (desk item : ℕ) → lengthsOk p desk item ≡ true → desk ≡ p .n * recordLength p
 desk-fits p desk item e = lengths-are p desk item e .desk-is
+
+pub record Room (p : Plan) (desk request : ℕ) : Type 0 where
+  pub desk-is : desk ≡ p .n * recordLength p
+  pub request-low : recordLength p + 15 ≤ request
+
+pub room-is : (p : Plan) (desk request : ℕ) → roomOk p desk request ≡ true → Room p desk request
+unfolding roomOk
+room-is p desk request e =
+    let q = both (eqb desk (p .n * recordLength p)) _ e in
+    record { desk-is = eqb-true _ _ (q .0); request-low = leb-true _ _ (q .1) }

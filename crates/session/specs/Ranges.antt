@@ -14,9 +14,9 @@ use Rattle.terms.specs.Terms.{slotsOf, openingOk}
 use Rattle.terms.specs.declared.Plan.{Plan}
 use Rattle.rounds.specs.declared.Bound.{Bound}
 use Rattle.rounds.specs.declared.Bound.the-variants.{Free, Under}
-use Rattle.rounds.specs.Rounds.{heardCount, restUnheard, noneFirst, slotsFit}
+use Rattle.rounds.specs.Rounds.{restUnheard, noneFirst, slotsFit}
 use Rattle.session.specs.declared.Session.{Session}
-use Rattle.session.specs.Session.{isRead, isStoring, isEnded, readRound, replies}
+use Rattle.session.specs.Session.{isRead, isStoring, isEnded, readRound, roundOpen}
 
 abbrev pub boundOk : Bound → ℕ → Bool
 boundOk Free round = leb round 1
@@ -40,7 +40,7 @@ openRules p s d =
     all (
     (not (isStoring (s .round .stage)) or leb 1 (s .stamp .time .0)) ∷
     (readRound s or noneFirst (s .marks)) ∷
-    ltb (heardCount (s .marks)) (replies p) ∷
+    roundOpen p s ∷
     (not (readRound s) or slotsFit (s .marks) d (slotsOf p) (s .round .bound) (p .n)) ∷ [])
 
 -- "An ended session meets only the rules on round, bound, opening ask and marks from N on."

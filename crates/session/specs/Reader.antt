@@ -1,11 +1,10 @@
 -- The reader. Document 01, "The client", reading, and Figure 3 of the report: an accepted reply is a mark, and a record in its slot; at
 -- N-t replies the round closes, and the reader acts on the close.
 --   Outcome outcome    the answer, the session, the desk and the item as a call leaves them
---   heard              the session and the desk after an accepted reply of a read round
+--   heard              an accepted reply of a read round: marked, then settled
 --   failing            incomplete, or validation failed
 --   acted              what a closed round comes to
---   settled            still open, or closed and acted on
---   stored             an accepted reply of a repair round
+--   settled stored     a read round and a repair round after a mark: still open, or closed and acted on
 --   readReply ReadReplyCall   the call and its contract
 -- Assumes nothing.
 use Prim.Native.Nat.{ℕ, _*_}
@@ -13,7 +12,7 @@ use mathlib.Core.Path.{_≡_}
 use mathlib.Core.Bool.{true, cond}
 use mathlib.Core.List.{List}
 use lib.ListN.{length}
-use lib.Dec.{ltb, leb}
+use lib.Dec.{leb}
 use Rattle.octets.specs.Bytes.{put}
 use Rattle.terms.specs.Ladder.{first}
 use Rattle.terms.specs.Terms.{planOk, recordLength, slotsOf, thresholdsOf}
@@ -27,11 +26,11 @@ use Rattle.rounds.specs.declared.Heard.the-variants.{First, Record}
 use Rattle.rounds.specs.declared.Close.{Close}
 use Rattle.rounds.specs.declared.Lead.{Lead}
 use Rattle.rounds.specs.declared.Lead.the-variants.{Nobody, Node}
-use Rattle.rounds.specs.Rounds.{heardCount, Closed, closeOf}
+use Rattle.rounds.specs.Rounds.{Closed, closeOf}
 use Rattle.recover.specs.Recover.{sound, decoded, collected, repaired, Usable}
 use Rattle.session.specs.declared.Session.{Session}
 use Rattle.session.specs.declared.Took.{Took}
-use Rattle.session.specs.Session.{isStoring, replies, markedOf, endedOf, nextOf, storingOf, Said, refused, stillOpen, done, neverWritten, aborted, roundsSpent, saidOf}
+use Rattle.session.specs.Session.{isStoring, roundOpen, markedOf, endedOf, nextOf, storingOf, Said, refused, stillOpen, done, neverWritten, aborted, roundsSpent, saidOf}
 use Rattle.session.specs.Reply.{bears, readLadder}
 
 pub record Outcome : Type 0 where
@@ -67,7 +66,7 @@ abbrev pub closed : Plan → Session → List ℕ → Closed
 closed p s d = closeOf (s .marks) d (slotsOf p) (p .member) (thresholdsOf p)
 
 unfoldable pub settled : Plan → Session → List ℕ → List ℕ → Outcome
-settled p s d i = cond (ltb (heardCount (s .marks)) (replies p)) (outcome stillOpen s d i) (acted p s (closed p s d) d i)
+settled p s d i = cond (roundOpen p s) (outcome stillOpen s d i) (acted p s (closed p s d) d i)
 
 -- "it holds one mark for each of 16 nodes: unheard, first triple, or record"; "A first triple leaves its slot"
 unfoldable pub heard : Plan → Session → List ℕ → List ℕ → List ℕ → Outcome
@@ -75,14 +74,14 @@ heard p s f d i =
     cond (bears p f) (settled p (markedOf s (frameNode f) Record) (put d (frameNode f * recordLength p) (bodyOf f)) i)
     (settled p (markedOf s (frameNode f) First) d i)
 
--- "In a time or write round a heard node is marked 'record'"; "after a repair round the item is read from the desk's first m slots"
-unfoldable pub stored : Plan → Session → List ℕ → List ℕ → List ℕ → Outcome
-stored p s f d i =
-    cond (ltb (heardCount (markedOf s (frameNode f) Record .marks)) (replies p)) (outcome stillOpen (markedOf s (frameNode f) Record) d i)
-    (outcome (done (stampNumber (s .stamp)) (s .round .number)) (endedOf (markedOf s (frameNode f) Record)) d (collected p d i))
+-- "after a repair round the item is read from the desk's first m slots"
+unfoldable pub stored : Plan → Session → List ℕ → List ℕ → Outcome
+stored p s d i =
+    cond (roundOpen p s) (outcome stillOpen s d i) (outcome (done (stampNumber (s .stamp)) (s .round .number)) (endedOf s) d (collected p d i))
 
+-- "In a time or write round a heard node is marked 'record'"
 unfoldable pub accepted : Plan → Session → List ℕ → List ℕ → List ℕ → Outcome
-accepted p s f d i = cond (isStoring (s .round .stage)) (stored p s f d i) (heard p s f d i)
+accepted p s f d i = cond (isStoring (s .round .stage)) (stored p (markedOf s (frameNode f) Record) d i) (heard p s f d i)
 
 -- one reply: the first refusal that applies hands back everything as it came; where none does, it is accepted
 unfoldable pub readReply : Plan → Session → List ℕ → List ℕ → List ℕ → Outcome

@@ -17,7 +17,7 @@ use Rattle.terms.specs.Ladder.{Rung, on, _and_, _or_}
 use Rattle.terms.specs.Terms.{planOk, recordLength, refusalNumber}
 use Rattle.terms.specs.Stamp.{stamp, stampNumber}
 use Rattle.terms.specs.declared.Plan.{Plan}
-use Rattle.frame.specs.Frame.{kindOf, frameNode, bodyOf, goodReply, answersTo}
+use Rattle.frame.specs.Frame.{kindOf, frameNode, askOf, bodyOf, goodReply}
 use Rattle.record.specs.Record.{hashesOk, timeZero}
 use Rattle.rounds.specs.Rounds.{heardAt, underOf}
 use Rattle.session.specs.declared.Session.{Session}
@@ -25,7 +25,7 @@ use Rattle.session.specs.declared.Check.{Check}
 use Rattle.session.specs.declared.Check.the-variants.{Passed, Failed}
 use Rattle.session.specs.declared.Operation.{Operation}
 use Rattle.session.specs.declared.Operation.the-variants.{Write, Read}
-use Rattle.session.specs.Session.{isRead, isStoring, isEnded, askNow, kindAwaited}
+use Rattle.session.specs.Session.{isRead, isStoring, isEnded, askNow, awaitsKind}
 use Rattle.session.specs.Ranges.{inRange}
 
 unfoldable pub lengthsOk : Plan → ℕ → ℕ → Bool
@@ -36,7 +36,8 @@ sameOperation Read o = isRead o
 sameOperation Write o = not (isRead o)
 
 unfoldable pub awaited : Session → List ℕ → Bool
-awaited s f = answersTo f (askNow s) (kindAwaited s) and (not (isStoring (s .round .stage)) or eqb (stamp (bodyOf f)) (stampNumber (s .stamp)))
+awaited s f =
+    eqb (askOf f) (askNow s) and awaitsKind s (kindOf f) and (not (isStoring (s .round .stage)) or eqb (stamp (bodyOf f)) (stampNumber (s .stamp)))
 
 unfoldable pub isHeard : Session → ℕ → Bool
 isHeard s i = heardAt (s .marks) i

@@ -3,7 +3,8 @@
 --   isRead isAsking isStoring isEnded readRound   the operation and the stage
 --   replies            N-t, the replies that close a round
 --   askNow             the ask number of the round that is open
---   kindAwaited        the kind of the reply that the round awaits
+--   awaitsKind         whether the round awaits replies of a kind
+--   roundOpen          whether the round is open, and not over
 --   sessionWith        a session by its fields
 --   withRound withGreatest withStamp withMarks inStage   a session with one field set, a round in another stage
 --   markedOf endedOf nextOf storingOf   the session after a node was heard, ended, in the next read round, in a write or repair round
@@ -13,6 +14,7 @@ use Prim.Native.Nat.{ℕ, _+_, _-_}
 use mathlib.Core.Bool.{Bool, true, false, cond}
 use mathlib.Core.List.{List}
 use lib.ListN.{set}
+use lib.Dec.{ltb, eqb}
 use Rattle.terms.specs.Ladder.{_and_}
 use Rattle.terms.specs.Terms.{refusalNumber}
 use Rattle.terms.specs.Stamp.{stampNumber}
@@ -22,9 +24,8 @@ use Rattle.terms.specs.declared.Time.{Time}
 use Rattle.terms.specs.declared.Timestamp.{Timestamp}
 use Rattle.rounds.specs.declared.Heard.{Heard}
 use Rattle.rounds.specs.declared.Mark.{Mark}
-use Rattle.rounds.specs.declared.Bound.{Bound}
 use Rattle.rounds.specs.declared.Bound.the-variants.{Under}
-use Rattle.rounds.specs.Rounds.{unheards}
+use Rattle.rounds.specs.Rounds.{unheards, heardCount}
 use Rattle.session.specs.declared.Session.{Session}
 use Rattle.session.specs.declared.Round.{Round}
 use Rattle.session.specs.declared.Operation.{Operation}
@@ -64,8 +65,12 @@ unfoldable pub askNow : Session → ℕ
 askNow s = cond (isStoring (s .round .stage)) (s .opening .0 + s .round .number) (s .opening .0 + (s .round .number - 1))
 
 -- 2 in a time round, 7 in a read round, 4 in a write or repair round
-unfoldable pub kindAwaited : Session → ℕ
-kindAwaited s = cond (isStoring (s .round .stage)) 4 (cond (isRead (s .operation)) 7 2)
+unfoldable pub awaitsKind : Session → ℕ → Bool
+awaitsKind s k = cond (isStoring (s .round .stage)) (eqb k 4) (cond (isRead (s .operation)) (eqb k 7) (eqb k 2))
+
+-- a round of any kind "ends at N-t replies": it is open while fewer nodes are heard, and else it is over
+abbrev pub roundOpen : Plan → Session → Bool
+roundOpen p s = ltb (heardCount (s .marks)) (replies p)
 
 -- a session by its fields
 abbrev pub sessionWith : Operation → Round → Ask → Time → Timestamp → List Mark → Session

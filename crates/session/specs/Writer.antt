@@ -21,11 +21,10 @@ use Rattle.terms.specs.declared.Plan.{Plan}
 use Rattle.frame.specs.Frame.{frameNode, bodyOf}
 use Rattle.recover.specs.Records.{stampFor, recordsFor}
 use Rattle.rounds.specs.declared.Heard.the-variants.{Record}
-use Rattle.rounds.specs.Rounds.{heardCount}
 use Rattle.session.specs.declared.Session.{Session}
 use Rattle.session.specs.declared.Took.{Took}
 use Rattle.session.specs.declared.Operation.the-variants.{Write}
-use Rattle.session.specs.Session.{isStoring, replies, withGreatest, withMarks, markedOf, endedOf, storingOf, Said, refused, stillOpen, done, clockSpent, saidOf}
+use Rattle.session.specs.Session.{isStoring, roundOpen, withGreatest, withMarks, markedOf, endedOf, storingOf, Said, refused, stillOpen, done, clockSpent, saidOf}
 use Rattle.session.specs.Reply.{replyLadder}
 
 -- ---- times
@@ -56,11 +55,11 @@ timeEnd p s d i =
     (leaves stillOpen (storingOf s (stampFor p (newTime (s .greatest .0)) i)) (recordsFor p (newTime (s .greatest .0)) i))
 
 unfoldable pub timeTurn : Plan → Session → List ℕ → List ℕ → Leaves
-timeTurn p s d i = cond (ltb (heardCount (s .marks)) (replies p)) (leaves stillOpen s d) (timeEnd p s d i)
+timeTurn p s d i = cond (roundOpen p s) (leaves stillOpen s d) (timeEnd p s d i)
 
 -- a write that is done used no read rounds
 unfoldable pub writeTurn : Plan → Session → List ℕ → Leaves
-writeTurn p s d = cond (ltb (heardCount (s .marks)) (replies p)) (leaves stillOpen s d) (leaves (done (stampNumber (s .stamp)) 0) (endedOf s) d)
+writeTurn p s d = cond (roundOpen p s) (leaves stillOpen s d) (leaves (done (stampNumber (s .stamp)) 0) (endedOf s) d)
 
 unfoldable pub acceptedWrite : Plan → Session → List ℕ → List ℕ → List ℕ → Leaves
 acceptedWrite p s f d i =

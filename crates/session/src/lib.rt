@@ -16,14 +16,14 @@ use terms::Time;
 use terms::Timestamp;
 ghost use mathlib.Core.Path.{_≡_};
 ghost use mathlib.Core.Bool.{true, not};
-ghost use Prim.Native.Nat.{ℕ, _+_, _-_, _*_, _≤_, _<_};
+ghost use Prim.Native.Nat.{_+_, _-_, _*_, _≤_, _<_};
 ghost use lib.ListN.{length};
 ghost use Rattle.terms.specs.Terms.{planOk, recordLength, slotsOf};
 ghost use lib.Dec.{eqb, leb};
 ghost use Rattle.terms.specs.Ladder.{first, _or_};
 ghost use Rattle.frame.specs.Frame.{kindOf};
 ghost use Rattle.rounds.specs.Rounds.{noneFirst, slotsFit};
-ghost use Rattle.session.specs.Session.{isRead, isAsking, isStoring, isEnded, readRound, replies, askNow, kindAwaited, markedOf, endedOf, nextOf, storingOf};
+ghost use Rattle.session.specs.Session.{isRead, isAsking, isStoring, isEnded, readRound, askNow, awaitsKind, roundOpen, markedOf, endedOf, nextOf, storingOf};
 ghost use Rattle.session.specs.Ranges.{boundOk, standingRules, openRules, inRange};
 ghost use Rattle.session.specs.Reply.{lengthsOk, sameOperation, awaited, isHeard, replyLadder, checkNumber};
 
@@ -343,6 +343,15 @@ impl Session {
         rounds::slots_fit(marks, desk, slots, b)
     }
 
+    // Whether the round is open: fewer than N-t nodes are heard. Else it is over.
+    fn round_open(self, p: Plan) -> bool
+        requires { ⌜ planOk p ≡ true ⌝ }
+        ensures { λ r. ⌜ r ≡ roundOpen p self ⌝ }
+    {
+        let marks = self.marks;
+        rounds::count(marks) < p.n - p.t
+    }
+
     // The rules of refusal 9 that an open session meets.
     fn open_ok(self, p: Plan, desk: &[u8]) -> bool
         requires { ⌜ (planOk p ≡ true) × (length (now desk) ≡ p .n * recordLength p) ⌝ }
@@ -354,8 +363,7 @@ impl Session {
         if !self.firsts_ok() {
             return false;
         }
-        let marks = self.marks;
-        if rounds::count(marks) >= p.n - p.t {
+        if !self.round_open(p) {
             return false;
         }
         self.slots_ok(p, desk)
@@ -388,18 +396,18 @@ impl Session {
         Ask(a.0 + (round - 1))
     }
 
-    // The kind of the reply that the round awaits.
-    fn kind_awaited(self) -> u64
-        ensures { λ r. ⌜ r ≡ kindAwaited self ⌝ }
+    // Whether the round awaits replies of kind k.
+    fn awaits_kind(self, k: u64) -> bool
+        ensures { λ r. ⌜ r ≡ awaitsKind self k ⌝ }
     {
         if self.storing() {
-            return 4;
+            return k == 4;
         }
         let o = self.operation;
         if reads(o) {
-            return 7;
+            return k == 7;
         }
-        2
+        k == 2
     }
 
     // Refusal 10: whether ask number, kind and write timestamp are the ones awaited.
@@ -408,8 +416,12 @@ impl Session {
             × (kindOf (now frame) ≡ 4 → 55 ≤ length (now frame)) ⌝ }
         ensures { λ r. ⌜ r ≡ awaited self (now (frame .entry)) ⌝ }
     {
-        let a = self.asked();
-        if !frame::answers(frame, a, self.kind_awaited()) {
+        let ask = self.asked();
+        let here = frame::ask_of(frame);
+        if here.0 != ask.0 {
+            return false;
+        }
+        if !self.awaits_kind(frame::kind_of(frame)) {
             return false;
         }
         if !self.storing() {

@@ -14,14 +14,14 @@ use terms::Timestamp;
 use terms::Verdict;
 ghost use mathlib.Core.Path.{_≡_};
 ghost use mathlib.Core.Bool.{true, false};
-ghost use Prim.Native.Nat.{ℕ, _+_, _*_, _≤_, _<_};
+ghost use Prim.Native.Nat.{_+_, _*_, _≤_};
 ghost use lib.ListN.{length};
 ghost use Rattle.terms.specs.Ladder.{first};
 ghost use Rattle.terms.specs.Terms.{planOk, recordLength};
-ghost use Rattle.frame.specs.Frame.{goodReply, kindOf, frameNode};
+ghost use Rattle.frame.specs.Frame.{goodReply};
 ghost use Rattle.rounds.specs.declared.Lead.the-variants.{Node};
 ghost use Rattle.rounds.specs.Rounds.{told};
-ghost use Rattle.session.specs.Session.{saidOf, isStoring};
+ghost use Rattle.session.specs.Session.{saidOf};
 ghost use Rattle.session.specs.Reply.{bears, recordLadder, checkNumber};
 ghost use Rattle.session.specs.Reader.{outcome, failing, actOn, acted, settled, heard, stored, accepted, ReadReplyCall, Acting};
 
@@ -145,13 +145,13 @@ impl Session {
         requires { ⌜ (planOk p ≡ true) × (length (now desk) ≡ p .n * recordLength p) × (length (now item) ≡ p .m * p .f) ⌝ }
         ensures { λ r. ⌜ outcome (saidOf (r .answer)) (r .session) (now (desk .exit)) (now (item .exit)) ≡ settled p self (now (desk .entry)) (now (item .entry)) ⌝ }
     {
-        let marks = self.marks;
-        if rounds::count(marks) < p.n - p.t {
+        if self.round_open(p) {
             return Took {
                 session: self,
                 answer: Answer::Open,
             };
         }
+        let marks = self.marks;
         let slots = terms::slots_of(p);
         let member = p.member;
         let t = terms::thresholds_of(p);
@@ -175,26 +175,23 @@ impl Session {
         s.settle(p, desk, item)
     }
 
-    // An accepted reply of a repair round: at the last the item is read from the first m slots.
-    fn keep(self, p: Plan, frame: &[u8], desk: &[u8], item: &mut [u8]) -> Took
-        requires { ⌜ (planOk p ≡ true) × (goodReply p (now frame) ≡ true) × (length (now desk) ≡ p .n * recordLength p) × (length (now item) ≡ p .m * p .f) ⌝ }
-        ensures { λ r. ⌜ outcome (saidOf (r .answer)) (r .session) (now (desk .entry)) (now (item .exit)) ≡ stored p self (now (frame .entry)) (now (desk .entry)) (now (item .entry)) ⌝ }
+    // After a mark in a repair round: still open, or done, with the item from the first m slots.
+    fn keep(self, p: Plan, desk: &[u8], item: &mut [u8]) -> Took
+        requires { ⌜ (planOk p ≡ true) × (length (now desk) ≡ p .n * recordLength p) × (length (now item) ≡ p .m * p .f) ⌝ }
+        ensures { λ r. ⌜ outcome (saidOf (r .answer)) (r .session) (now (desk .entry)) (now (item .exit)) ≡ stored p self (now (desk .entry)) (now (item .entry)) ⌝ }
     {
-        let i = frame::node_of(frame) as usize;
-        let t = self.stamp;
-        let round = self.round.number;
-        let s = self.marked(i, Heard::Record);
-        let marks = s.marks;
-        if rounds::count(marks) < p.n - p.t {
+        if self.round_open(p) {
             return Took {
-                session: s,
+                session: self,
                 answer: Answer::Open,
             };
         }
+        let t = self.stamp;
+        let round = self.round.number;
         recover::collect(p, desk, item);
-        let e = s.over();
+        let s = self.over();
         Took {
-            session: e,
+            session: s,
             answer: Answer::Done(t, round),
         }
     }
@@ -205,7 +202,9 @@ impl Session {
         ensures { λ r. ⌜ outcome (saidOf (r .answer)) (r .session) (now (desk .exit)) (now (item .exit)) ≡ accepted p self (now (frame .entry)) (now (desk .entry)) (now (item .entry)) ⌝ }
     {
         if self.storing() {
-            return self.keep(p, frame, &desk[..], item);
+            let i = frame::node_of(frame) as usize;
+            let s = self.marked(i, Heard::Record);
+            return s.keep(p, &desk[..], item);
         }
         self.hear(p, frame, desk, item)
     }

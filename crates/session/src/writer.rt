@@ -21,7 +21,7 @@ ghost use Rattle.frame.specs.Frame.{bodyOf};
 ghost use Rattle.session.specs.declared.Operation.the-variants.{Write};
 ghost use Rattle.session.specs.Session.{saidOf};
 ghost use Rattle.session.specs.Reply.{replyLadder};
-ghost use Rattle.session.specs.Writer.{laterOf, timedOf, leaves, timeTurn, writeTurn, acceptedWrite, writeReply, WriteReplyCall};
+ghost use Rattle.session.specs.Writer.{laterOf, timedOf, leaves, timeTurn, writeTurn, acceptedWrite, WriteReplyCall};
 
 // The time that a time reply bears.
 fn time_in(reply: &[u8]) -> Time
@@ -58,8 +58,7 @@ impl Session {
         requires { ⌜ (planOk p ≡ true) × (length (now item) ≡ p .m * p .f) × (length (now desk) ≡ p .n * recordLength p) × (512 ≤ length (now cross)) ⌝ }
         ensures { λ r. ⌜ leaves (saidOf (r .answer)) (r .session) (now (desk .exit)) ≡ timeTurn p self (now (desk .entry)) (now (item .entry)) ⌝ }
     {
-        let marks = self.marks;
-        if rounds::count(marks) < p.n - p.t {
+        if self.round_open(p) {
             return Took {
                 session: self,
                 answer: Answer::Open,
@@ -86,8 +85,7 @@ impl Session {
         requires { ⌜ planOk p ≡ true ⌝ }
         ensures { λ r. ⌜ ((d : List ℕ) → leaves (saidOf (r .answer)) (r .session) d ≡ writeTurn p self d) ⌝ }
     {
-        let marks = self.marks;
-        if rounds::count(marks) < p.n - p.t {
+        if self.round_open(p) {
             return Took {
                 session: self,
                 answer: Answer::Open,

@@ -16,7 +16,6 @@ use native.Mathlib.Omega.{arith}
 use mathlib.Core.Path.{_≡_, refl, sym, ap, _∙_}
 use mathlib.Core.Bool.{true, false}
 use mathlib.Core.List.{List, [], _∷_, _++_}
-use mathlib.Core.Logic.{inr}
 use lib.ListN.{length, replicate}
 use Rattle.octets.specs.Bytes.{part, put, num, numFrom, be, beOnto, alike}
 use Rattle.sha256.specs.Sha256 as sha
@@ -44,7 +43,7 @@ use Rattle.session.specs.declared.Answer.{Answer}
 use Rattle.session.specs.declared.Answer.the-variants.{Refused, Open, Done}
 use Rattle.session.specs.declared.opening.Opened.{Opened}
 use Rattle.session.specs.declared.opening.Opening.the-variants.{Accepted}
-use Rattle.session.specs.Session.{askNow, kindAwaited, markedOf, nextOf, storingOf, endedOf, refused}
+use Rattle.session.specs.Session.{askNow, awaitsKind, markedOf, nextOf, storingOf, endedOf, refused}
 use Rattle.session.specs.Opening.{freshOf, openWith, OpenCall}
 use Rattle.session.specs.Ranges.{standingRules, openRules, inRange}
 use Rattle.session.specs.Reply.{lengthsOk, sameOperation, awaited, isHeard, bears}
@@ -169,39 +168,39 @@ opened-so = record { is = refl }
 
 pub met-1 : ReadReplyCall plan (start) reply-1 desk (0 ∷ []) (record { answer = Open; session = first-heard }) desk-poor (0 ∷ [])
 unfolding reply-1 hash poor stamp-bytes good desk desk-poor desk-good desk-full plan readReply first planOk countsOk limitsOk columnOf all recordLength lengthsOk inRange standingRules openRules heardCount every slotsFit slotFits slotStamp underOf num numFrom part
-    goodReply goodFrame shaped forParty oneOf bodyFits awaited askNow kindAwaited isHeard bears be beOnto accepted heard settled
+    goodReply goodFrame shaped forParty oneOf bodyFits awaited askNow awaitsKind isHeard bears be beOnto accepted heard settled
     hashesOk timeZero fragmentHash prefixOf alike put stampAt stampNumber then sha256 sha.after compressOf addedOf roundsOf roundOf T1 T2 scheduleOf words padding bigEndian K
 met-1 = record { is = refl }
 
 met-2 : ReadReplyCall plan (first-heard) reply-2 desk-poor (0 ∷ []) (record { answer = Open; session = second-round }) desk-poor (0 ∷ [])
 unfolding reply-2 hash poor stamp-bytes good desk desk-poor desk-good desk-full plan readReply first planOk countsOk limitsOk columnOf all recordLength lengthsOk inRange standingRules openRules heardCount every slotsFit slotFits slotStamp underOf num numFrom part
-    goodReply goodFrame shaped forParty oneOf bodyFits awaited askNow kindAwaited isHeard bears be beOnto accepted heard settled
+    goodReply goodFrame shaped forParty oneOf bodyFits awaited askNow awaitsKind isHeard bears be beOnto accepted heard settled
     hashesOk timeZero fragmentHash prefixOf alike put stampAt stampNumber then sha256 sha.after compressOf addedOf roundsOf roundOf T1 T2 scheduleOf words padding bigEndian K actFor actOn sound failing closeWith leadOf stepOf aheadOf setOf joinsOf decided classOf
     validates row crossMade regenerated among tabulate value blend weightOf ratio xtime mulN mul square sumPow inv div
 met-2 = record { is = refl }
 
 met-3 : ReadReplyCall plan (second-round) reply-3 desk-poor (0 ∷ []) (record { answer = Open; session = second-heard }) desk-good (0 ∷ [])
 unfolding reply-3 hash poor stamp-bytes good desk desk-poor desk-good desk-full plan readReply first planOk countsOk limitsOk columnOf all recordLength lengthsOk inRange standingRules openRules heardCount every slotsFit slotFits slotStamp underOf num numFrom part
-    goodReply goodFrame shaped forParty oneOf bodyFits awaited askNow kindAwaited isHeard bears be beOnto accepted heard settled
+    goodReply goodFrame shaped forParty oneOf bodyFits awaited askNow awaitsKind isHeard bears be beOnto accepted heard settled
     hashesOk timeZero fragmentHash prefixOf alike put stampAt stampNumber then sha256 sha.after compressOf addedOf roundsOf roundOf T1 T2 scheduleOf words padding bigEndian K
 met-3 = record { is = refl }
 
 met-4 : ReadReplyCall plan (second-heard) reply-4 desk-good (0 ∷ []) (record { answer = Open; session = repair-round }) desk-full (0 ∷ [])
 unfolding reply-4 hash poor stamp-bytes good desk desk-poor desk-good desk-full plan readReply first planOk countsOk limitsOk columnOf all recordLength lengthsOk inRange standingRules openRules heardCount every slotsFit slotFits slotStamp underOf num numFrom part
-    goodReply goodFrame shaped forParty oneOf bodyFits awaited askNow kindAwaited isHeard bears be beOnto accepted heard settled
+    goodReply goodFrame shaped forParty oneOf bodyFits awaited askNow awaitsKind isHeard bears be beOnto accepted heard settled
     hashesOk timeZero fragmentHash prefixOf alike put stampAt stampNumber then sha256 sha.after compressOf addedOf roundsOf roundOf T1 T2 scheduleOf words padding bigEndian K actFor actOn sound failing closeWith leadOf stepOf aheadOf setOf joinsOf decided classOf
     validates row crossMade regenerated among tabulate value blend weightOf ratio xtime mulN mul square sumPow inv div repaired refilled slotFilled
 met-4 = record { is = refl }
 
 met-5 : ReadReplyCall plan (repair-round) reply-5 desk-full (0 ∷ []) (record { answer = Open; session = once-stored }) desk-full (0 ∷ [])
 unfolding reply-5 hash poor stamp-bytes good desk desk-poor desk-good desk-full plan readReply first planOk countsOk limitsOk columnOf all recordLength lengthsOk inRange standingRules openRules heardCount every slotsFit slotFits slotStamp underOf num numFrom part
-    goodReply goodFrame shaped forParty oneOf bodyFits awaited askNow kindAwaited isHeard bears be beOnto accepted heard settled
+    goodReply goodFrame shaped forParty oneOf bodyFits awaited askNow awaitsKind isHeard bears be beOnto accepted heard settled
     hashesOk timeZero fragmentHash prefixOf alike put stampAt stampNumber then stored
 met-5 = record { is = refl }
 
 met-6 : ReadReplyCall plan (once-stored) reply-6 desk-full (0 ∷ []) (record { answer = Done (stampAt desk-good 0) 2; session = ended }) desk-full (7 ∷ [])
 unfolding reply-6 hash poor stamp-bytes good desk desk-poor desk-good desk-full plan readReply first planOk countsOk limitsOk columnOf all recordLength lengthsOk inRange standingRules openRules heardCount every slotsFit slotFits slotStamp underOf num numFrom part
-    goodReply goodFrame shaped forParty oneOf bodyFits awaited askNow kindAwaited isHeard bears be beOnto accepted heard settled
+    goodReply goodFrame shaped forParty oneOf bodyFits awaited askNow awaitsKind isHeard bears be beOnto accepted heard settled
     hashesOk timeZero fragmentHash prefixOf alike put stampAt stampNumber then stored collected laid from regenerated among tabulate value
 met-6 = record { is = refl }
 
@@ -286,7 +285,7 @@ late = frame 7 2 5 []
 
 late-met : ReadReplyCall plan second-heard late desk-good (0 ∷ []) (record { answer = Refused NotAwaited; session = second-heard }) desk-good (0 ∷ [])
 unfolding late hash stamp-bytes good desk-good plan readReply first planOk countsOk limitsOk columnOf all recordLength lengthsOk inRange standingRules openRules heardCount every
-    slotsFit slotFits slotStamp underOf num numFrom part goodReply goodFrame shaped forParty oneOf bodyFits awaited askNow kindAwaited be beOnto stampAt stampNumber then
+    slotsFit slotFits slotStamp underOf num numFrom part goodReply goodFrame shaped forParty oneOf bodyFits awaited askNow awaitsKind be beOnto stampAt stampNumber then
     desk-poor poor
 late-met = record { is = refl }
 

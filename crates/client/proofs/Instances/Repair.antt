@@ -29,7 +29,7 @@ use Rattle.session.specs.declared.Took.{Took}
 use Rattle.session.specs.declared.Operation.the-variants.{Read}
 use Rattle.session.specs.declared.Stage.the-variants.{Asking}
 use Rattle.session.specs.declared.Answer.the-variants.{Open, Done}
-use Rattle.session.specs.Session.{askNow, kindAwaited, storingOf, markedOf, endedOf}
+use Rattle.session.specs.Session.{askNow, awaitsKind, storingOf, markedOf, endedOf}
 use Rattle.session.specs.Ranges.{standingRules, openRules, inRange}
 use Rattle.session.specs.Reply.{lengthsOk, awaited, isHeard, bears}
 use Rattle.session.specs.Reader.{actOn, actFor, closed, settled, heard, stored, accepted, readReply, ReadReplyCall}
@@ -81,7 +81,7 @@ left = repaired plan (closed plan (markedOf session 2 First) desk) 0 desk
 -- the call opens a repair round
 pub opens-so : ReadReplyCall plan session frame desk item took left item
 unfolding plan slot desk session frame item took left readReply first planOk countsOk limitsOk columnOf all recordLength lengthsOk inRange standingRules openRules
-    heardCount every slotsFit slotFits slotStamp underOf num numFrom part alike goodReply goodFrame shaped forParty oneOf bodyFits awaited askNow kindAwaited
+    heardCount every slotsFit slotFits slotStamp underOf num numFrom part alike goodReply goodFrame shaped forParty oneOf bodyFits awaited askNow awaitsKind
     isHeard bears accepted heard settled actFor actOn sound closeWith leadOf stepOf aheadOf setOf joinsOf decided classOf
 opens-so = record { is = refl }
 
@@ -136,7 +136,7 @@ last-turn =
 turns-so : Calls (ReadTurn plan) (took .session) left (first-turn ∷ second-turn ∷ last-turn ∷ [])
 unfolding first-turn second-turn last-turn turn-open stored-by plan slot desk session item took left readReply first planOk countsOk limitsOk columnOf all recordLength lengthsOk
     inRange standingRules openRules heardCount every slotsFit slotFits slotStamp underOf num numFrom part alike goodReply goodFrame shaped forParty oneOf bodyFits
-    awaited askNow kindAwaited isHeard bears accepted stored collected laid from closeWith leadOf stepOf aheadOf setOf joinsOf repaired refilled slotFilled regenerated
+    awaited askNow awaitsKind isHeard bears accepted stored collected laid from closeWith leadOf stepOf aheadOf setOf joinsOf repaired refilled slotFilled regenerated
     among tabulate value blend weightOf ratio xtime mulN mul square sumPow inv div put stampAt stampNumber then
 turns-so = (
   (small-octets (stored-by 0) (stored-small .0), record { is = refl }),
@@ -167,7 +167,7 @@ heard-one =
 
 heard-so : ReadReplyCall plan (opened .session) frame desk item (heard-one .took) desk item
 unfolding plan slot desk opened heard-one frame item readReply first planOk countsOk limitsOk columnOf all recordLength lengthsOk inRange standingRules openRules
-    heardCount every slotsFit slotFits underOf num numFrom part goodReply goodFrame shaped forParty oneOf bodyFits awaited askNow kindAwaited isHeard bears
+    heardCount every slotsFit slotFits underOf num numFrom part goodReply goodFrame shaped forParty oneOf bodyFits awaited askNow awaitsKind isHeard bears
     accepted heard settled
 heard-so = record { is = refl }
 

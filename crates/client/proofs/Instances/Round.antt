@@ -36,7 +36,7 @@ use Rattle.session.specs.declared.Session.{Session}
 use Rattle.session.specs.declared.Operation.the-variants.{Read}
 use Rattle.session.specs.declared.opening.Opened.{Opened}
 use Rattle.session.specs.declared.opening.Opening.the-variants.{Accepted as Granted}
-use Rattle.session.specs.Session.{askNow, kindAwaited}
+use Rattle.session.specs.Session.{askNow, awaitsKind}
 use Rattle.session.specs.Opening.{freshOf, openWith, OpenCall}
 use Rattle.session.specs.Reply.{lengthsOk, awaited, isHeard, bears}
 use Rattle.recover.specs.Records.{crossFor, recordsFor}
@@ -109,7 +109,7 @@ module _ (node : ℕ) (body : List ℕ) (low : node < 2) (fits : bodyFits plan 7
       (record { frame-is = built.built-good 7 node 5 body Client plan (omega arith) (omega arith) refl fits; node-low = rw node-is low })
 
   awaits : awaited session (reply node body) ≡ true
-  unfolding reply session ask awaited askNow kindAwaited
+  unfolding reply session ask awaited askNow awaitsKind
   awaits =
       rw (
         eq-eqb (askOf (reply node body)) 5 (built.ask-frame 7 node 5 body (omega arith)),

@@ -25,7 +25,7 @@ use Rattle.rounds.specs.Rounds.{heardCount, every, slotStamp, aheadOf, stepOf, 
 use Rattle.recover.specs.Recover.{validates, lowest, sound, decoded}
 use Rattle.session.specs.declared.Session.{Session}
 use Rattle.session.specs.declared.Answer.the-variants.{Done}
-use Rattle.session.specs.Session.{askNow, kindAwaited, markedOf, endedOf}
+use Rattle.session.specs.Session.{askNow, awaitsKind, markedOf, endedOf}
 use Rattle.session.specs.Ranges.{standingRules, openRules, inRange}
 use Rattle.session.specs.Reply.{lengthsOk, awaited, isHeard, bears}
 use Rattle.session.specs.Reader.{actOn, actFor, closed, settled, heard, accepted, readReply, ReadReplyCall}
@@ -58,7 +58,7 @@ call =
 
 pub done-so : ReadReplyCall plan first-heard second-reply desk-good (0 ∷ []) (call .took) desk-two (7 ∷ [])
 unfolding second-reply hash stamp-bytes good desk-good desk-two plan readReply first planOk countsOk limitsOk columnOf all recordLength lengthsOk inRange standingRules openRules heardCount every
-    slotsFit slotFits slotStamp underOf num numFrom part goodReply goodFrame shaped forParty oneOf bodyFits awaited askNow kindAwaited isHeard bears be beOnto accepted heard settled
+    slotsFit slotFits slotStamp underOf num numFrom part goodReply goodFrame shaped forParty oneOf bodyFits awaited askNow awaitsKind isHeard bears be beOnto accepted heard settled
     hashesOk timeZero fragmentHash prefixOf alike put stampAt stampNumber then sha256 sha.after compressOf addedOf roundsOf roundOf T1 T2 scheduleOf words padding bigEndian K actFor actOn
     sound closeWith leadOf stepOf aheadOf setOf joinsOf decided classOf validates row crossMade regenerated among tabulate value blend weightOf ratio xtime mulN mul square sumPow inv
     div decoded laid

@@ -6,7 +6,7 @@ use mathlib.Core.List.{List}
 use Prim.Native.Nat.{ℕ, _+_, _*_, _<_}
 use native.Mathlib.Omega.{arith}
 use borrow.Author.Tests.{not-false}
-use lib.Dec.{ltb, eqb}
+use lib.Dec.{eqb}
 use lib.ListN.{length, length-set}
 use lib.Seq.{getD-set-same, getD-set-other}
 use Rattle.terms.specs.Terms.{recordLength, slotsOf}
@@ -21,7 +21,7 @@ use Rattle.rounds.specs.declared.Mark.{Mark}
 use Rattle.rounds.specs.Rounds.{heardCount, bitOf, markOf, unheard, underOf, slotsFit}
 use Rattle.rounds.proofs.Laws.{count-set, not-heard}
 use Rattle.session.specs.declared.Session.{Session}
-use Rattle.session.specs.Session.{replies, askNow, kindAwaited, markedOf}
+use Rattle.session.specs.Session.{askNow, awaitsKind, markedOf, roundOpen}
 use Rattle.session.specs.Reply.{lengthsOk, awaited, isHeard, bears}
 use Rattle.session.proofs.Rules.{lengths-are}
 use Rattle.session.proofs.Made.{rest-set}
@@ -60,11 +60,11 @@ module _ (p : Plan) (s : Session) (f : List ℕ) (l : length (s .marks) ≡ 16) 
 
 -- a mark changes nothing of what the round asks of another reply
 pub fits-later : (p : Plan) (s : Session) (k : ℕ) (h : Heard) (f : List ℕ) → Fits p s f → Fits p (markedOf s k h) f
-unfolding awaited askNow kindAwaited
+unfolding awaited askNow awaitsKind
 fits-later p s k h f q = record { good = q .good; await = q .await; timed = q .timed; hashed = q .hashed; under = q .under }
 
 pub fits-before : (p : Plan) (s : Session) (k : ℕ) (h : Heard) (f : List ℕ) → Fits p (markedOf s k h) f → Fits p s f
-unfolding awaited askNow kindAwaited
+unfolding awaited askNow awaitsKind
 fits-before p s k h f q = record { good = q .good; await = q .await; timed = q .timed; hashed = q .hashed; under = q .under }
 
 -- ---- what an accepted reply leaves
@@ -84,7 +84,7 @@ module _ (p : Plan) (s : Session) (f d i : List ℕ) (t : Taken p s f d i) where
   desk-is : length d ≡ p .n * r
   desk-is = lengths-are p (length d) (length i) (t .ready .lengths) .desk-is
 
-  pub next : ltb (heardCount (afterReply p s f .marks)) (replies p) ≡ true → Ready p (afterReply p s f) (deskAfter p f d) i
+  pub next : roundOpen p (afterReply p s f) ≡ true → Ready p (afterReply p s f) (deskAfter p f d) i
   next few =
       let g = t .ready in
       let o = g .slots in

@@ -5,7 +5,6 @@ use mathlib.Core.List.{List}
 use Prim.{tt}
 use Prim.Native.Nat.{ℕ}
 use borrow.Author.Tests.{not-false}
-use lib.Dec.{ltb}
 use lib.ListN.{length}
 use Rattle.terms.specs.Ladder.{_and_, None}
 use Rattle.terms.specs.Terms.{planOk}
@@ -15,11 +14,11 @@ use Rattle.terms.proofs.Down.{clear}
 use Rattle.terms.proofs.Rungs.{both, clash}
 use Rattle.frame.specs.Frame.{frameNode, bodyOf, goodReply}
 use Rattle.record.specs.Record.{hashesOk, timeZero}
-use Rattle.rounds.specs.Rounds.{heardCount, underOf}
+use Rattle.rounds.specs.Rounds.{underOf}
 use Rattle.session.specs.declared.Session.{Session}
 use Rattle.session.specs.declared.Stage.{Stage}
 use Rattle.session.specs.declared.Stage.the-variants.{Asking, Storing, Ended}
-use Rattle.session.specs.Session.{isRead, isAsking, isStoring, isEnded, readRound, replies, refused, isRefused}
+use Rattle.session.specs.Session.{isRead, isAsking, isStoring, isEnded, readRound, refused, isRefused, roundOpen}
 use Rattle.session.specs.Ranges.{inRange}
 use Rattle.session.specs.Reply.{lengthsOk, awaited, isHeard, bears, recordLadder}
 use Rattle.session.specs.Reader.{Outcome, outcome, closed, settled, accepted, readReply}
@@ -118,7 +117,7 @@ module _ (p : Plan) (s : Session) (f d i : List ℕ) where
 pub settled-taken : (p : Plan) (s : Session) (d i : List ℕ) → isRefused (settled p s d i .said) ≡ false
 unfolding settled
 settled-taken p s d i =
-    shapes.pick Well (ltb (heardCount (s .marks)) (replies p)) refl
+    shapes.pick Well (roundOpen p s) refl
     (shapes.goes Well p s (closed p s d) d i (record { finds = λ t x. refl; never = refl; aborts = refl; spends = λ g. refl; next = λ a l g. refl; repairs = λ a l v. refl }))
   where
     Well : Outcome → Type 0

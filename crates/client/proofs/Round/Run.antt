@@ -6,7 +6,6 @@ use mathlib.Core.List.{List, [], _∷_}
 use Prim.{tt}
 use Prim.Native.Nat.{ℕ, zero, suc, _+_, _≤_, _<_}
 use native.Mathlib.Omega.{arith}
-use borrow.Author.Tests.{lt-ltb, le-ltb}
 use lib.ListN.{length}
 use Rattle.terms.specs.declared.Plan.{Plan}
 use Rattle.terms.proofs.Rungs.{clash}
@@ -16,7 +15,7 @@ use Rattle.rounds.specs.Rounds.{heardCount}
 use Rattle.session.specs.declared.Session.{Session}
 use Rattle.session.specs.Session.{readRound, replies, Said, stillOpen, isRefused}
 use Rattle.session.specs.Reply.{isHeard}
-use Rattle.session.proofs.Rules.{lengths-are}
+use Rattle.session.proofs.Rules.{lengths-are, few-open, many-over}
 use Rattle.session.specs.Reader.{Outcome, acted, closed, settled, readReply}
 use Rattle.client.specs.Endings.{heardAs, afterReply, deskAfter}
 use Rattle.client.specs.Round.{roundAt, ending, saidInTurn, openUntil, Accepted, Each, OneANode, allMarked, allSlotted}
@@ -52,7 +51,7 @@ module _ (p : Plan) (i : List ℕ) where
 
   settled-open : (s : Session) (d : List ℕ) → heardCount (s .marks) < replies p → settled p s d i ≡ roundAt s d i
   unfolding settled
-  settled-open s d h = rw (lt-ltb (heardCount (s .marks)) (replies p) h)
+  settled-open s d h = rw (few-open p s h)
 
   -- a reply that is not the last leaves the round open, for the others
   module _ (s : Session) (d f g : List ℕ) (fs : List (List ℕ)) (l : length (s .marks) ≡ 16)
@@ -69,7 +68,7 @@ module _ (p : Plan) (i : List ℕ) where
     rest : Each (Fits p s) (g ∷ fs) → Each (Unheard s) (g ∷ fs) → OneANode (f ∷ g ∷ fs) → Hears (afterReply p s f) (deskAfter p f d) (g ∷ fs)
     rest a b o =
         record {
-          ready = next p s f d i k (lt-ltb (heardCount (afterReply p s f .marks)) (replies p) (omega (arith, counted)));
+          ready = next p s f d i k (few-open p (afterReply p s f) (omega (arith, counted)));
           long = length-marked p s f l (low-16 p s f d i k);
           fits = each-map (Fits p s) (Fits p (afterReply p s f)) (λ z q. fits-later p s (frameNode f) (heardAs p f) z q) (g ∷ fs) a;
           fresh = each-map (λ (z : List ℕ). Unheard s z × (frameNode z ≡ frameNode f → ⊥)) (Unheard (afterReply p s f))
@@ -156,7 +155,7 @@ module _ (p : Plan) (i : List ℕ) where
 
 pub settled-closed : (p : Plan) (s : Session) (d i : List ℕ) → replies p ≤ heardCount (s .marks) → settled p s d i ≡ acted p s (closed p s d) d i
 unfolding settled
-settled-closed p s d i h = rw (le-ltb (heardCount (s .marks)) (replies p) h)
+settled-closed p s d i h = rw (many-over p s h)
 
 open-accepted : (n : ℕ) (a : Said) → isRefused a ≡ false → Accepted (openUntil n a)
 open-accepted zero a e = (e, tt)

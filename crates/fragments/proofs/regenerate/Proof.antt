@@ -1,6 +1,6 @@
 use mathlib.Core.Path.{sym, _∙_}
 use native.Mathlib.Omega.{arith}
-use Rattle.fragments.proofs.Laws.{source-fits, itself, computed}
+use Rattle.fragments.proofs.Laws.{source-fits, copied, computed}
 use borrow.Author.Needs.{needs}
 use Rattle.fragments.proofs.regenerate.Statement.{statement}
 use Rattle.fragments.proofs.regenerate.Tie as tie
@@ -32,7 +32,7 @@ regenerate-spec =
     let e = t .before .before .before .before .before in
     let a = e .args in
     c .before .before .copy .ensures
-    ∙ itself (a .src .now) (a .s) (a .qs .now) (a .x) (a .out .now) (sym (t .if1 .taken) ∙ t .before .is-among .ensures) (e .pre .0) (e .pre .1))
+    ∙ copied (a .src .now) (a .s) (a .qs .now) (a .x) (a .out .now) (sym (t .if1 .taken) ∙ t .before .is-among .ensures) (e .pre .0) (e .pre .1))
     (λ c. search needs)
     (λ c.
     let t = c .before .before .before .before in

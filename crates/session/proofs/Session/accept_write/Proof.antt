@@ -2,6 +2,8 @@ use mathlib.Core.Path.{_∙_, sym}
 use native.Mathlib.Omega.{arith}
 use lib.ListN.{length}
 use Rattle.terms.proofs.Plans.{plan-is}
+use Rattle.session.specs.declared.Operation.the-variants.{Write}
+use Rattle.session.proofs.Known as known
 use Rattle.session.proofs.Writers as laws
 use borrow.Author.Needs.{needs}
 use Rattle.session.proofs.Session.accept_write.Statement.{statement}
@@ -14,22 +16,22 @@ accept-write-spec =
     (λ c κs.
     let args = c .before .before .before .before .args in
     let pre = c .before .before .before .before .pre in
-    let q = laws.taking (args .p) (args .self) (args .reply .now) (args .desk .now) (length (args .item .now)) (pre .0) in
-    q .reply .frame-is .low)
+    let q = known.known-reply Write (args .p) (args .self) (args .reply .now) (args .desk .now) (length (args .item .now)) (pre .0) in
+    known.reply Write (args .p) (args .self) (args .reply .now) (args .desk .now) (length (args .item .now)) q .frame-is .low)
     (λ c κs. search needs)
     (λ c κs.
     let node-of = c .before .before .node-of in
     let args = c .before .before .before .before .before .before .before .args in
     let pre = c .before .before .before .before .before .before .before .pre in
-    let q = laws.taking (args .p) (args .self) (args .reply .now) (args .desk .now) (length (args .item .now)) (pre .0) in
+    let q = known.known-reply Write (args .p) (args .self) (args .reply .now) (args .desk .now) (length (args .item .now)) (pre .0) in
     let n = plan-is _ (q .plan-ok) in
-    let k = q .reply .node-low in
+    let k = known.reply Write (args .p) (args .self) (args .reply .now) (args .desk .now) (length (args .item .now)) q .node-low in
     let e = node-of .ensures .0 in
     omega arith)
     (λ c κs.
     let args = c .before .before .before .before .before .before .before .before .args in
     let pre = c .before .before .before .before .before .before .before .before .pre in
-    let q = laws.taking (args .p) (args .self) (args .reply .now) (args .desk .now) (length (args .item .now)) (pre .0) in
+    let q = known.known-reply Write (args .p) (args .self) (args .reply .now) (args .desk .now) (length (args .item .now)) (pre .0) in
     q .plan-ok)
     (λ c.
     let if1 = c .before .before .if1 in
@@ -41,23 +43,23 @@ accept-write-spec =
     (λ c κs.
     let args = c .before .before .before .before .before .before .before .args in
     let pre = c .before .before .before .before .before .before .before .pre in
-    let q = laws.taking (args .p) (args .self) (args .reply .now) (args .desk .now) (length (args .item .now)) (pre .0) in
-    let e = laws.time-there _ _ _ _ _ q (sym (c .before .storing .ensures) ∙ c .if1 .left) in
+    let q = known.known-reply Write (args .p) (args .self) (args .reply .now) (args .desk .now) (length (args .item .now)) (pre .0) in
+    let e = laws.time-there (args .p) (args .self) (args .reply .now) (args .desk .now) (length (args .item .now)) q (sym (c .before .storing .ensures) ∙ c .if1 .left) in
     omega arith)
     (λ c κs.
     let node-of = c .before .before .before .node-of in
     let args = c .before .before .before .before .before .before .before .before .args in
     let pre = c .before .before .before .before .before .before .before .before .pre in
-    let q = laws.taking (args .p) (args .self) (args .reply .now) (args .desk .now) (length (args .item .now)) (pre .0) in
+    let q = known.known-reply Write (args .p) (args .self) (args .reply .now) (args .desk .now) (length (args .item .now)) (pre .0) in
     let n = plan-is _ (q .plan-ok) in
-    let k = q .reply .node-low in
+    let k = known.reply Write (args .p) (args .self) (args .reply .now) (args .desk .now) (length (args .item .now)) q .node-low in
     let e = node-of .ensures .0 in
     omega arith)
     (λ c κs.
     let args = c .before .before .before .before .before .before .before .before .before .before .before .args in
     let pre = c .before .before .before .before .before .before .before .before .before .before .before .pre in
-    let q = laws.taking (args .p) (args .self) (args .reply .now) (args .desk .now) (length (args .item .now)) (pre .0) in
-    (q .plan-ok, q .lengths .item-is, q .lengths .desk-is, pre .1))
+    let q = known.known-reply Write (args .p) (args .self) (args .reply .now) (args .desk .now) (length (args .item .now)) (pre .0) in
+    (q .plan-ok, known.item-is Write (args .p) (args .self) (args .reply .now) (args .desk .now) (length (args .item .now)) q, q .desk-is, pre .1))
     (λ c. search needs)
     (λ c. search needs)
     (λ c.

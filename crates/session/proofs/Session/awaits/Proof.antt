@@ -10,37 +10,46 @@ awaits-spec =
     (tie.spec
     (λ c κs. search needs)
     (λ c κs. search needs)
+    (λ c.
+    let here = c .before .before .before in
+    let args = here .before .before .before .args in
+    rules.other-ask (args .self) (args .frame .now) _ _ (here .before .asked .ensures) (here .ask-of .ensures) (c .if1 .taken))
+    (λ c κs. search needs)
     (λ c κs. search needs)
     (λ c.
-    let answers = c .before .answers in
-    let args = c .before .before .before .before .before .args in
-    rules.not-answered (args .self) (args .frame .now) _ _ (c .before .before .before .asked .ensures) (c .before .before .kind-awaited .ensures) _ (answers .ensures)
-    (not-true (answers .result) (c .if1 .taken)))
+    let asked = c .before .before .before in
+    let here = asked .before .before .before in
+    let args = here .before .before .before .args in
+    rules.other-kind (args .self) (args .frame .now) _ _ (here .before .asked .ensures) (here .ask-of .ensures) (asked .if1 .left) _ (c .before .before .kind-of .ensures .0) _
+    (c .before .awaits-kind .ensures) (not-true (c .before .awaits-kind .result) (c .if2 .taken)))
     (λ c κs. search needs)
     (λ c.
-    let answers = c .before .before .before .answers in
-    let storing = c .before .storing in
-    let args = c .before .before .before .before .before .before .before .args in
-    rules.no-stamp (args .self) (args .frame .now) _ _ (c .before .before .before .before .before .asked .ensures) (c .before .before .before .before .kind-awaited .ensures) _ (answers .ensures)
-    (not-false (answers .result) (c .before .before .if1 .left)) _ (storing .ensures) (not-true (storing .result) (c .if2 .taken)))
+    let kind = c .before .before in
+    let asked = kind .before .before .before in
+    let here = asked .before .before .before in
+    let args = here .before .before .before .args in
+    rules.no-stamp (args .self) (args .frame .now) _ _ (here .before .asked .ensures) (here .ask-of .ensures) (asked .if1 .left) _ (kind .before .before .kind-of .ensures .0) _
+    (kind .before .awaits-kind .ensures) (not-false (kind .before .awaits-kind .result) (kind .if2 .left)) _ (c .before .storing .ensures)
+    (not-true (c .before .storing .result) (c .if3 .taken)))
     (λ c κs.
-    let answers = c .before .before .before .answers in
-    let storing = c .before .storing in
-    let start = c .before .before .before .before .before .before .before in
-    rules.stamp-there (start .args .self) (start .args .frame .now) _ _ (c .before .before .before .before .before .asked .ensures) (c .before .before .before .before .kind-awaited .ensures) _ (answers .ensures)
-    (not-false (answers .result) (c .before .before .if1 .left)) _ (storing .ensures) (not-false (storing .result) (c .if2 .left)) (start .pre .3))
+    let kind = c .before .before in
+    let asked = kind .before .before .before in
+    let here = asked .before .before .before in
+    let start = here .before .before .before in
+    rules.stamp-there (start .args .self) (start .args .frame .now) _ _ (here .before .asked .ensures) (here .ask-of .ensures) (asked .if1 .left) _ (kind .before .before .kind-of .ensures .0) _
+    (kind .before .awaits-kind .ensures) (not-false (kind .before .awaits-kind .result) (kind .if2 .left)) _ (c .before .storing .ensures)
+    (not-false (c .before .storing .result) (c .if3 .left)) (start .pre .3))
     (λ c κs. search needs)
     (λ c.
-    let stamp-at = c .before .before .stamp-at in
-    let if2 = c .before .before .before .if2 in
-    let storing = c .before .before .before .before .storing in
-    let if1 = c .before .before .before .before .before .if1 in
-    let answers = c .before .before .before .before .before .before .answers in
-    let kind = c .before .before .before .before .before .before .before .kind-awaited in
-    let asked = c .before .before .before .before .before .before .before .before .asked in
-    let start = c .before .before .before .before .before .before .before .before .before .before in
-    let y = not-false (answers .result) (if1 .left) in
-    let e = not-false (storing .result) (if2 .left) in
-    let there = rules.stamp-there (start .args .self) (start .args .frame .now) _ _ (asked .ensures) (kind .ensures) _ (answers .ensures) y _ (storing .ensures) e (start .pre .3) in
-    rules.stamp-told (start .args .self) (start .args .frame .now) _ _ (asked .ensures) (kind .ensures) _ (answers .ensures) y _ (storing .ensures) e
-    (stamp-at .result) _ (stamp-at .ensures) there (c .same .ensures)))
+    let stored = c .before .before .before in
+    let kind = stored .before .before in
+    let asked = kind .before .before .before in
+    let here = asked .before .before .before in
+    let start = here .before .before .before in
+    let a = here .before .asked .ensures in
+    let y = not-false (kind .before .awaits-kind .result) (kind .if2 .left) in
+    let e = not-false (stored .before .storing .result) (stored .if3 .left) in
+    let there = rules.stamp-there (start .args .self) (start .args .frame .now) _ _ a (here .ask-of .ensures) (asked .if1 .left) _ (kind .before .before .kind-of .ensures .0) _
+    (kind .before .awaits-kind .ensures) y _ (stored .before .storing .ensures) e (start .pre .3) in
+    rules.stamp-told (start .args .self) (start .args .frame .now) _ _ a (here .ask-of .ensures) (asked .if1 .left) _ (kind .before .before .kind-of .ensures .0) _
+    (kind .before .awaits-kind .ensures) y _ (stored .before .storing .ensures) e (c .before .before .stamp-at .result) _ (c .before .before .stamp-at .ensures) there (c .same .ensures)))

@@ -6,7 +6,7 @@ use borrow.Author.Tests.{not-true, not-false}
 use Rattle.terms.specs.Ladder.{Rung}
 use Rattle.terms.proofs.Plans.{plan-is}
 use Rattle.frame.proofs.Frames.{reply-is}
-use Rattle.session.specs.Reply.{replyLadder, isHeard}
+use Rattle.session.specs.Reply.{replyLadder, sameOperation, isHeard}
 use Rattle.session.proofs.Rules as rules
 use Rattle.terms.proofs.Down.{Down, top, next, left, stop, end}
 use borrow.Author.Needs.{needs}
@@ -71,8 +71,8 @@ check-spec =
     let a = d .start .args in
     let q = plan-is (a .p) (not-false _ (left 1 d)) in
     let r = reply-is (a .p) (a .frame .now) (not-false _ (left 4 d)) in
-    let st = rules.range-stands (a .op) (a .p) (a .self) (a .desk .now) (left 9 d) in
-    (st .round-low, omega arith, r .frame-is .low, rules.reply-stamped _ _ r))
+    let st = rules.range-stands (a .p) (a .self) (a .desk .now) (rules.and-second (sameOperation (a .op) (a .self .operation)) _ (not-false _ (left 9 d))) in
+    (st .low, rules.ask-high _ _ st, r .frame-is .low, rules.reply-stamped _ _ r))
     (λ c. stop _ _ (at-awaited (c .before .before)) (ap not (sym (c .before .awaits .ensures)) ∙ c .if7 .taken) refl)
     (λ c κs.
     let d = at-heard c in

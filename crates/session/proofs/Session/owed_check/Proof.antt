@@ -7,7 +7,7 @@ use Rattle.terms.specs.Ladder.{Rung}
 use Rattle.terms.proofs.Down.{Down, top, next, left, stop, end}
 use Rattle.terms.proofs.Plans.{plan-is}
 use Rattle.session.specs.Owed.{owedLadder}
-use Rattle.session.proofs.Oweds as laws
+use Rattle.session.proofs.Rules as rules
 use borrow.Author.Needs.{needs}
 use Rattle.session.proofs.Session.owed_check.Statement.{statement}
 use Rattle.session.proofs.Session.owed_check.Tie as tie
@@ -49,7 +49,7 @@ owed-check-spec =
     (λ c. stop _ _ (at-room (c .before .before)) (ap not (sym (c .before .room-ok .ensures)) ∙ c .if2 .taken) refl)
     (λ c κs.
     let d = at-range c in
-    (not-false _ (left 1 d), laws.room-is _ _ _ (not-false _ (left 2 d)) .desk-is))
+    (not-false _ (left 1 d), rules.room-is _ _ _ (not-false _ (left 2 d)) .desk-is))
     (λ c. stop _ _ (at-range (c .before .before)) (ap not (sym (c .before .ranges-ok .ensures)) ∙ c .if3 .taken) refl)
     (λ c κs. search needs)
     (λ c. stop _ _ (at-end (c .before .before)) (sym (c .before .ended .ensures) ∙ c .if4 .taken) refl)

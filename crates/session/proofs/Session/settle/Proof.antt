@@ -1,6 +1,5 @@
 use native.Mathlib.Omega.{arith}
 use Rattle.terms.proofs.Places.{slots-are}
-use Rattle.terms.proofs.Facts.{facts}
 use Rattle.rounds.specs.Rounds.{told}
 use Rattle.session.proofs.Readers as laws
 use borrow.Author.Needs.{needs}
@@ -12,30 +11,32 @@ settle-spec =
     tie.close
     (tie.spec
     (λ c κs. search needs)
-    (λ c. let g = facts _ (c .before .before .before .before .before .pre .0) in omega arith)
-    (λ c. laws.settled-open (c .before .before .before .before .before .before .args .p) (c .before .before .before .before .before .before .args .self) (c .before .before .before .before .before .before .args .desk .now) (c .before .before .before .before .before .before .args .item .now) _ (c .before .before .count .ensures .0) (c .if1 .taken))
+    (λ c.
+    let args = c .before .before .before .before .args in
+    laws.settled-open (args .p) (args .self) _ _ _ (c .before .round-open .ensures) (c .if1 .taken))
     (λ c κs. search needs)
     (λ c κs. search needs)
     (λ c κs.
-    let s = c .before .before in
-    let e = s .before .before .before .before .before .before .before in
-    let q = slots-are _ _ (e .pre .0) (s .slots-of .ensures) in
-    (laws.desk-room (e .args .p) (s .slots-of .result) (s .slots-of .ensures) (e .args .desk .now) (e .pre .1), omega arith, omega arith, omega arith))
+    let start = c .before .before .before .before .before .before .before .before in
+    let slots = c .before .before .slots-of in
+    let q = slots-are _ _ (start .pre .0) (slots .ensures) in
+    (laws.desk-room (start .args .p) (slots .result) (slots .ensures) (start .args .desk .now) (start .pre .1), omega arith, omega arith, omega arith))
     (λ c κs.
-    let x = c .before .before in
-    let s = x .before .before .before in
-    let e = s .before .before .before .before .before .before .before in
-    let a = e .args in
-    let q = slots-are _ _ (e .pre .0) (s .slots-of .ensures) in
-    let t = laws.closed-is (a .p) (a .self) (a .desk .now) _ _ _ (s .slots-of .ensures) (x .before .before .thresholds-of .ensures) (x .closing .ensures .0) in
-    laws.acting (a .p) (a .self) (a .desk .now) (x .closing .result) (e .pre .0) (e .pre .1) t (x .closing .ensures .1) (omega (arith, x .closing .ensures .2)) (a .item .now) (e .pre .2))
+    let shut = c .before .before in
+    let turn = shut .before .before .before .before .before .before in
+    let start = turn .before .before .before in
+    let args = start .args in
+    let q = slots-are _ _ (start .pre .0) (shut .before .before .before .slots-of .ensures) in
+    laws.acting (args .p) (args .self) (args .desk .now) (shut .closing .result) (start .pre .0) (start .pre .1)
+    (laws.closed-is (args .p) (args .self) (args .desk .now) _ _ _ (shut .before .before .before .slots-of .ensures) (shut .before .before .thresholds-of .ensures) (shut .closing .ensures .0))
+    (shut .closing .ensures .1) (omega (arith, shut .closing .ensures .2)) (args .item .now) (start .pre .2))
     (λ c. search needs)
     (λ c. search needs)
     (λ c.
-    let x = c .before .before .before .before .before .before .before in
-    let s = x .before .before .before in
-    let e = s .before .before .before .before .before .before .before in
-    let a = e .args in
-    let t = laws.closed-is (a .p) (a .self) (a .desk .now) _ _ _ (s .slots-of .ensures) (x .before .before .thresholds-of .ensures) (x .closing .ensures .0) in
-    laws.settled-acts (a .p) (a .self) (a .desk .now) (a .item .now) _ (s .before .before .before .count .ensures .0) _ (told (x .closing .result)) (s .before .if1 .left) t
-    (c .before .before .before .before .act .ensures)))
+    let acts = c .before .before .before .before in
+    let shut = acts .before .before .before in
+    let turn = shut .before .before .before .before .before .before in
+    let args = turn .before .before .before .args in
+    laws.settled-acts (args .p) (args .self) (args .desk .now) (args .item .now) _ (turn .round-open .ensures) _ (told (shut .closing .result)) (shut .before .before .before .before .before .if1 .left)
+    (laws.closed-is (args .p) (args .self) (args .desk .now) _ _ _ (shut .before .before .before .slots-of .ensures) (shut .before .before .thresholds-of .ensures) (shut .closing .ensures .0))
+    (acts .act .ensures)))

@@ -7,6 +7,7 @@ use native.Mathlib.Omega.{arith}
 use Rattle.octets.specs.Bytes.{part}
 use Rattle.octets.proofs.Laws.{length-part, slot-fits}
 use Rattle.terms.proofs.Plans.{plan-is}
+use Rattle.session.proofs.Known.{known-owed}
 use Rattle.session.proofs.Oweds as laws
 use Rattle.session.proofs.Rules as rules
 use borrow.Author.Needs.{needs}
@@ -20,28 +21,30 @@ write-request-spec =
     (λ c κs.
     let args = c .before .before .args in
     let pre = c .before .before .pre in
-    let o = laws.owing (args .p) (args .self) (args .node) (args .desk .now) (length (args .request .now)) pre in
-    (o .round-low, o .ask-high))
+    let o = known-owed (args .p) (args .self) (args .node) (args .desk .now) (length (args .request .now)) pre in
+    (o .stands .low, rules.ask-high _ _ (o .stands)))
     (λ c κs.
     let args = c .before .before .before .args in
     let pre = c .before .before .before .pre in
-    let o = laws.owing (args .p) (args .self) (args .node) (args .desk .now) (length (args .request .now)) pre in
+    let o = known-owed (args .p) (args .self) (args .node) (args .desk .now) (length (args .request .now)) pre in
     o .plan-ok)
     (λ c κs. search needs)
     (λ c.
     let record-length = c .before .before .before .record-length in
     let args = c .before .before .before .before .before .before .before .args in
     let pre = c .before .before .before .before .before .before .before .pre in
-    let o = laws.owing (args .p) (args .self) (args .node) (args .desk .now) (length (args .request .now)) pre in
+    let o = known-owed (args .p) (args .self) (args .node) (args .desk .now) (length (args .request .now)) pre in
     let q = plan-is _ (o .plan-ok) in
+    let n = laws.node-low (args .p) (args .self) (args .node) (args .desk .now) (length (args .request .now)) o in
     omega (arith, rules.product-low (args .node) (record-length .result) 16 1576 (omega arith) (record-length .ensures .1)))
     (λ c κs.
     let record-length = c .before .before .before .record-length in
     let args = c .before .before .before .before .before .before .before .args in
     let pre = c .before .before .before .before .before .before .before .pre in
-    let o = laws.owing (args .p) (args .self) (args .node) (args .desk .now) (length (args .request .now)) pre in
+    let o = known-owed (args .p) (args .self) (args .node) (args .desk .now) (length (args .request .now)) pre in
     let e = record-length .ensures .0 in
-    (omega arith, rw e (omega (arith, slot-fits (args .node) (args .p .n) (recordLength (args .p)) (o .node-low), o .room .desk-is))))
+    let low = laws.request-low (args .p) (args .self) (args .node) (args .desk .now) (length (args .request .now)) o in
+    (omega arith, rw e (omega (arith, slot-fits (args .node) (args .p .n) (recordLength (args .p)) (laws.node-low (args .p) (args .self) (args .node) (args .desk .now) (length (args .request .now)) o), o .desk-is))))
     (λ c. search needs)
     (λ c. search needs)
     (λ c.
@@ -52,23 +55,24 @@ write-request-spec =
     let asked = c .before .before .before .before .before .before .before .asked in
     let args = c .before .before .before .before .before .before .before .before .before .before .args in
     let pre = c .before .before .before .before .before .before .before .before .before .before .pre in
-    let o = laws.owing (args .p) (args .self) (args .node) (args .desk .now) (length (args .request .now)) pre in
+    let o = known-owed (args .p) (args .self) (args .node) (args .desk .now) (length (args .request .now)) pre in
     let r = record-length .result in
     let e = record-length .ensures .0 in
     laws.sent _ 3 (args .node) (asked .result .0) (part (args .desk .now) (args .node * r) r) _ _ r (laws.stores _ _ _ _ _ (asked .ensures) _
     (storing .ensures) (if1 .taken) _ e) (length-part _ _ _ (rw e (omega (
       arith,
       slot-fits (args .node) (args .p .n) (recordLength
-          (args .p)) (o .node-low),
-      o .room .desk-is,
+          (args .p)) (laws.node-low (args .p) (args .self) (args .node) (args .desk .now) (length (args .request .now)) o),
+      o .desk-is,
     )))) (with-part .ensures))
     (λ c κs. search needs)
     (λ c κs.
     let record-length = c .before .before .before .before .before .before .record-length in
     let args = c .before .before .before .before .before .before .before .before .before .before .args in
     let pre = c .before .before .before .before .before .before .before .before .before .before .pre in
-    let o = laws.owing (args .p) (args .self) (args .node) (args .desk .now) (length (args .request .now)) pre in
+    let o = known-owed (args .p) (args .self) (args .node) (args .desk .now) (length (args .request .now)) pre in
     let e = record-length .ensures in
+    let low = laws.request-low (args .p) (args .self) (args .node) (args .desk .now) (length (args .request .now)) o in
     omega arith)
     (λ c. search needs)
     (λ c.
@@ -85,8 +89,9 @@ write-request-spec =
     let record-length = c .before .before .before .before .before .record-length in
     let args = c .before .before .before .before .before .before .before .before .before .args in
     let pre = c .before .before .before .before .before .before .before .before .before .pre in
-    let o = laws.owing (args .p) (args .self) (args .node) (args .desk .now) (length (args .request .now)) pre in
+    let o = known-owed (args .p) (args .self) (args .node) (args .desk .now) (length (args .request .now)) pre in
     let e = record-length .ensures in
+    let low = laws.request-low (args .p) (args .self) (args .node) (args .desk .now) (length (args .request .now)) o in
     omega arith)
     (λ c. search needs)
     (λ c.

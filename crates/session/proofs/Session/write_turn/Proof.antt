@@ -1,5 +1,3 @@
-use native.Mathlib.Omega.{arith}
-use Rattle.terms.proofs.Facts.{facts}
 use Rattle.session.proofs.Writers as laws
 use borrow.Author.Needs.{needs}
 use Rattle.session.proofs.Session.write_turn.Statement.{statement}
@@ -11,16 +9,9 @@ write-turn-spec =
     (tie.spec
     (λ c κs. search needs)
     (λ c.
-    let pre = c .before .before .before .pre in
-    let q = facts _ pre in
-    omega arith)
-    (λ c.
-    let count = c .before .before .count in
-    let args = c .before .before .before .before .args in
-    λ d. laws.write-open (args .p) (args .self) d _ (count .ensures .0) (c .if1 .taken))
+    let args = c .before .before .args in
+    λ d. laws.write-open (args .p) (args .self) d _ (c .before .round-open .ensures) (c .if1 .taken))
     (λ c κs. search needs)
     (λ c.
-    let if1 = c .before .before .if1 in
-    let count = c .before .before .before .before .count in
-    let args = c .before .before .before .before .before .before .args in
-    λ d. laws.write-done (args .p) (args .self) d _ (count .ensures .0) (if1 .left) _ (c .over .ensures)))
+    let args = c .before .before .before .before .args in
+    λ d. laws.write-done (args .p) (args .self) d _ (c .before .before .before .round-open .ensures) (c .before .before .if1 .left) _ (c .over .ensures)))

@@ -20,7 +20,7 @@ use Rattle.terms.specs.Terms.{recordLength}
 use Rattle.terms.specs.declared.Plan.{Plan}
 use Rattle.terms.proofs.Rungs.{both}
 use Rattle.book.specs.Records.{timed, rising, below, insertRecord}
-use Rattle.book.specs.Book.{recordsFrom, recordsPast, joined, headed, filled, goodAs, header, laidAs, nodeOf, countOf, inserted}
+use Rattle.book.specs.Book.{recordsFrom, recordsPast, joined, headed, filled, goodAs, header, laidAs, nodeOf, countOf, fixed, inserted}
 use Rattle.book.proofs.Lists.{below-le, insert-is, length-insert}
 
 -- ---- records of r bytes each, and their bytes
@@ -143,31 +143,31 @@ unfolding part
 whole b x n h e = rw (e, length-take-le n b h) (sym (take-append-drop n b))
 
 -- a good book of bytes is its own laying out
-pub laid : (v h : ℕ) (p : Plan) (b : List ℕ) → 11 ≤ h → Octets b → BookIs v h p b
-    → b ≡ over (laidAs v (part b 11 (h - 11)) p (nodeOf b) (recordsPast h p b)) b
+pub laid : (v h : ℕ) (p : Plan) (b : List ℕ) → fixed ≤ h → Octets b → BookIs v h p b
+    → b ≡ over (laidAs v (part b fixed (h - fixed)) p (nodeOf b) (recordsPast h p b)) b
 unfolding laidAs header over
 laid v h p b low o i =
     let R : ℕ = recordLength p in
     let k : ℕ = countOf b in
-    let M : List ℕ = part b 11 (h - 11) in
+    let M : List ℕ = part b fixed (h - fixed) in
     let fits : h + k * R ≤ length b = i .fill .inside in
     let lr : length (recordsPast h p b) ≡ k = length-records b R k h in
-    let lm : length M ≡ h - 11 = length-part b 11 (h - 11) (omega arith) in
-    let u : num (part b 0 4) ≡ 7 + length M + k * R = i .head .used ∙ ap (λ (x : ℕ). x + k * R) (omega arith) in
-    let p0 : be 4 (7 + length M + k * R) ≡ part b 0 4 = ap (λ (x : ℕ). be 4 x) (sym u) ∙ be-part b 0 4 (omega arith) o in
+    let lm : length M ≡ h - fixed = length-part b fixed (h - fixed) (omega arith) in
+    let u : num (part b 0 4) ≡ fixed - 4 + length M + k * R = i .head .used ∙ ap (λ (x : ℕ). x + k * R) (omega arith) in
+    let p0 : be 4 (fixed - 4 + length M + k * R) ≡ part b 0 4 = ap (λ (x : ℕ). be 4 x) (sym u) ∙ be-part b 0 4 (omega arith) o in
     let p4 : be 1 v ≡ part b 4 1 = ap (λ (x : ℕ). be 1 x) (sym (i .head .version)) ∙ be-part b 4 1 (omega arith) o in
     let p5 : be 1 (p .n) ≡ part b 5 1 = ap (λ (x : ℕ). be 1 x) (sym (i .head .nodes)) ∙ be-part b 5 1 (omega arith) o in
     let p6 : be 1 (nodeOf b) ≡ part b 6 1 = be-part b 6 1 (omega arith) o in
     let p7 : be 2 (p .f) ≡ part b 7 2 = ap (λ (x : ℕ). be 2 x) (sym (i .head .size)) ∙ be-part b 7 2 (omega arith) o in
     let p9 : be 2 k ≡ part b 9 2 = be-part b 9 2 (omega arith) o in
-    let E : ℕ = h - 11 in
+    let E : ℕ = h - fixed in
     let hh : 4 + (1 + (1 + (1 + (2 + (2 + E))))) ≡ h = omega arith in
-    let hd : be 4 (7 + length M + k * R) ++ (be 1 v ++ (be 1 (p .n) ++ (be 1 (nodeOf b) ++ (be 2 (p .f) ++ (be 2 k ++ M))))) ≡ part b 0 h =
+    let hd : be 4 (fixed - 4 + length M + k * R) ++ (be 1 v ++ (be 1 (p .n) ++ (be 1 (nodeOf b) ++ (be 2 (p .f) ++ (be 2 k ++ M))))) ≡ part b 0 h =
     (λ j. p0 j ++ (p4 j ++ (p5 j ++ (p6 j ++ (p7 j ++ (p9 j ++ M))))))
     ∙ sym (part-add b 0 4 (1 + (1 + (1 + (2 + (2 + E))))) ∙ ap (λ (l : List ℕ). part b 0 4 ++ l) (part-add b 4 1 (1 + (1 + (2 + (2 + E)))) ∙ ap (λ (l : List ℕ). part b 4 1 ++ l)
     (part-add b 5 1 (1 + (2 + (2 + E))) ∙ ap (λ (l : List ℕ). part b 5 1 ++ l) (part-add b 6 1 (2 + (2 + E)) ∙ ap (λ (l : List ℕ). part b 6 1 ++ l)
     (part-add b 7 2 (2 + E) ∙ ap (λ (l : List ℕ). part b 7 2 ++ l) (part-add b 9 2 E)))))) ∙ ap (λ (x : ℕ). part b 0 x) hh in
-    let bytes : be 4 (7 + length M + k * R) ++ (be 1 v ++ (be 1 (p .n) ++ (be 1 (nodeOf b) ++ (be 2 (p .f) ++ (be 2 k ++ M))))) ++ joined
+    let bytes : be 4 (fixed - 4 + length M + k * R) ++ (be 1 v ++ (be 1 (p .n) ++ (be 1 (nodeOf b) ++ (be 2 (p .f) ++ (be 2 k ++ M))))) ++ joined
     (recordsPast h p b) ≡ part b 0 (h + k * R) =
     (λ j. hd j ++ (sym (cut b R k h) ∙ ap (λ (x : ℕ). part b x (k * R)) (sym (zero-add h))) j) ∙ sym (part-add b 0 h (k * R)) in
     rw lr (whole b _ (h + k * R) fits bytes)
@@ -177,14 +177,14 @@ abbrev middle : ℕ → Plan → ℕ → List ℕ
 middle v p node = be 1 v ++ (be 1 (p .n) ++ (be 1 node ++ be 2 (p .f)))
 
 header-split : (v : ℕ) (more : List ℕ) (p : Plan) (node c : ℕ) (y : List ℕ)
-    → header v more p node c ++ y ≡ be 4 (7 + length more + c * recordLength p) ++ (middle v p node ++ (be 2 c ++ (more ++ y)))
+    → header v more p node c ++ y ≡ be 4 (fixed - 4 + length more + c * recordLength p) ++ (middle v p node ++ (be 2 c ++ (more ++ y)))
 unfolding header
 header-split v more p node c y = simp append-assoc
 
 length-middle : (v : ℕ) (p : Plan) (node : ℕ) → length (middle v p node) ≡ 5
 length-middle v p node = simp (length-append, length-be)
 
-pub length-header : (v : ℕ) (more : List ℕ) (p : Plan) (node c : ℕ) → length (header v more p node c) ≡ 11 + length more
+pub length-header : (v : ℕ) (more : List ℕ) (p : Plan) (node c : ℕ) → length (header v more p node c) ≡ fixed + length more
 unfolding header
 length-header v more p node c = simp (length-append, length-be) (omega arith)
 
@@ -195,9 +195,9 @@ unfolding put
 rehead a a₂ m c c₂ y ha ha₂ hm hc hc₂ =
     let n : 0 + length a₂ ≡ 4 = omega arith in
     let l : length (a₂ ++ m) ≡ 9 = length-append a₂ m ∙ omega arith in
-    let k : 9 + length c₂ ≡ 11 = omega arith in
-    let q : length (a₂ ++ m ++ c) ≡ 11 = length-append (a₂ ++ m) c ∙ omega arith in
-    rw (n, drop-at a (m ++ (c ++ y)) 4 ha, k, ← append-assoc a₂ m (c ++ y), take-at (a₂ ++ m) (c ++ y) 9 l, ← append-assoc (a₂ ++ m) c y, drop-at (a₂ ++ m ++ c) y 11 q)
+    let k : 9 + length c₂ ≡ fixed = omega arith in
+    let q : length (a₂ ++ m ++ c) ≡ fixed = length-append (a₂ ++ m) c ∙ omega arith in
+    rw (n, drop-at a (m ++ (c ++ y)) 4 ha, k, ← append-assoc a₂ m (c ++ y), take-at (a₂ ++ m) (c ++ y) 9 l, ← append-assoc (a₂ ++ m) c y, drop-at (a₂ ++ m ++ c) y fixed q)
     (append-assoc a₂ m (c₂ ++ y))
 
 pub over-is : (x b : List ℕ) (n : ℕ) → length x ≡ n → over x b ≡ x ++ drop n b
@@ -206,7 +206,7 @@ over-is x b n e = ap (λ (k : ℕ). x ++ drop k b) e
 
 module _ (v : ℕ) (more : List ℕ) (p : Plan) (node : ℕ) where
   pub length-laid : (rs : List (List ℕ)) → Sized (recordLength p) rs
-      → length (laidAs v more p node rs) ≡ 11 + length more + length rs * recordLength p
+      → length (laidAs v more p node rs) ≡ fixed + length more + length rs * recordLength p
   unfolding laidAs
   length-laid rs z =
       length-append (header v more p node (length rs)) (joined rs)
@@ -217,7 +217,7 @@ module _ (v : ℕ) (more : List ℕ) (p : Plan) (node : ℕ) where
   laid-is rs = refl
 
   -- what the code's insertion leaves is the inserted list laid out, over the old book
-  pub inserted-laid : (h : ℕ) (b rec : List ℕ) (rs : List (List ℕ)) → h ≡ 11 + length more → Sized (recordLength p) rs → length rec ≡ recordLength p
+  pub inserted-laid : (h : ℕ) (b rec : List ℕ) (rs : List (List ℕ)) → h ≡ fixed + length more → Sized (recordLength p) rs → length rec ≡ recordLength p
       → h + length rs * recordLength p + recordLength p ≤ length b → b ≡ over (laidAs v more p node rs) b
       → inserted b (h + below (stamp rec) rs * recordLength p) (h + length rs * recordLength p) rec (recordLength p) (length rs + 1) ≡ over (laidAs v more p node (insertRecord rec rs)) b
   unfolding inserted
@@ -252,17 +252,17 @@ module _ (v : ℕ) (more : List ℕ) (p : Plan) (node : ℕ) where
       let two : put (put b (at + R) (part b at (end - at))) at rec ≡ H ++ Y =
       ap (λ (x : ℕ). put (put b x (part b at (end - at))) at rec) ra ∙ ap (λ (l : List ℕ). put (put b (at + length rec) l) at rec) pt
       ∙ put-put b at rec J2 (omega arith) ∙ put-is b at (rec ++ J2) ∙ rw (n, tk) (simp append-assoc) in
-      let c4 : end + R - 4 ≡ 7 + length more + (m + 1) * R = omega (arith, add-mul m 1 R) in
+      let c4 : end + R - 4 ≡ fixed - 4 + length more + (m + 1) * R = omega (arith, add-mul m 1 R) in
       let ji : J1 ++ (rec ++ J2) ≡ joined (insertRecord rec rs) = sym
       (ap joined (insert-is rec rs) ∙ joined-append (take j rs) (rec ∷ drop j rs) ∙ ap (λ (l : List ℕ). J1 ++ l) (joined-cons rec (drop j rs))) in
       let li : length (insertRecord rec rs) ≡ m + 1 = length-insert rec rs in
       let le : length (laidAs v more p node (insertRecord rec rs)) ≡ end + R = length-laid (insertRecord rec rs) (sized-insert R rec rs lr z)
-      ∙ ap (λ (x : ℕ). 11 + length more + x * R) li ∙ omega (arith, add-mul m 1 R) in
+      ∙ ap (λ (x : ℕ). fixed + length more + x * R) li ∙ omega (arith, add-mul m 1 R) in
       let right : over (laidAs v more p node (insertRecord rec rs)) b ≡ header v more p node (m + 1) ++ Y =
       over-is (laidAs v more p node (insertRecord rec rs)) b (end + R) le ∙ ap (λ (l : List ℕ). l ++ D) (laid-is (insertRecord rec rs))
       ∙ (λ i. header v more p node (li i) ++ sym ji i ++ D) ∙ simp append-assoc in
       ap (λ (l : List ℕ). put (put l 0 (be 4 (end + R - 4))) 9 (be 2 (m + 1))) (two ∙ header-split v more p node m Y)
-      ∙ rehead (be 4 (7 + length more + m * R)) (be 4 (end + R - 4)) (middle v p node) (be 2 m) (be 2 (m + 1)) (more ++ Y) (length-be 4 _)
+      ∙ rehead (be 4 (fixed - 4 + length more + m * R)) (be 4 (end + R - 4)) (middle v p node) (be 2 m) (be 2 (m + 1)) (more ++ Y) (length-be 4 _)
       (length-be 4 _) (length-middle v p node) (length-be 2 m) (length-be 2 (m + 1))
       ∙ ap (λ (x : ℕ). be 4 x ++ (middle v p node ++ (be 2 (m + 1) ++ (more ++ Y)))) c4
       ∙ sym (right ∙ header-split v more p node (m + 1) Y)

@@ -1,5 +1,5 @@
 // A book of one node: its shape, its last records, the fate of a record that is to be written, and a record put in its place.
-// Document 01, "Records, books, frames" and "The node". A function with a header length `h` serves any version of a book.
+// Document 01, "Records, books, frames" and "The node". A book is a value, its header read once: what goes by it serves any version.
 ghost use mathlib.Core.Path.{_≡_};
 ghost use mathlib.Core.Bool.{Bool, true, false};
 ghost use mathlib.Core.List.{List, []};
@@ -7,15 +7,30 @@ ghost use Prim.Native.Nat.{ℕ, _+_, _*_, _≤_, _<_};
 ghost use lib.ListN.{length, take};
 ghost use lib.Dec.{leb, ltb};
 ghost use Rattle.octets.specs.Bytes.{part, num, over};
-ghost use Rattle.terms.specs.Terms.{planOk, recordLength};
+ghost use Rattle.terms.specs.Terms.{planOk};
 ghost use Rattle.terms.specs.Stamp.{time};
 ghost use Rattle.book.specs.Records.{timed, rising, below, lastOf, lastBelow, fateOf};
-ghost use Rattle.book.specs.Book.{recordsFrom, headed, filled, goodBook, laidOut, nodeOf, countOf, recordsOf, usedOf, grown, inserted, fateBy, Checked, Lies, Placed};
+ghost use Rattle.book.specs.Book.{fixed, bookHead, bookLent, bookIn, recordsIn, usedIn, headed, filled, laidOut, fateBy, Checked, Holds, Lies, Placed, Grows};
 use terms::Plan;
 use terms::Time;
 
-// The header of a version 1 book.
-const HEADER: usize = 11;
+// The bytes up to the count, which every version has.
+const FIXED: usize = 11;
+
+// What was read of a book, once: its version, the bytes of its header, its node number, its count, and the bytes of each record.
+pub struct Book {
+    pub version: u64,
+    pub head: usize,
+    pub node: u64,
+    pub count: usize,
+    pub each: usize,
+}
+
+// What a book is found to be (refusal 3).
+pub enum Shape {
+    Bad,
+    Good(Book),
+}
 
 // Where some bytes of a book lie: a record, or no byte for the first triple.
 pub struct Span {
@@ -31,39 +46,42 @@ pub enum Fate {
     Free(usize),
 }
 
-// The count.
-fn count(book: &[u8]) -> usize
-    requires { ⌜ 11 ≤ length (now book) ⌝ }
-    ensures { λ r. ⌜ (r ≡ countOf (now (book .entry))) × (r < 65536) ⌝ }
+// Whether a lent book may have n bytes.
+pub fn lent(n: usize) -> bool
+    ensures { λ r. ⌜ r ≡ bookLent n ⌝ }
 {
-    octets::get(book, 9, 2) as usize
+    if n < FIXED {
+        return false;
+    }
+    n <= 65536
 }
 
-// The node number.
-pub fn node_of(book: &[u8]) -> u64
-    requires { ⌜ 11 ≤ length (now book) ⌝ }
-    ensures { λ r. ⌜ r ≡ nodeOf (now (book .entry)) ⌝ }
+// The header as a value: version 1 has no more than the fixed bytes.
+fn header_of(p: Plan, book: &[u8]) -> Book
+    requires { ⌜ (planOk p ≡ true) × (fixed ≤ length (now book)) ⌝ }
+    ensures { λ k. ⌜ (k ≡ bookIn p (now (book .entry))) × (k .count < 65536) × (k .each ≤ 1576) × (73 ≤ k .each) ⌝ }
 {
-    octets::get(book, 6, 1)
+    let version = octets::get(book, 4, 1);
+    let node = octets::get(book, 6, 1);
+    let count = octets::get(book, 9, 2) as usize;
+    let each = terms::record_length(p);
+    Book {
+        version: version,
+        head: FIXED,
+        node: node,
+        count: count,
+        each: each,
+    }
 }
 
-// The bytes in use.
-fn used(p: Plan, book: &[u8]) -> usize
-    requires { ⌜ (planOk p ≡ true) × (11 ≤ length (now book)) ⌝ }
-    ensures { λ r. ⌜ (r ≡ usedOf p (now (book .entry))) × (r ≤ 103283171) ⌝ }
+// Whether the records have each a time of 1 or more.
+fn timed(k: Book, book: &[u8]) -> bool
+    requires { ⌜ (usedIn k ≤ length (now book)) × (40 ≤ k .each) ⌝ }
+    ensures { λ a. ⌜ a ≡ timed (recordsIn k (now (book .entry))) ⌝ }
 {
-    let r = terms::record_length(p);
-    let k = count(book);
-    HEADER + k * r
-}
-
-// Whether `left` records from `at` on have each a time of 1 or more.
-fn timed(book: &[u8], at: usize, left: usize, r: usize) -> bool
-    requires { ⌜ (at + left * r ≤ length (now book)) × (40 ≤ r) ⌝ }
-    ensures { λ a. ⌜ a ≡ timed (recordsFrom (now (book .entry)) r left at) ⌝ }
-{
-    let mut p = at;
-    let mut m = left;
+    let r = k.each;
+    let mut p = k.head;
+    let mut m = k.count;
     while m > 0 {
         if octets::get(book, p, 8) < 1 {
             return false;
@@ -74,13 +92,14 @@ fn timed(book: &[u8], at: usize, left: usize, r: usize) -> bool
     true
 }
 
-// Whether `left` records from `at` on rise strictly.
-fn rising(book: &[u8], at: usize, left: usize, r: usize) -> bool
-    requires { ⌜ (at + left * r ≤ length (now book)) × (40 ≤ r) ⌝ }
-    ensures { λ a. ⌜ a ≡ rising (recordsFrom (now (book .entry)) r left at) ⌝ }
+// Whether the records rise strictly.
+fn rising(k: Book, book: &[u8]) -> bool
+    requires { ⌜ (usedIn k ≤ length (now book)) × (40 ≤ k .each) ⌝ }
+    ensures { λ a. ⌜ a ≡ rising (recordsIn k (now (book .entry))) ⌝ }
 {
-    let mut p = at;
-    let mut m = left;
+    let r = k.each;
+    let mut p = k.head;
+    let mut m = k.count;
     while m > 1 {
         if !octets::less(book, p, book, p + r, 40) {
             return false;
@@ -91,54 +110,54 @@ fn rising(book: &[u8], at: usize, left: usize, r: usize) -> bool
     true
 }
 
-// Whether the numbers of the header are those of this version and plan, with the length in use that goes with the count.
-fn headed(p: Plan, book: &[u8], version: u64, h: usize) -> bool
-    requires { ⌜ (planOk p ≡ true) × (11 ≤ length (now book)) × (4 ≤ h) × (h ≤ 51) ⌝ }
-    ensures { λ a. ⌜ a ≡ headed version h p (now (book .entry)) ⌝ }
+// Whether the numbers of the header are those of version 1 and this plan, with the length in use that goes with the count.
+fn headed(p: Plan, k: Book, book: &[u8]) -> bool
+    requires { ⌜ (fixed ≤ length (now book)) × (k ≡ bookIn p (now book)) × (k .count < 65536) × (k .each ≤ 1576) ⌝ }
+    ensures { λ a. ⌜ a ≡ headed 1 (bookHead 1) p (now (book .entry)) ⌝ }
 {
-    let r = terms::record_length(p);
-    let k = count(book);
     let n = p.n;
-    if octets::get(book, 0, 4) != (h - 4 + k * r) as u64 {
+    if octets::get(book, 0, 4) != (k.head - 4 + k.count * k.each) as u64 {
         return false;
     }
-    if octets::get(book, 4, 1) != version {
+    if k.version != 1 {
         return false;
     }
     if octets::get(book, 5, 1) != n {
         return false;
     }
-    if octets::get(book, 6, 1) >= n {
+    if k.node >= n {
         return false;
     }
     octets::get(book, 7, 2) == p.f
 }
 
-// Whether the records past a header lie within the book, rise strictly and have times of 1 or more.
-fn filled(p: Plan, book: &[u8], h: usize) -> bool
-    requires { ⌜ (planOk p ≡ true) × (11 ≤ length (now book)) × (h ≤ 51) ⌝ }
-    ensures { λ a. ⌜ a ≡ filled h p (now (book .entry)) ⌝ }
+// Whether the records lie within the book, rise strictly and have times of 1 or more.
+fn filled(p: Plan, k: Book, book: &[u8]) -> bool
+    requires { ⌜ (k ≡ bookIn p (now book)) × (k .count < 65536) × (k .each ≤ 1576) × (73 ≤ k .each) ⌝ }
+    ensures { λ a. ⌜ a ≡ filled (bookHead 1) p (now (book .entry)) ⌝ }
 {
-    let r = terms::record_length(p);
-    let k = count(book);
-    if book.len() < h + k * r {
+    if book.len() < k.head + k.count * k.each {
         return false;
     }
-    if !rising(book, h, k, r) {
+    if !rising(k, book) {
         return false;
     }
-    timed(book, h, k, r)
+    timed(k, book)
 }
 
-// Whether a book is of this shape and plan (refusal 3). The second fact is for those who write it.
-pub fn good(p: Plan, book: &[u8]) -> bool
-    requires { ⌜ (planOk p ≡ true) × (11 ≤ length (now book)) ⌝ }
-    ensures { λ a. ⌜ Checked p (now (book .entry)) a ⌝ }
+// The shape of a book of this plan (refusal 3). The second fact is for those who write it.
+pub fn good(p: Plan, book: &[u8]) -> Shape
+    requires { ⌜ (planOk p ≡ true) × (fixed ≤ length (now book)) ⌝ }
+    ensures { λ s. ⌜ Checked p (now (book .entry)) s ⌝ }
 {
-    if !headed(p, book, 1, HEADER) {
-        return false;
+    let k = header_of(p, book);
+    if !headed(p, k, book) {
+        return Shape::Bad;
     }
-    filled(p, book, HEADER)
+    if filled(p, k, book) {
+        return Shape::Good(k);
+    }
+    Shape::Bad
 }
 
 // Whether the record at `at` is strictly below the timestamp at `s` of src.
@@ -149,137 +168,132 @@ fn is_below(book: &[u8], at: usize, src: &[u8], s: usize) -> bool
     octets::less(book, at, src, s, 40)
 }
 
-// How many of the first `left` records from `at` on are below the timestamp at `s` of src.
-fn place(book: &[u8], at: usize, left: usize, r: usize, src: &[u8], s: usize) -> usize
-    requires { ⌜ (at + left * r ≤ length (now book)) × (40 ≤ r) × (s + 40 ≤ length (now src)) ⌝ }
-    ensures { λ k. ⌜ k ≡ below (num (part (now (src .entry)) s 40)) (recordsFrom (now (book .entry)) r left at) ⌝ }
+// How many of the records are below the timestamp at `s` of src.
+fn place(k: Book, book: &[u8], src: &[u8], s: usize) -> usize
+    requires { ⌜ (usedIn k ≤ length (now book)) × (40 ≤ k .each) × (s + 40 ≤ length (now src)) ⌝ }
+    ensures { λ i. ⌜ i ≡ below (num (part (now (src .entry)) s 40)) (recordsIn k (now (book .entry))) ⌝ }
 {
-    let mut p = at;
-    let mut k: usize = 0;
-    while k < left {
+    let r = k.each;
+    let m = k.count;
+    let mut p = k.head;
+    let mut i: usize = 0;
+    while i < m {
         if !is_below(book, p, src, s) {
-            return k;
+            return i;
         }
         p += r;
-        k += 1;
+        i += 1;
     }
-    k
+    i
 }
 
-// Where the last of the first k records lies, past a header of h bytes.
-fn span_of(book: &[u8], h: usize, r: usize, m: usize, k: usize) -> Span
-    requires { ⌜ (k ≤ m) × (h + m * r ≤ length (now book)) ⌝ }
-    ensures { λ s. ⌜ Lies (now (book .entry)) r (lastOf (take k (recordsFrom (now (book .entry)) r m h))) s ⌝ }
+// Where the last of the first i records lies.
+fn span_of(k: Book, book: &[u8], i: usize) -> Span
+    requires { ⌜ (i ≤ k .count) × (usedIn k ≤ length (now book)) ⌝ }
+    ensures { λ s. ⌜ Lies (now (book .entry)) (k .each) (lastOf (take i (recordsIn k (now (book .entry))))) s ⌝ }
 {
-    if k == 0 {
+    if i == 0 {
         return Span { at: 0, len: 0 };
     }
+    let r = k.each;
     Span {
-        at: h + (k - 1) * r,
+        at: k.head + (i - 1) * r,
         len: r,
     }
 }
 
 // Where the last record lies.
-pub fn last(p: Plan, book: &[u8]) -> Span
-    requires { ⌜ (planOk p ≡ true) × (goodBook p (now book) ≡ true) ⌝ }
-    ensures { λ s. ⌜ Lies (now (book .entry)) (recordLength p) (lastOf (recordsOf p (now (book .entry)))) s ⌝ }
+pub fn last(k: Book, book: &[u8]) -> Span
+    requires { ⌜ Holds k (now book) ⌝ }
+    ensures { λ s. ⌜ Lies (now (book .entry)) (k .each) (lastOf (recordsIn k (now (book .entry)))) s ⌝ }
 {
-    let r = terms::record_length(p);
-    let m = count(book);
-    span_of(book, HEADER, r, m, m)
+    span_of(k, book, k.count)
 }
 
 // Where the last record strictly below the timestamp at `s` of src lies.
-pub fn last_below(p: Plan, book: &[u8], src: &[u8], s: usize) -> Span
-    requires { ⌜ (planOk p ≡ true) × (goodBook p (now book) ≡ true) × (s + 40 ≤ length (now src)) ⌝ }
-    ensures { λ t. ⌜ Lies (now (book .entry)) (recordLength p) (lastBelow (num (part (now (src .entry)) s 40)) (recordsOf p (now (book .entry)))) t ⌝ }
+pub fn last_below(k: Book, book: &[u8], src: &[u8], s: usize) -> Span
+    requires { ⌜ Holds k (now book) × (s + 40 ≤ length (now src)) ⌝ }
+    ensures { λ t. ⌜ Lies (now (book .entry)) (k .each) (lastBelow (num (part (now (src .entry)) s 40)) (recordsIn k (now (book .entry)))) t ⌝ }
 {
-    let r = terms::record_length(p);
-    let m = count(book);
-    let k = place(book, HEADER, m, r, src, s);
-    span_of(book, HEADER, r, m, k)
+    let i = place(k, book, src, s);
+    span_of(k, book, i)
 }
 
 // The time of the last record, 0 if there is none.
-pub fn last_time(p: Plan, book: &[u8]) -> Time
-    requires { ⌜ (planOk p ≡ true) × (goodBook p (now book) ≡ true) ⌝ }
-    ensures { λ t. ⌜ t .0 ≡ time (lastOf (recordsOf p (now (book .entry)))) ⌝ }
+pub fn last_time(k: Book, book: &[u8]) -> Time
+    requires { ⌜ Holds k (now book) ⌝ }
+    ensures { λ t. ⌜ t .0 ≡ time (lastOf (recordsIn k (now (book .entry)))) ⌝ }
 {
-    let r = terms::record_length(p);
-    let m = count(book);
+    let m = k.count;
     if m == 0 {
         return Time(0);
     }
-    Time(octets::get(book, HEADER + (m - 1) * r, 8))
+    Time(octets::get(book, k.head + (m - 1) * k.each, 8))
 }
 
-// What becomes of the record at `from` of src where the record at `at` of book stands at its place k.
-fn fate_by(book: &[u8], at: usize, src: &[u8], from: usize, r: usize, k: usize) -> Fate
-    requires { ⌜ (at + r ≤ length (now book)) × (from + r ≤ length (now src)) × (40 ≤ r) ⌝ }
-    ensures { λ f. ⌜ f ≡ fateBy (part (now (book .entry)) at r) (part (now (src .entry)) from r) k ⌝ }
+// What becomes of the record at `from` of src where the record at x of book stands at its place i.
+fn fate_by(book: &[u8], x: Span, src: &[u8], from: usize, i: usize) -> Fate
+    requires { ⌜ (x .at + x .len ≤ length (now book)) × (from + x .len ≤ length (now src)) × (40 ≤ x .len) ⌝ }
+    ensures { λ f. ⌜ f ≡ fateBy (part (now (book .entry)) (x .at) (x .len)) (part (now (src .entry)) from (x .len)) i ⌝ }
 {
-    if !octets::same(book, at, src, from, 40) {
-        return Fate::Free(k);
+    if !octets::same(book, x.at, src, from, 40) {
+        return Fate::Free(i);
     }
-    if octets::same(book, at, src, from, r) {
+    if octets::same(book, x.at, src, from, x.len) {
         return Fate::Held;
     }
     Fate::Other
 }
 
 // What becomes of the record at `from` of src: its place in the book is looked for once, here.
-pub fn fate_of(p: Plan, book: &[u8], src: &[u8], from: usize) -> Fate
-    requires { ⌜ (planOk p ≡ true) × (goodBook p (now book) ≡ true) × (from + recordLength p ≤ length (now src)) ⌝ }
-    ensures { λ f. ⌜ f ≡ fateOf (part (now (src .entry)) from (recordLength p)) (recordsOf p (now (book .entry))) ⌝ }
+pub fn fate_of(k: Book, book: &[u8], src: &[u8], from: usize) -> Fate
+    requires { ⌜ Holds k (now book) × (from + k .each ≤ length (now src)) ⌝ }
+    ensures { λ f. ⌜ f ≡ fateOf (part (now (src .entry)) from (k .each)) (recordsIn k (now (book .entry))) ⌝ }
 {
-    let r = terms::record_length(p);
-    let m = count(book);
-    let k = place(book, HEADER, m, r, src, from);
-    if k < m {
-        return fate_by(book, HEADER + k * r, src, from, r, k);
+    let i = place(k, book, src, from);
+    if i < k.count {
+        let x = Span {
+            at: k.head + i * k.each,
+            len: k.each,
+        };
+        return fate_by(book, x, src, from, i);
     }
-    Fate::Free(k)
+    Fate::Free(i)
 }
 
-// Whether the book has room for R more bytes.
-pub fn room(p: Plan, book: &[u8]) -> bool
-    requires { ⌜ (planOk p ≡ true) × (11 ≤ length (now book)) ⌝ }
-    ensures { λ a. ⌜ a ≡ leb (usedOf p (now (book .entry)) + recordLength p) (length (now (book .entry))) ⌝ }
+// Whether a book lent as n bytes has room for one more record.
+pub fn room(k: Book, n: usize) -> bool
+    requires { ⌜ usedIn k ≤ n ⌝ }
+    ensures { λ a. ⌜ a ≡ leb (usedIn k + k .each) n ⌝ }
 {
-    let r = terms::record_length(p);
-    let end = used(p, book);
-    end + r <= book.len()
+    let r = k.each;
+    if n - (k.head + k.count * r) < r {
+        return false;
+    }
+    true
 }
 
-// r bytes of src from `from` on put at `at` of a book in use up to `end`: what follows moves up, length and count follow.
-fn insert_at(book: &mut [u8], at: usize, end: usize, src: &[u8], from: usize, r: usize, count: u64)
-    requires { ⌜ (11 ≤ at) × (at ≤ end) × (end + r ≤ length (now book)) × (from + r ≤ length (now src)) ⌝ }
-    ensures { λ _. ⌜ now (book .exit) ≡ inserted (now (book .entry)) at end (part (now (src .entry)) from r) r count ⌝ }
+// The record at `from` of src put in its place i, in a book that has room for it: what follows moves up, length and count follow. The
+// outcome is told in the words of every plan that the book is of.
+pub fn insert(k: Book, book: &mut [u8], i: usize, src: &[u8], from: usize)
+    requires { ⌜ Placed k (now book) (now src) from i ⌝ }
+    ensures { λ _. ⌜ Grows k (part (now (src .entry)) from (k .each)) (now (book .entry)) (now (book .exit)) ⌝ }
 {
+    let r = k.each;
+    let at = k.head + i * r;
+    let end = k.head + k.count * r;
     octets::up(book, at, end - at, r);
     octets::copy(src, from, r, book, at);
     octets::put_num(book, 0, 4, (end + r - 4) as u64);
-    octets::put_num(book, 9, 2, count);
+    octets::put_num(book, 9, 2, (k.count + 1) as u64);
 }
 
-// The record at `from` of src put in its place k, in a book that has room for it.
-pub fn insert(p: Plan, book: &mut [u8], k: usize, src: &[u8], from: usize)
-    requires { ⌜ Placed p (now book) (now src) from k ⌝ }
-    ensures { λ _. ⌜ now (book .exit) ≡ grown p (part (now (src .entry)) from (recordLength p)) (now (book .entry)) ⌝ }
-{
-    let r = terms::record_length(p);
-    let m = count(book);
-    let end = used(p, book);
-    insert_at(book, HEADER + k * r, end, src, from, r, (m + 1) as u64);
-}
-
-// A book with no record: its header, and bytes past it stay.
+// A version 1 book with no record: its header, and bytes past it stay.
 pub fn fresh(p: Plan, node: u64, book: &mut [u8])
-    requires { ⌜ 11 ≤ length (now book) ⌝ }
+    requires { ⌜ bookHead 1 ≤ length (now book) ⌝ }
     ensures { λ _. ⌜ now (book .exit) ≡ over (laidOut p node []) (now (book .entry)) ⌝ }
 {
-    octets::put_num(book, 0, 4, 7);
+    octets::put_num(book, 0, 4, (FIXED - 4) as u64);
     octets::put_num(book, 4, 1, 1);
     octets::put_num(book, 5, 1, p.n);
     octets::put_num(book, 6, 1, node);

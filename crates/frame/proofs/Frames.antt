@@ -17,28 +17,31 @@ use Rattle.terms.specs.declared.Plan.{Plan}
 use Rattle.terms.proofs.Rungs.{both, clash}
 use Rattle.terms.proofs.Plans.{not-ok}
 use Rattle.terms.proofs.Picks.{itself}
-use Rattle.frame.specs.Frame.{restOf, versionOf, kindOf, frameNode, shaped, bodyFits, oneOf, kindsFor, forParty, goodFrame, goodRequest, goodReply, cutAt}
+use Rattle.frame.specs.Frame.{timeReply, writeRequest, writeReply, readPrevious, headBytes, framed, restOf, versionOf, kindOf, frameNode, headerIn, shaped, bodyFits, oneOf, kindsFor, forParty, suits, goodFrame, goodRequest, goodReply, door, requestIn, replyIn, cutAt}
+use Rattle.frame.specs.declared.Header.{Header}
+use Rattle.frame.specs.declared.Door.{Door}
+use Rattle.frame.specs.declared.Door.the-variants.{Bad, Open}
 use Rattle.frame.specs.declared.Cut.the-variants.{EndsAt, NoFrame}
 use Rattle.frame.specs.declared.Party.{Party}
 use Rattle.frame.specs.declared.Party.the-variants.{Node, Client}
 
 -- ---- the shape
 pub record ShapedIs (f : List ℕ) : Type 0 where
-  pub low : 15 ≤ length f
+  pub low : headBytes 1 ≤ length f
   pub whole : restOf f ≡ length f - 4
   pub version : versionOf f ≡ 1
 
 pub shaped-is : (f : List ℕ) → shaped f ≡ true → ShapedIs f
 unfolding shaped all
 shaped-is f e =
-    let e1 = both (leb 15 (length f)) _ e in
+    let e1 = both (leb (headBytes 1) (length f)) _ e in
     let e2 = both (eqb (restOf f) (length f - 4)) _ (e1 .1) in
     let e3 = both (eqb (versionOf f) 1) _ (e2 .1) in
     record { low = leb-true _ _ (e1 .0); whole = eqb-true _ _ (e2 .0); version = eqb-true _ _ (e3 .0) }
 
-pub shaped-last : (f : List ℕ) (x : ℕ) → 15 ≤ length f → restOf f ≡ length f - 4 → x ≡ versionOf f → eqb x 1 ≡ shaped f
+pub shaped-last : (f : List ℕ) (x : ℕ) → headBytes 1 ≤ length f → restOf f ≡ length f - 4 → x ≡ versionOf f → eqb x 1 ≡ shaped f
 unfolding shaped all
-shaped-last f x a b e = rw (le-leb 15 (length f) a, eq-eqb (restOf f) (length f - 4) b, e) (itself (eqb (versionOf f) 1))
+shaped-last f x a b e = rw (le-leb (headBytes 1) (length f) a, eq-eqb (restOf f) (length f - 4) b, e) (itself (eqb (versionOf f) 1))
 
 pub shaped-back : (f : List ℕ) → ShapedIs f → shaped f ≡ true
 shaped-back f q = sym (shaped-last f (versionOf f) (q .low) (q .whole) refl) ∙ eq-eqb _ _ (q .version)
@@ -48,38 +51,46 @@ shaped-no f h = not-ok _ (λ e. h (shaped-is f e))
 
 -- ---- a frame for a party
 pub record FrameIs (party : Party) (p : Plan) (f : List ℕ) : Type 0 where
-  pub low : 15 ≤ length f
+  pub low : headBytes 1 ≤ length f
   pub whole : restOf f ≡ length f - 4
   pub version : versionOf f ≡ 1
   pub for : forParty party (kindOf f) ≡ true
-  pub fits : bodyFits p (kindOf f) (length f - 15) ≡ true
+  pub fits : bodyFits p (kindOf f) (length f - headBytes (versionOf f)) ≡ true
 
 pub frame-is : (party : Party) (p : Plan) (f : List ℕ) → goodFrame party p f ≡ true → FrameIs party p f
-unfolding goodFrame all
+unfolding goodFrame suits
 frame-is party p f e =
     let e1 = both (shaped f) _ e in
     let e2 = both (forParty party (kindOf f)) _ (e1 .1) in
-    let e3 = both (bodyFits p (kindOf f) (length f - 15)) _ (e2 .1) in
     let s = shaped-is f (e1 .0) in
-    record { low = s .low; whole = s .whole; version = s .version; for = e2 .0; fits = e3 .0 }
+    record { low = s .low; whole = s .whole; version = s .version; for = e2 .0; fits = e2 .1 }
 
-pub frame-last : (party : Party) (p : Plan) (f : List ℕ) (r : Bool) → shaped f ≡ true → forParty party (kindOf f) ≡ true
-    → r ≡ bodyFits p (kindOf f) (length f - 15) → r ≡ goodFrame party p f
-unfolding goodFrame all
-frame-last party p f r s k e = rw (s, k) (e ∙ itself (bodyFits p (kindOf f) (length f - 15)))
+pub frame-last : (party : Party) (p : Plan) (f : List ℕ) (r : Bool) → shaped f ≡ true → r ≡ suits party p (headerIn f) (length f) → r ≡ goodFrame party p f
+unfolding goodFrame
+frame-last party p f r s e = rw s e
+
+pub suits-last : (party : Party) (p : Plan) (h : Header) (n : ℕ) (r : Bool) → forParty party (h .kind) ≡ true
+    → r ≡ bodyFits p (h .kind) (n - headBytes (h .version)) → r ≡ suits party p h n
+unfolding suits
+suits-last party p h n r k e = rw k e
+
+pub suits-is : (party : Party) (p : Plan) (h : Header) (n : ℕ) → suits party p h n ≡ true
+    → (forParty party (h .kind) ≡ true) × (bodyFits p (h .kind) (n - headBytes (h .version)) ≡ true)
+unfolding suits
+suits-is party p h n e = both (forParty party (h .kind)) _ e
+
+pub suits-stray : (party : Party) (p : Plan) (h : Header) (n : ℕ) → forParty party (h .kind) ≡ false → false ≡ suits party p h n
+unfolding suits
+suits-stray party p h n e = rw e
 
 pub frame-back : (party : Party) (p : Plan) (f : List ℕ) → FrameIs party p f → goodFrame party p f ≡ true
 frame-back party p f q =
     let s = shaped-back f (record { low = q .low; whole = q .whole; version = q .version }) in
-    sym (frame-last party p f _ s (q .for) refl) ∙ q .fits
+    sym (frame-last party p f true s (suits-last party p (headerIn f) (length f) true (q .for) (sym (q .fits))))
 
-pub frame-unshaped : (party : Party) (p : Plan) (f : List ℕ) → shaped f ≡ false → false ≡ goodFrame party p f
-unfolding goodFrame all
+pub frame-unshaped : (party : Party) (p : Plan) (f : List ℕ) → shaped f ≡ false → goodFrame party p f ≡ false
+unfolding goodFrame
 frame-unshaped party p f e = rw e
-
-pub frame-stray : (party : Party) (p : Plan) (f : List ℕ) → shaped f ≡ true → forParty party (kindOf f) ≡ false → false ≡ goodFrame party p f
-unfolding goodFrame all
-frame-stray party p f s e = rw (s, e)
 
 -- ---- a request at a node
 pub record RequestIs (p : Plan) (node : ℕ) (f : List ℕ) : Type 0 where
@@ -124,6 +135,59 @@ reply-ill p f e = rw e
 
 pub reply-back : (p : Plan) (f : List ℕ) → ReplyIs p f → goodReply p f ≡ true
 reply-back p f q = sym (reply-last p f _ (frame-back Client p f (q .frame-is)) refl) ∙ lt-ltb _ _ (q .node-low)
+
+-- ---- the door of a call
+pub door-shut : (g : Bool) (f : List ℕ) → g ≡ false → Bad ≡ door g f
+door-shut g f e = rw e
+
+pub door-open : (g : Bool) (f : List ℕ) (h : Header) → g ≡ true → h ≡ headerIn f → Open h ≡ door g f
+door-open g f h e k = rw e (ap Open k)
+
+-- what the code has read of a frame, where its header fits or not
+module _ (party : Party) (p : Plan) (f : List ℕ) (h : Header) {r : Bool} (s : shaped f ≡ true) (e : h ≡ headerIn f) (t : r ≡ suits party p h (length f)) where
+  pub frame-read : r ≡ goodFrame party p f
+  frame-read = frame-last party p f r s (t ∙ ap (λ (x : Header). suits party p x (length f)) e)
+
+pub request-door : (p : Plan) (node : ℕ) (f : List ℕ) (h : Header) → goodFrame Node p f ≡ true → h ≡ headerIn f → h .node ≡ node → Open h ≡ requestIn p node f
+request-door p node f h g e n = door-open _ f h (sym (request-last p node f (h .node) g (ap (λ (x : Header). x .node) e)) ∙ eq-eqb _ _ n) e
+
+pub request-elsewhere : (p : Plan) (node : ℕ) (f : List ℕ) (h : Header) → goodFrame Node p f ≡ true → h ≡ headerIn f → (h .node ≡ node → ⊥) → Bad ≡ requestIn p node f
+request-elsewhere p node f h g e n = door-shut _ f (sym (request-last p node f (h .node) g (ap (λ (x : Header). x .node) e)) ∙ ne-eqb _ _ n)
+
+pub request-shut : (p : Plan) (node : ℕ) (f : List ℕ) → goodFrame Node p f ≡ false → Bad ≡ requestIn p node f
+request-shut p node f g = door-shut _ f (sym (request-ill p node f g))
+
+pub reply-door : (p : Plan) (f : List ℕ) (h : Header) → goodFrame Client p f ≡ true → h ≡ headerIn f → h .node < p .n → Open h ≡ replyIn p f
+reply-door p f h g e n = door-open _ f h (sym (reply-last p f (h .node) g (ap (λ (x : Header). x .node) e)) ∙ lt-ltb _ _ n) e
+
+pub reply-elsewhere : (p : Plan) (f : List ℕ) (h : Header) → goodFrame Client p f ≡ true → h ≡ headerIn f → p .n ≤ h .node → Bad ≡ replyIn p f
+reply-elsewhere p f h g e n = door-shut _ f (sym (reply-last p f (h .node) g (ap (λ (x : Header). x .node) e)) ∙ le-ltb _ _ n)
+
+pub reply-shut : (p : Plan) (f : List ℕ) → goodFrame Client p f ≡ false → Bad ≡ replyIn p f
+reply-shut p f g = door-shut _ f (sym (reply-ill p f g))
+
+-- what it said
+pub record Opened (g : Bool) (f : List ℕ) (h : Header) : Type 0 where
+  pub good : g ≡ true
+  pub is : h ≡ headerIn f
+
+header-or : Header → Door → Header
+header-or h Bad = h
+header-or h (Open x) = x
+
+opens : Door → Bool
+opens Bad = false
+opens (Open h) = true
+
+pub was-open : (g : Bool) (f : List ℕ) (h : Header) → Open h ≡ door g f → Opened g f h
+unfolding header-or opens
+was-open true f h e = record { good = refl; is = ap (header-or h) e }
+was-open false f h e = absurd (clash (ap opens e))
+
+pub was-shut : (g : Bool) (f : List ℕ) → Bad ≡ door g f → g ≡ false
+unfolding opens
+was-shut true f e = absurd (clash (sym (ap opens e)))
+was-shut false f e = refl
 
 -- ---- the table of kinds, at one kind and at none
 pub fits-at : (p : Plan) (kind k n : ℕ) (z : Bool) → kind ≡ k → z ≡ bodyFits p k n → z ≡ bodyFits p kind n
@@ -191,29 +255,41 @@ pub last-request : (kind : ℕ) → forParty Node kind ≡ true → (kind ≡ 1 
 last-request kind e a b c =
     ⊎-elim (λ h. absurd (a h)) (⊎-elim (λ h. absurd (b h)) (⊎-elim (λ h. absurd (c h)) (⊎-elim (λ h. h) (λ h. absurd h)))) (party-is Node kind e)
 
--- ---- the length of a frame, by its kind
-module _ {party : Party} {p : Plan} {f : List ℕ} (q : FrameIs party p f) where
+-- ---- the length of a body, by its kind
+module _ (p : Plan) (kind m : ℕ) (q : bodyFits p kind m ≡ true) where
   -- where the table gives kind k exactly n bytes
-  length-by : (k n : ℕ) → bodyFits p k (length f - 15) ≡ eqb (length f - 15) n → kindOf f ≡ k → length f ≡ 15 + n
-  length-by k n h e =
-      let low = q .low in
-      omega (arith, eqb-true (length f - 15) n (sym h ∙ ap (λ (x : ℕ). bodyFits p x (length f - 15)) (sym e) ∙ q .fits))
+  bytes-by : (k n : ℕ) → bodyFits p k m ≡ eqb m n → kind ≡ k → m ≡ n
+  bytes-by k n h e = eqb-true m n (sym h ∙ ap (λ (x : ℕ). bodyFits p x m) (sym e) ∙ q)
 
-  pub length-2 : kindOf f ≡ 2 → length f ≡ 23
+  pub bytes-2 : kind ≡ timeReply → m ≡ 8
   unfolding bodyFits
-  length-2 = length-by 2 8 refl
+  bytes-2 = bytes-by timeReply 8 refl
 
-  pub length-3 : kindOf f ≡ 3 → length f ≡ 15 + recordLength p
+  pub bytes-3 : kind ≡ writeRequest → m ≡ recordLength p
   unfolding bodyFits
-  length-3 = length-by 3 (recordLength p) refl
+  bytes-3 = bytes-by writeRequest (recordLength p) refl
 
-  pub length-4 : kindOf f ≡ 4 → length f ≡ 55
+  pub bytes-4 : kind ≡ writeReply → m ≡ 40
   unfolding bodyFits
-  length-4 = length-by 4 40 refl
+  bytes-4 = bytes-by writeReply 40 refl
 
-  pub length-6 : kindOf f ≡ 6 → length f ≡ 55
+  pub bytes-6 : kind ≡ readPrevious → m ≡ 40
   unfolding bodyFits
-  length-6 = length-by 6 40 refl
+  bytes-6 = bytes-by readPrevious 40 refl
+
+-- and of the frame
+module _ {party : Party} {p : Plan} {f : List ℕ} (q : FrameIs party p f) where
+  length-by : (n : ℕ) → length f - headBytes 1 ≡ n → length f ≡ framed 1 n
+  length-by n e = let low = q .low in omega arith
+
+  pub length-2 : kindOf f ≡ timeReply → length f ≡ framed 1 8
+  length-2 e = length-by 8 (bytes-2 p (kindOf f) (length f - headBytes 1) (q .fits) e)
+
+  pub length-3 : kindOf f ≡ writeRequest → length f ≡ framed 1 (recordLength p)
+  length-3 e = length-by (recordLength p) (bytes-3 p (kindOf f) (length f - headBytes 1) (q .fits) e)
+
+  pub length-4 : kindOf f ≡ writeReply → length f ≡ framed 1 40
+  length-4 e = length-by 40 (bytes-4 p (kindOf f) (length f - headBytes 1) (q .fits) e)
 
 -- ---- a body, after a head of h bytes
 pub body-part : (h : ℕ) (f : List ℕ) (at n : ℕ) → part (drop h f) at n ≡ part f (h + at) n

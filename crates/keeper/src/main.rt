@@ -7,6 +7,7 @@
 //
 // The book is read from its file for each request and kept nowhere else, so that several keepers may serve one book: each reads an old
 // or a new book whole, and only the one that has made the file BOOK.new may change it (crate book_file).
+use book::Shape;
 use book_file::say;
 use frame::Cut;
 use keeper_step::Due;
@@ -273,15 +274,18 @@ fn good(p: Plan, book: &[u8]) -> bool {
         say::refused(Refusal::OutsidePlan);
         return false;
     }
-    if book.len() < 11 {
+    if !book::lent(book.len()) {
         say::refused(Refusal::WrongLength);
         return false;
     }
-    let is = book::good(p, book);
-    if !is {
-        say::refused(Refusal::WrongBook);
+    let shape = book::good(p, book);
+    match shape {
+        Shape::Bad => {
+            say::refused(Refusal::WrongBook);
+            false
+        }
+        Shape::Good(_) => true,
     }
-    is
 }
 
 // Whether the book can be had, and is one; else a line says why.

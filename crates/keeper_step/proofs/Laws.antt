@@ -27,8 +27,9 @@ use Rattle.terms.specs.declared.Plan.{Plan}
 use Rattle.terms.specs.declared.Refusal.{Refusal}
 use Rattle.terms.proofs.Down.{clear}
 use Rattle.terms.proofs.Rungs as rungs
-use Rattle.frame.specs.Frame.{restOf, kindOf, frameNode, askOf, bodyOf, frame, cutAt}
+use Rattle.frame.specs.Frame.{writeRequest, headBytes, framed, restOf, kindOf, headerIn, bodyOf, frameOf, replying, cutAt}
 use Rattle.frame.specs.declared.Party.the-variants.{Node}
+use Rattle.frame.specs.declared.Header.{Header}
 use Rattle.frame.specs.declared.Cut.{Cut}
 use Rattle.frame.specs.declared.Cut.the-variants.{EndsAt, NoFrame}
 use Rattle.frame.proofs.Frames.{FrameIs, request-is, cut-short, cut-low, cut-high, cut-ends}
@@ -46,13 +47,13 @@ use Rattle.keeper_step.specs.declared.Due.the-variants as due
 use Rattle.keeper_step.specs.Step.{writeCut, asksToWrite, answerOf, lengthOf, Looked, Stepped, dueAfter}
 
 module _ (p : Plan) (f b y : List ℕ) where
-  by-verdict : (P : ServedOutcome → Type 0) → ((k : ℕ) → P (servedOutcome (refused k) b y)) → (None (nodeLadder p f b y) → P (answered p f b y)) → P (served p f b y)
+  by-verdict : (P : ServedOutcome → Type 0) → ((k : ℕ) → P (servedOutcome (refused k) b y)) → (None (nodeLadder p f b y) → P (answered p (headerIn f) (bodyOf f) b y)) → P (served p f b y)
   unfolding served
   by-verdict P r a =
-      subst P (sym (rungs.first-read (nodeLadder p f b y) (λ (k : ℕ). servedOutcome (refused k) b y) (answered p f b y)))
+      subst P (sym (rungs.first-read (nodeLadder p f b y) (λ (k : ℕ). servedOutcome (refused k) b y) (answered p (headerIn f) (bodyOf f) b y)))
       (go (first (nodeLadder p f b y) rungs.refused rungs.passes) refl)
     where
-      go : (v : rungs.Came) → first (nodeLadder p f b y) rungs.refused rungs.passes ≡ v → P (rungs.read v (λ (k : ℕ). servedOutcome (refused k) b y) (answered p f b y))
+      go : (v : rungs.Came) → first (nodeLadder p f b y) rungs.refused rungs.passes ≡ v → P (rungs.read v (λ (k : ℕ). servedOutcome (refused k) b y) (answered p (headerIn f) (bodyOf f) b y))
       go (rungs.refused k) e = r k
       go rungs.passes e = a (rungs.passes-is (nodeLadder p f b y) e)
 
@@ -64,30 +65,30 @@ unfolding over
 over-long new old = let e = length-append new (drop (length new) old) in omega (arith, e)
 
 -- the reply r, written over y
-reply-fits : (f : List ℕ) (r : Reply) (b y b₂ y₂ : List ℕ) (k : ℕ) → servedOutcome (replied k) b₂ y₂ ≡ sends f r b y → k ≤ length y₂
+reply-fits : (h : Header) (r : Reply) (b y b₂ y₂ : List ℕ) (k : ℕ) → servedOutcome (replied k) b₂ y₂ ≡ sends h r b y → k ≤ length y₂
 unfolding sends
-reply-fits f r b y b₂ y₂ k h =
-    let s : replied k ≡ replied (15 + length (r .body)) = ap (λ (o : ServedOutcome). o .answer) h in
-    let e : k ≡ 15 + length (r .body) = cc in
-    let new = frame (r .kind) (frameNode f) (askOf f) (r .body) in
-    let t : y₂ ≡ over new y = ap (λ (o : ServedOutcome). o .reply) h in
-    let l : length new ≡ 15 + length (r .body) = length-frame (r .kind) (frameNode f) (askOf f) (r .body) in
+reply-fits h r b y b₂ y₂ k q =
+    let s : replied k ≡ replied (framed (h .version) (length (r .body))) = ap (λ (o : ServedOutcome). o .answer) q in
+    let e : k ≡ framed (h .version) (length (r .body)) = cc in
+    let new = frameOf (replying h (r .kind)) (r .body) in
+    let t : y₂ ≡ over new y = ap (λ (o : ServedOutcome). o .reply) q in
+    let l : length new ≡ framed (h .version) (length (r .body)) = length-frame (replying h (r .kind)) (r .body) in
     subst (λ (z : List ℕ). k ≤ length z) (sym t) (omega (arith, over-long new y, l, e))
 
-reply-is : (f : List ℕ) (r : Reply) (b y b₂ y₂ : List ℕ) (k : ℕ) → servedOutcome (refused k) b₂ y₂ ≡ sends f r b y → ⊥
+reply-is : (h : Header) (r : Reply) (b y b₂ y₂ : List ℕ) (k : ℕ) → servedOutcome (refused k) b₂ y₂ ≡ sends h r b y → ⊥
 unfolding sends
-reply-is f r b y b₂ y₂ k h = no-reply (15 + length (r .body)) k (sym (ap (λ (o : ServedOutcome). o .answer) h))
+reply-is h r b y b₂ y₂ k q = no-reply (framed (h .version) (length (r .body))) k (sym (ap (λ (o : ServedOutcome). o .answer) q))
 
-reply-book : (f : List ℕ) (r : Reply) (s : SaidServed) (b y b₂ y₂ : List ℕ) → servedOutcome s b₂ y₂ ≡ sends f r b y → b₂ ≡ b
+reply-book : (h : Header) (r : Reply) (s : SaidServed) (b y b₂ y₂ : List ℕ) → servedOutcome s b₂ y₂ ≡ sends h r b y → b₂ ≡ b
 unfolding sends
-reply-book f r s b y b₂ y₂ h = ap (λ (o : ServedOutcome). o .book) h
+reply-book h r s b y b₂ y₂ q = ap (λ (o : ServedOutcome). o .book) q
 
 fits : (p : Plan) (f b y : List ℕ) (k : ℕ) (b₂ y₂ : List ℕ) → NodeCall p f b y (Replied k) b₂ y₂ → k ≤ length y₂
 unfolding answered
 fits p f b y k b₂ y₂ c =
     by-verdict p f b y (λ (o : ServedOutcome). servedOutcome (replied k) b₂ y₂ ≡ o → k ≤ length y₂)
     (λ j h. absurd (no-reply k j (ap (λ (o : ServedOutcome). o .answer) h)))
-    (λ n h. reply-fits f (replyTo (kindOf f) (bodyOf f) (recordsOf p b)) (bookAfter p f b) y b₂ y₂ k h)
+    (λ n h. reply-fits (headerIn f) (replyTo (kindOf f) (bodyOf f) (recordsOf p b)) (bookAfter p (headerIn f) (bodyOf f) b) y b₂ y₂ k h)
     (c .is)
 
 refused-stays : (p : Plan) (f b y : List ℕ) (r : Refusal) (b₂ y₂ : List ℕ) → NodeCall p f b y (Refused r) b₂ y₂ → b₂ ≡ b
@@ -95,19 +96,19 @@ unfolding answered
 refused-stays p f b y r b₂ y₂ c =
     by-verdict p f b y (λ (o : ServedOutcome). servedOutcome (refused (refusalNumber r)) b₂ y₂ ≡ o → b₂ ≡ b)
     (λ j h. ap (λ (o : ServedOutcome). o .book) h)
-    (λ n h. absurd (reply-is f (replyTo (kindOf f) (bodyOf f) (recordsOf p b)) (bookAfter p f b) y b₂ y₂ (refusalNumber r) h))
+    (λ n h. absurd (reply-is (headerIn f) (replyTo (kindOf f) (bodyOf f) (recordsOf p b)) (bookAfter p (headerIn f) (bodyOf f) b) y b₂ y₂ (refusalNumber r) h))
     (c .is)
 
 -- ---- no write
 -- what is cut out whole of a request is the request
-is-cut : (p : Plan) (f : List ℕ) → FrameIs Node p f → asksToWrite f ≡ eqb (kindOf f) 3
+is-cut : (p : Plan) (f : List ℕ) → FrameIs Node p f → asksToWrite f ≡ eqb (kindOf f) writeRequest
 unfolding asksToWrite
 is-cut p f q =
     let w = q .whole in
     let e = cut-ends f 0 (restOf f) (omega (arith, q .low)) refl (omega (arith, q .low, w)) (omega (arith, q .low, w)) in
     ap (λ (c : Cut). writeCut c f) (sym e)
 
-book-stays : (p : Plan) (f b : List ℕ) → eqb (kindOf f) 3 ≡ false → bookAfter p f b ≡ b
+book-stays : (p : Plan) (f b : List ℕ) → eqb (kindOf f) writeRequest ≡ false → bookAfter p (headerIn f) (bodyOf f) b ≡ b
 unfolding bookAfter
 book-stays p f b e = rw e
 
@@ -118,8 +119,8 @@ look-stays p f b y a b₂ y₂ w c =
     (λ j h. ap (λ (o : ServedOutcome). o .book) h)
     (λ n h.
     let q = request-is p (nodeOf b) f (not-false _ (clear (nodeLadder p f b y) n 4)) in
-    let e : eqb (kindOf f) 3 ≡ false = sym (is-cut p f (q .frame-is)) ∙ w in
-    reply-book f (replyTo (kindOf f) (bodyOf f) (recordsOf p b)) (saidServed a) (bookAfter p f b) y b₂ y₂ h ∙ book-stays p f b e)
+    let e : eqb (kindOf f) writeRequest ≡ false = sym (is-cut p f (q .frame-is)) ∙ w in
+    reply-book (headerIn f) (replyTo (kindOf f) (bodyOf f) (recordsOf p b)) (saidServed a) (bookAfter p (headerIn f) (bodyOf f) b) y b₂ y₂ h ∙ book-stays p f b e)
     (c .is)
 
 -- ---- the comparison
@@ -161,9 +162,9 @@ pub stores-as : (p : Plan) (f b y : List ℕ) (a : Answer) (k : ℕ) (b₂ y₂ 
 stores-as p f b y a k b₂ y₂ e c = stores-it p f b y k b₂ y₂ (subst (λ (x : Answer). NodeCall p f b y x b₂ y₂) e c)
 
 -- ---- the test for a write
-pub write-told : (f : List ℕ) (c : Cut) (e r : ℕ) → c ≡ cutAt f 0 → c ≡ EndsAt e → r ≡ kindOf f → eqb r 3 ≡ asksToWrite f
+pub write-told : (f : List ℕ) (c : Cut) (e r : ℕ) → c ≡ cutAt f 0 → c ≡ EndsAt e → r ≡ kindOf f → eqb r writeRequest ≡ asksToWrite f
 unfolding asksToWrite
-write-told f c e r h k m = ap (λ (x : ℕ). eqb x 3) m ∙ ap (λ (x : Cut). writeCut x f) (sym k ∙ h)
+write-told f c e r h k m = ap (λ (x : ℕ). eqb x writeRequest) m ∙ ap (λ (x : Cut). writeCut x f) (sym k ∙ h)
 
 pub uncut-told : (f : List ℕ) (c : Cut) → c ≡ cutAt f 0 → c ≡ NoFrame → false ≡ asksToWrite f
 unfolding asksToWrite
@@ -174,7 +175,7 @@ none-ends : (e : ℕ) → NoFrame ≡ EndsAt e → ⊥
 none-ends e h = let z : _≡_ {A = ℕ} 0 1 = cc in omega arith
 
 pub record Ends (s : List ℕ) (e : ℕ) : Type 0 where
-  pub least : 15 ≤ e
+  pub least : headBytes 1 ≤ e
   pub within : e ≤ length s
 
 -- the end of the frame at the start of s lies within s
@@ -184,7 +185,7 @@ ends s c e h k = by-field (ltb (length s - 0) 4) refl
     cut-is : cutAt s 0 ≡ EndsAt e
     cut-is = sym h ∙ k
 
-    by-rest : 4 ≤ length s - 0 → 11 ≤ restOf s → (t : Bool) → ltb (length s - 0 - 4) (restOf s) ≡ t → Ends s e
+    by-rest : 4 ≤ length s - 0 → headBytes 1 - 4 ≤ restOf s → (t : Bool) → ltb (length s - 0 - 4) (restOf s) ≡ t → Ends s e
     by-rest l m true q = absurd (none-ends e (cut-high s 0 (restOf s) l refl m (ltb-true _ _ q) ∙ cut-is))
     by-rest l m false q =
         let z : EndsAt (0 + 4 + restOf s) ≡ EndsAt e = cut-ends s 0 (restOf s) l refl m (ltb-false _ _ q) ∙ cut-is in
@@ -192,13 +193,13 @@ ends s c e h k = by-field (ltb (length s - 0) 4) refl
         let x : restOf s ≤ length s - 0 - 4 = ltb-false _ _ q in
         record { least = omega (arith, m, y); within = omega (arith, l, x, y) }
 
-    by-least : 4 ≤ length s - 0 → (t : Bool) → ltb (restOf s) 11 ≡ t → Ends s e
+    by-least : 4 ≤ length s - 0 → (t : Bool) → ltb (restOf s) (headBytes 1 - 4) ≡ t → Ends s e
     by-least l true q = absurd (none-ends e (cut-low s 0 (restOf s) l refl (ltb-true _ _ q) ∙ cut-is))
     by-least l false q = by-rest l (ltb-false _ _ q) (ltb (length s - 0 - 4) (restOf s)) refl
 
     by-field : (t : Bool) → ltb (length s - 0) 4 ≡ t → Ends s e
     by-field true q = absurd (none-ends e (cut-short s 0 (ltb-true _ _ q) ∙ cut-is))
-    by-field false q = by-least (ltb-false _ _ q) (ltb (restOf s) 11) refl
+    by-field false q = by-least (ltb-false _ _ q) (ltb (restOf s) (headBytes 1 - 4)) refl
 
 -- ---- the length of a reply
 reply-not-said : (k : ℕ) (r : Refusal) → due.Reply k ≡ due.Say r → ⊥

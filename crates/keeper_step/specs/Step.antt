@@ -1,6 +1,6 @@
 -- What one request comes to. Document 01, "The node": a request that stores nothing changes no byte of the book.
---   writeCut        whether a frame that was cut is of kind 3; where none was, no
---   asksToWrite f   whether a request is a frame of kind 3: no other may change a book
+--   writeCut        whether a frame that was cut is a write request; where none was, no
+--   asksToWrite f   whether a request is one: no other may change a book
 --   answerOf x      the node's answer in what a step answers
 --   stores x        whether a step answers that the book is to be stored
 --   lengthOf a      the length of the reply, 0 for a refusal
@@ -15,7 +15,7 @@ use lib.ListN.{length}
 use lib.Dec.{eqb}
 use Rattle.octets.specs.Bytes.{alike}
 use Rattle.terms.specs.declared.Plan.{Plan}
-use Rattle.frame.specs.Frame.{kindOf, cutAt}
+use Rattle.frame.specs.Frame.{writeRequest, kindOf, cutAt}
 use Rattle.frame.specs.declared.Cut.{Cut}
 use Rattle.frame.specs.declared.Cut.the-variants.{EndsAt, NoFrame}
 use Rattle.node.specs.Node.{NodeCall}
@@ -27,7 +27,7 @@ use Rattle.keeper_step.specs.declared.Due.{Due}
 use Rattle.keeper_step.specs.declared.Due.the-variants as due
 
 abbrev pub writeCut : Cut → List ℕ → Bool
-writeCut (EndsAt e) f = eqb (kindOf f) 3
+writeCut (EndsAt e) f = eqb (kindOf f) writeRequest
 writeCut NoFrame f = false
 
 unfoldable pub asksToWrite : List ℕ → Bool

@@ -24,13 +24,17 @@ pub enum Due {
     Nothing,
 }
 
-// Whether a request may change a book: a frame of kind 3.
+// Whether a request may change a book: a write request.
 pub fn asks_to_write(request: &[u8]) -> bool
     ensures { λ r. ⌜ r ≡ asksToWrite (now (request .entry)) ⌝ }
 {
     let cut = frame::cut_at(request, 0);
     match cut {
-        Cut::EndsAt(_) => frame::kind_of(request) == 3,
+        Cut::EndsAt(_) => {
+            let h = frame::header_of(request);
+            let kind = h.kind;
+            kind == frame::WRITE_REQUEST
+        }
         Cut::NoFrame => false,
     }
 }

@@ -1,35 +1,42 @@
 -- What the node's functions ensure, each need a law. Assumes nothing.
-use mathlib.Core.Path.{_≡_, refl, sym, ap, _∙_}
+use mathlib.Core.Path.{_≡_, refl, sym, ap, subst, _∙_}
 use mathlib.Core.Bool.{Bool, true, false, not}
 use mathlib.Core.List.{List, [], _∷_}
 use mathlib.Core.Logic.{_⊎_, ⊎-elim}
-use Prim.Native.Nat.{ℕ, _+_, _≤_, _<_}
+use Prim.Native.Nat.{ℕ, _+_, _-_, _≤_, _<_}
 use native.Mathlib.Omega.{arith}
-use borrow.Author.Tests.{not-false, leb-true, leb-false, eq-eqb, ne-eqb, le-leb, lt-leb, lt-ltb, le-ltb}
+use borrow.Author.Tests.{not-false, leb-true, leb-false, eq-eqb, ne-eqb, lt-ltb, le-ltb}
 use lib.ListN.{length}
 use lib.Dec.{leb}
-use Rattle.octets.specs.Bytes.{part, be, over, num}
-use Rattle.octets.proofs.Laws.{length-be, length-part}
-use Rattle.terms.specs.Ladder.{on, first}
+use Rattle.octets.specs.Bytes.{part, be, num, over}
+use Rattle.terms.specs.Ladder.{first, since}
 use Rattle.terms.specs.Stamp.{stamp, time}
 use Rattle.terms.specs.Terms.{planOk, recordLength}
 use Rattle.terms.specs.declared.Plan.{Plan}
 use Rattle.terms.specs.declared.Refusal.the-variants.{OtherBytes, NoRoom}
 use Rattle.terms.proofs.Rungs as rungs
 use Rattle.terms.proofs.Rungs.{both}
-use Rattle.frame.specs.Frame.{kindOf, frameNode, askOf, bodyOf, frame, goodRequest}
+use Rattle.frame.specs.declared.Header.{Header}
+use Rattle.frame.specs.declared.Party.the-variants.{Node}
+use Rattle.frame.specs.Frame.{timeRequest, timeReply, writeRequest, writeReply, readLatest, readPrevious, readReply, headBytes, framed, longest, headerIn, bodyOf, replying, suits, bodyFits, forParty, goodRequest, Wrote}
 use Rattle.frame.proofs.Frames as frames
-use Rattle.record.specs.Record.{hashesOk, timeZero}
+use Rattle.frame.proofs.Built as built
+use Rattle.record.specs.Record.{hashesOk, timeZero, stampOf}
+use Rattle.book.specs.declared.Book.{Book}
 use Rattle.book.specs.declared.Fate.{Fate}
 use Rattle.book.specs.declared.Fate.the-variants as fates
-use Rattle.book.specs.Records.{lastOf, lastBelow, holds, holdsOther, fateOf}
-use Rattle.book.specs.Book.{nodeOf, recordsOf, usedOf, grown, Checked, Placed, bookLent}
+use Rattle.book.specs.Records.{lastOf, rising, lastBelow, holds, holdsOther, fateOf}
+use Rattle.book.specs.Book.{fixed, bookLent, nodeOf, laidOut, recordsIn, recordsOf, usedIn, usedOf, grown, Holds, Sound, Placed, Grows}
 use Rattle.book.proofs.Lists as lists
 use Rattle.book.proofs.Laws as books
 use Rattle.book.proofs.Back.{long}
+use Rattle.node.specs.declared.Asked.{Asked}
 use Rattle.node.specs.declared.Answer.{Answer}
 use Rattle.node.specs.declared.Answer.the-variants.{Refused, Replied}
-use Rattle.node.specs.Node.{bookReplyOk, timeFails, hashFails, otherHeld, noRoom, saidServed, refused, replied, ServedOutcome, servedOutcome, replyTo, replyOf, sends, bookAfter, answered, served, finished, Admitted, Sent, Reply, writes}
+use Rattle.node.specs.declared.Made.{Made}
+use Rattle.node.specs.Fresh.{freshLadder, freshOutcome, freshened, saidMade, made, FreshCall}
+use Rattle.node.specs.Fresh.{refused as notMade}
+use Rattle.node.specs.Node.{bookReplyOk, timeFails, hashFails, otherHeld, noRoom, workLadder, nodeLadder, saidServed, refused, replied, ServedOutcome, servedOutcome, replyTo, replyOf, sends, bookAfter, answered, responded, finished, served, NodeCall, Fitting, Admitted, Reply, writes}
 
 -- a test that a negated `if` passed, and what it says of the definition that the test is of
 pub so : {r s : Bool} → r ≡ s → not r ≡ false → s ≡ true
@@ -39,236 +46,292 @@ pub so-not : {r s : Bool} → r ≡ s → {t : Bool} → not r ≡ t → not s �
 so-not e f = ap not (sym e) ∙ f
 
 -- ---- 2
-pub lengths-low : (p : Plan) (book reply : ℕ) → book < 11 → false ≡ bookReplyOk p book reply
+pub lengths-no : (p : Plan) (book reply : ℕ) → bookLent book ≡ false → false ≡ bookReplyOk p book reply
 unfolding bookReplyOk
-lengths-low p book reply h = rw (lt-leb 11 book h)
+lengths-no p book reply e = rw e
 
-pub lengths-high : (p : Plan) (book reply : ℕ) → 11 ≤ book → 65536 < book → false ≡ bookReplyOk p book reply
+pub lengths-last : (p : Plan) (book reply : ℕ) (r : Bool) → bookLent book ≡ true → r ≡ leb (longest 1 p) reply → r ≡ bookReplyOk p book reply
 unfolding bookReplyOk
-lengths-high p book reply h k = rw (le-leb 11 book h, lt-leb book 65536 k)
-
-pub lengths-last : (p : Plan) (book reply r : ℕ) → 11 ≤ book → book ≤ 65536 → r ≡ recordLength p → leb (r + 15) reply ≡ bookReplyOk p book reply
-unfolding bookReplyOk
-lengths-last p book reply r h k e = rw (le-leb 11 book h, le-leb book 65536 k, ← e)
+lengths-last p book reply r h e = rw h e
 
 pub record LengthsAre (p : Plan) (book reply : ℕ) : Type 0 where
-  pub low : 11 ≤ book
+  pub low : fixed ≤ book
   pub high : book ≤ 65536
-  pub room : recordLength p + 15 ≤ reply
+  pub room : longest 1 p ≤ reply
 
 pub lengths-are : (p : Plan) (book reply : ℕ) → bookReplyOk p book reply ≡ true → LengthsAre p book reply
 unfolding bookReplyOk
 lengths-are p book reply e =
     let e1 = both (bookLent book) _ e in
-    let e2 = both (leb 11 book) _ (e1 .0) in
-    record { low = leb-true _ _ (e2 .0); high = leb-true _ _ (e2 .1); room = leb-true _ _ (e1 .1) }
+    let e2 = books.lent-is book (e1 .0) in
+    record { low = e2 .0; high = e2 .1; room = leb-true _ _ (e1 .1) }
+
+-- ---- the body of a request, by its kind
+module _ (p : Plan) (h : Header) (f : List ℕ) (F : Fitting p h f) where
+  fit : (forParty Node (h .kind) ≡ true) × (bodyFits p (h .kind) (length f - headBytes (h .version)) ≡ true)
+  fit = frames.suits-is Node p h (length f) (F .fit)
+
+  pub write-length : h .kind ≡ writeRequest → length f ≡ framed (h .version) (recordLength p)
+  write-length k = let l = F .low in omega (arith, frames.bytes-3 p (h .kind) (length f - headBytes (h .version)) (fit .1) k)
+
+  pub bound-length : h .kind ≡ readPrevious → length f ≡ framed (h .version) 40
+  bound-length k = let l = F .low in omega (arith, frames.bytes-6 p (h .kind) (length f - headBytes (h .version)) (fit .1) k)
+
+  pub stamped : planOk p ≡ true → (h .kind ≡ writeRequest) ⊎ (h .kind ≡ readPrevious) → framed (h .version) 40 ≤ length f
+  stamped pk k = ⊎-elim (λ e. omega (arith, write-length e, long p pk)) (λ e. omega (arith, bound-length e)) k
+
+  -- the kinds of a node, told apart by name
+  pub last-kind : (h .kind ≡ writeRequest → ⊥) → (h .kind ≡ timeRequest → ⊥) → (h .kind ≡ readLatest → ⊥) → h .kind ≡ readPrevious
+  last-kind a b c = frames.last-request (h .kind) (fit .0) b a c
+
+  -- the body, at its place
+  pub body-at : (at n : ℕ) → at ≡ headBytes (h .version) → n ≡ recordLength p → h .kind ≡ writeRequest → part f at n ≡ bodyOf f
+  body-at at n e en k = (λ i. part f (e i) (en i)) ∙ sym (frames.body-is (headBytes (h .version)) f (recordLength p) (write-length k))
+
+-- a part of a body
+pub body-stamp : (f : List ℕ) (at n version : ℕ) → at ≡ headBytes version → part f at n ≡ part (bodyOf f) 0 n
+body-stamp f at n version e = ap (λ (x : ℕ). part f x n) e ∙ sym (frames.body-part (headBytes version) f 0 n)
+
+-- ---- what was written, in the words of the definitions
+pub wrote-is : (h : Header) (x z y : List ℕ) {n : ℕ} {y₂ : List ℕ} → x ≡ z → Wrote h x y n y₂ → Wrote h z y n y₂
+wrote-is h x z y {n} {y₂} e q = subst (λ (l : List ℕ). Wrote h l y n y₂) e q
+
+pub wrote-time : (h : Header) (t x : ℕ) (y : List ℕ) {n : ℕ} {y₂ : List ℕ} → t ≡ x → Wrote h (be 8 t) y n y₂ → Wrote h (be 8 x) y n y₂
+wrote-time h t x y e q = wrote-is h (be 8 t) (be 8 x) y (ap (be 8) e) q
+
+pub acknowledged : (h g : Header) (f y : List ℕ) (at : ℕ) {n : ℕ} {y₂ : List ℕ} → at ≡ headBytes (h .version) → g ≡ replying h writeReply
+    → Wrote g (part f at 40) y n y₂ → Wrote (replying h writeReply) (stampOf (bodyOf f)) y n y₂
+acknowledged h g f y at e eg q = wrote-is _ _ _ y (body-stamp f at 40 (h .version) e) (built.wrote-of eg q)
+
+pub wrote-below : (h : Header) (f y x : List ℕ) (rs : List (List ℕ)) (at version : ℕ) {n : ℕ} {y₂ : List ℕ} → at ≡ headBytes version
+    → x ≡ lastBelow (num (part f at 40)) rs → Wrote h x y n y₂ → Wrote h (lastBelow (stamp (bodyOf f)) rs) y n y₂
+wrote-below h f y x rs at version e ex q = wrote-is h x _ y (ex ∙ ap (λ (l : List ℕ). lastBelow (num l) rs) (body-stamp f at 40 version e)) q
 
 -- ---- 5 and 6
-pub zero-yes : (f : List ℕ) (r : Bool) → (kindOf f ≡ 3) ⊎ (kindOf f ≡ 6) → r ≡ timeZero (bodyOf f) → r ≡ timeFails f
+pub zero-yes : (h : Header) (body : List ℕ) (r : Bool) → (h .kind ≡ writeRequest) ⊎ (h .kind ≡ readPrevious) → r ≡ timeZero body → r ≡ timeFails h body
 unfolding timeFails
-zero-yes f r h e =
-    ⊎-elim (λ k. rw (eq-eqb (kindOf f) 3 k) e) (λ k. rw (ne-eqb (kindOf f) 3 (λ z. omega arith), eq-eqb (kindOf f) 6 k) e) h
+zero-yes h body r k e =
+    ⊎-elim (λ k. rw (eq-eqb (h .kind) writeRequest k) e)
+    (λ k. rw (ne-eqb (h .kind) writeRequest (λ z. omega arith), eq-eqb (h .kind) readPrevious k) e) k
 
-pub zero-no : (f : List ℕ) → (kindOf f ≡ 3 → ⊥) → (kindOf f ≡ 6 → ⊥) → false ≡ timeFails f
+pub zero-no : (h : Header) (body : List ℕ) → (h .kind ≡ writeRequest → ⊥) → (h .kind ≡ readPrevious → ⊥) → false ≡ timeFails h body
 unfolding timeFails
-zero-no f a b = rw (ne-eqb (kindOf f) 3 a, ne-eqb (kindOf f) 6 b)
+zero-no h body a b = rw (ne-eqb (h .kind) writeRequest a, ne-eqb (h .kind) readPrevious b)
 
--- a write request has the length of its record, a read previous that of its bound
-pub write-length : (p : Plan) (node : ℕ) (f : List ℕ) → goodRequest p node f ≡ true → kindOf f ≡ 3 → length f ≡ 15 + recordLength p
-write-length p node f g k = frames.length-3 (frames.request-is p node f g .frame-is) k
-
-pub zero-length : (p : Plan) (node : ℕ) (f : List ℕ) → planOk p ≡ true → goodRequest p node f ≡ true → (kindOf f ≡ 3) ⊎ (kindOf f ≡ 6) → 55 ≤ length f
-zero-length p node f pk g h =
-    let q = frames.request-is p node f g .frame-is in
-    ⊎-elim (λ k. omega (arith, frames.length-3 q k, long p pk)) (λ k. omega (arith, frames.length-6 q k)) h
-
-pub request-low : (p : Plan) (node : ℕ) (f : List ℕ) → goodRequest p node f ≡ true → 15 ≤ length f
-request-low p node f g = frames.request-is p node f g .frame-is .low
-
--- the request is for the node of the book
-pub here : (p : Plan) (f b : List ℕ) {node : ℕ} {r : Bool} → r ≡ goodRequest p node f → node ≡ nodeOf b → r ≡ goodRequest p (nodeOf b) f
-here p f b e n = e ∙ ap (λ (x : ℕ). goodRequest p x f) n
-
--- a request that is of no other kind has a bound
-pub bound-length : (p : Plan) (node : ℕ) (f : List ℕ) → goodRequest p node f ≡ true → (kindOf f ≡ 1 → ⊥) → (kindOf f ≡ 3 → ⊥) → (kindOf f ≡ 5 → ⊥)
-    → 55 ≤ length f
-bound-length p node f g k1 k3 k5 =
-    let q = frames.request-is p node f g .frame-is in
-    omega (arith, frames.length-6 q (frames.last-request (kindOf f) (q .for) k1 k3 k5))
-
-pub fails-no : (p : Plan) (f : List ℕ) → (kindOf f ≡ 3 → ⊥) → false ≡ hashFails p f
+pub fails-no : (p : Plan) (h : Header) (body : List ℕ) → (h .kind ≡ writeRequest → ⊥) → false ≡ hashFails p h body
 unfolding hashFails
-fails-no p f h = rw (ne-eqb (kindOf f) 3 h)
+fails-no p h body k = rw (ne-eqb (h .kind) writeRequest k)
 
-pub fails-last : (p : Plan) (node : ℕ) (f : List ℕ) (r : Bool) → goodRequest p node f ≡ true → kindOf f ≡ 3
-    → r ≡ hashesOk p node (part f 15 (recordLength p)) → not r ≡ hashFails p f
+pub fails-last : (p : Plan) (h : Header) (body : List ℕ) (r : Bool) → h .kind ≡ writeRequest → r ≡ hashesOk p (h .node) body → not r ≡ hashFails p h body
 unfolding hashFails
-fails-last p node f r g k e =
-    let q = frames.request-is p node f g in
-    rw (eq-eqb (kindOf f) 3 k, q .node-is)
-    (ap not (e ∙ ap (λ (l : List ℕ). hashesOk p node l) (sym (frames.body-is 15 f (recordLength p) (write-length p node f g k)))))
-
--- ---- replies
-pub acknowledged : (f y y₂ : List ℕ) (node ask : ℕ) → node ≡ frameNode f → ask ≡ askOf f → 55 ≤ length f
-    → y₂ ≡ over (frame 4 node ask (part f 15 40)) y
-    → Sent f 4 (part (bodyOf f) 0 40) y (Replied 55) y₂
-acknowledged f y y₂ node ask en ea h e =
-    let b : part f 15 40 ≡ part (bodyOf f) 0 40 = sym (frames.body-part 15 f 0 40) in
-    let l : length (part (bodyOf f) 0 40) ≡ 40 = ap length (sym b) ∙ length-part f 15 40 h in
-    record { answer = ap (λ (n : ℕ). replied (15 + n)) (sym l); bytes = e ∙ (λ i. over (frame 4 (en i) (ea i) (b i)) y) }
-
-pub sent-part : (f b y y₂ : List ℕ) (at n node ask : ℕ) → node ≡ frameNode f → ask ≡ askOf f → at + n ≤ length b
-    → y₂ ≡ over (frame 7 node ask (part b at n)) y
-    → Sent f 7 (part b at n) y (Replied (15 + n)) y₂
-sent-part f b y y₂ at n node ask en ea h e =
-    record { answer = ap (λ (k : ℕ). replied (15 + k)) (sym (length-part b at n h)); bytes = e ∙ (λ i. over (frame 7 (en i) (ea i) (part b at n)) y) }
-
-pub sent-time : (f y y₂ : List ℕ) (t x node ask : ℕ) → node ≡ frameNode f → ask ≡ askOf f → t ≡ x → y₂ ≡ over (frame 2 node ask (be 8 t)) y
-    → Sent f 2 (be 8 x) y (Replied 23) y₂
-sent-time f y y₂ t x node ask en ea et e =
-    record { answer = ap (λ (k : ℕ). replied (15 + k)) (sym (length-be 8 x)); bytes = e ∙ (λ i. over (frame 2 (en i) (ea i) (be 8 (et i))) y) }
+fails-last p h body r k e = rw (eq-eqb (h .kind) writeRequest k) (ap not e)
 
 -- ---- what is answered, by kind
-module _ (p : Plan) (f b y : List ℕ) where
-  after-not : (kindOf f ≡ 3 → ⊥) → b ≡ bookAfter p f b
+module _ (p : Plan) (h : Header) (body b y : List ℕ) where
+  after-not : (h .kind ≡ writeRequest → ⊥) → b ≡ bookAfter p h body b
   unfolding bookAfter
-  after-not h = rw (ne-eqb (kindOf f) 3 h)
+  after-not k = rw (ne-eqb (h .kind) writeRequest k)
 
-  sent-out : (kind : ℕ) (body : List ℕ) (a : Answer) (b₂ y₂ : List ℕ) → replyTo (kindOf f) (bodyOf f) (recordsOf p b) ≡ replyOf kind body
-      → b₂ ≡ bookAfter p f b → Sent f kind body y a y₂
-      → servedOutcome (saidServed a) b₂ y₂ ≡ answered p f b y
+  sent-out : (kind : ℕ) (x : List ℕ) (n : ℕ) (b₂ y₂ : List ℕ) → replyTo (h .kind) body (recordsOf p b) ≡ replyOf kind x
+      → b₂ ≡ bookAfter p h body b → Wrote (replying h kind) x y n y₂
+      → servedOutcome (replied n) b₂ y₂ ≡ answered p h body b y
   unfolding answered sends
-  sent-out kind body a b₂ y₂ r e q = (λ i. servedOutcome (q .answer i) (e i) (q .bytes i)) ∙ ap (λ (z : Reply). sends f z (bookAfter p f b) y) (sym r)
+  sent-out kind x n b₂ y₂ r e q =
+      (λ i. servedOutcome (replied (q .told i)) (e i) (q .bytes i)) ∙ ap (λ (z : Reply). sends h z (bookAfter p h body b) y) (sym r)
 
-  reply-1 : kindOf f ≡ 1 → replyTo (kindOf f) (bodyOf f) (recordsOf p b) ≡ replyOf 2 (be 8 (time (lastOf (recordsOf p b))))
+  reply-1 : h .kind ≡ timeRequest → replyTo (h .kind) body (recordsOf p b) ≡ replyOf timeReply (be 8 (time (lastOf (recordsOf p b))))
   unfolding replyTo
-  reply-1 k = rw (eq-eqb (kindOf f) 1 k)
+  reply-1 k = rw (eq-eqb (h .kind) timeRequest k)
 
-  reply-3 : kindOf f ≡ 3 → replyTo (kindOf f) (bodyOf f) (recordsOf p b) ≡ replyOf 4 (part (bodyOf f) 0 40)
+  reply-3 : h .kind ≡ writeRequest → replyTo (h .kind) body (recordsOf p b) ≡ replyOf writeReply (stampOf body)
   unfolding replyTo
-  reply-3 k = rw (ne-eqb (kindOf f) 1 (λ z. omega arith), eq-eqb (kindOf f) 3 k)
+  reply-3 k = rw (ne-eqb (h .kind) timeRequest (λ z. omega arith), eq-eqb (h .kind) writeRequest k)
 
-  reply-5 : kindOf f ≡ 5 → replyTo (kindOf f) (bodyOf f) (recordsOf p b) ≡ replyOf 7 (lastOf (recordsOf p b))
+  reply-5 : h .kind ≡ readLatest → replyTo (h .kind) body (recordsOf p b) ≡ replyOf readReply (lastOf (recordsOf p b))
   unfolding replyTo
-  reply-5 k = rw (ne-eqb (kindOf f) 1 (λ z. omega arith), ne-eqb (kindOf f) 3 (λ z. omega arith), eq-eqb (kindOf f) 5 k)
+  reply-5 k = rw (ne-eqb (h .kind) timeRequest (λ z. omega arith), ne-eqb (h .kind) writeRequest (λ z. omega arith), eq-eqb (h .kind) readLatest k)
 
-  reply-6 : (kindOf f ≡ 1 → ⊥) → (kindOf f ≡ 3 → ⊥) → (kindOf f ≡ 5 → ⊥)
-      → replyTo (kindOf f) (bodyOf f) (recordsOf p b) ≡ replyOf 7 (lastBelow (stamp (bodyOf f)) (recordsOf p b))
+  reply-6 : h .kind ≡ readPrevious → replyTo (h .kind) body (recordsOf p b) ≡ replyOf readReply (lastBelow (stamp body) (recordsOf p b))
   unfolding replyTo
-  reply-6 k1 k3 k5 = rw (ne-eqb (kindOf f) 1 k1, ne-eqb (kindOf f) 3 k3, ne-eqb (kindOf f) 5 k5)
+  reply-6 k =
+      rw (
+        ne-eqb (h .kind) timeRequest (λ z. omega arith),
+        ne-eqb (h .kind) writeRequest (λ z. omega arith),
+        ne-eqb (h .kind) readLatest (λ z. omega arith),
+        eq-eqb (h .kind) readPrevious k,
+      )
 
-  pub tells : (a : Answer) (y₂ : List ℕ) → kindOf f ≡ 1 → Sent f 2 (be 8 (time (lastOf (recordsOf p b)))) y a y₂
-      → servedOutcome (saidServed a) b y₂ ≡ answered p f b y
-  tells a y₂ k q = sent-out 2 _ a b y₂ (reply-1 k) (after-not (λ z. omega arith)) q
-
-  pub reads-last : (x : List ℕ) (a : Answer) (y₂ : List ℕ) → kindOf f ≡ 5 → x ≡ lastOf (recordsOf p b) → Sent f 7 x y a y₂
-      → servedOutcome (saidServed a) b y₂ ≡ answered p f b y
-  reads-last x a y₂ k e q = sent-out 7 x a b y₂ (reply-5 k ∙ ap (λ (l : List ℕ). replyOf 7 l) (sym e)) (after-not (λ z. omega arith)) q
-
-  pub reads-below : (x : List ℕ) (a : Answer) (y₂ : List ℕ) → (kindOf f ≡ 1 → ⊥) → (kindOf f ≡ 3 → ⊥) → (kindOf f ≡ 5 → ⊥)
-      → x ≡ lastBelow (num (part f 15 40)) (recordsOf p b) → Sent f 7 x y a y₂
-      → servedOutcome (saidServed a) b y₂ ≡ answered p f b y
-  reads-below x a y₂ k1 k3 k5 e q =
-      let s : num (part f 15 40) ≡ stamp (bodyOf f) = ap num (sym (frames.body-part 15 f 0 40)) in
-      sent-out 7 x a b y₂ (reply-6 k1 k3 k5 ∙ ap (λ (l : List ℕ). replyOf 7 l) (sym (e ∙ ap (λ (t : ℕ). lastBelow t (recordsOf p b)) s)))
-      (after-not k3) q
-
-  -- ---- down the ladder
-  -- the first four tests
-  pub admits : {r1 r2 r3 r4 : Bool} {node : ℕ} → r1 ≡ planOk p → not r1 ≡ false → r2 ≡ bookReplyOk p (length b) (length y) → not r2 ≡ false
-      → Checked p b r3 → not r3 ≡ false
-      → r4 ≡ goodRequest p node f → node ≡ nodeOf b → not r4 ≡ false → Admitted p f b y
-  admits {r1} {r2} {r3} e1 t1 e2 t2 e3 t3 e4 n t4 =
-      record { plan = so e1 t1; lengths = so e2 t2; good = so (e3 .is) t3; laid = e3 .laid (not-false r3 t3); request = so (here p f b e4 n) t4 }
-
-  pub admitted : {z : ServedOutcome} → Admitted p f b y
-      → z ≡ first (on 5 (timeFails f) ∷ on 6 (hashFails p f) ∷ on 7 (otherHeld p f b) ∷ on 8 (noRoom p f b) ∷ []) (λ (k : ℕ). servedOutcome (refused k) b y) (answered p f b y) → z ≡ served p f b y
-  unfolding served
-  admitted A e =
-      rungs.go-on 1 _ _ _ (ap not (A .plan))
-      (rungs.go-on 2 _ _ _ (ap not (A .lengths)) (rungs.go-on 3 _ _ _ (ap not (A .good)) (rungs.go-on 4 _ _ _ (ap not (A .request)) e)))
-
-  -- 7 and 8 are of writes
-  pub not-write : (z : ServedOutcome) → (kindOf f ≡ 3 → ⊥) → z ≡ answered p f b y → z ≡ finished p f b y
+  -- ---- down the ladder: 7 and 8 are of writes
+  not-write : {z : ServedOutcome} → (h .kind ≡ writeRequest → ⊥) → z ≡ answered p h body b y → z ≡ finished p h body b y
   unfolding finished otherHeld noRoom
-  not-write z h e = rungs.go-on 7 _ _ _ (rw (ne-eqb (kindOf f) 3 h)) (rungs.go-on 8 _ _ _ (rw (ne-eqb (kindOf f) 3 h)) (rungs.passed _ _ e))
+  not-write k e = rungs.go-on 7 _ _ _ (rw (ne-eqb (h .kind) writeRequest k)) (rungs.go-on 8 _ _ _ (rw (ne-eqb (h .kind) writeRequest k)) (rungs.passed _ _ e))
 
-  module _ (A : Admitted p f b y) (k : kindOf f ≡ 3) where
-    pub long-enough : length f ≡ 15 + recordLength p
-    long-enough = write-length p (nodeOf b) f (A .request) k
+  module _ (k : Book) (S : Sound p k b) where
+    pub tells : (n : ℕ) (y₂ : List ℕ) → h .kind ≡ timeRequest → Wrote (replying h timeReply) (be 8 (time (lastOf (recordsIn k b)))) y n y₂
+        → servedOutcome (replied n) b y₂ ≡ finished p h body b y
+    tells n y₂ e q =
+        not-write (λ z. omega arith)
+        (sent-out timeReply _ n b y₂ (reply-1 e ∙ ap (λ (rs : List (List ℕ)). replyOf timeReply (be 8 (time (lastOf rs)))) (sym (books.records-of p b k (S .is)))) (after-not (λ z. omega arith)) q)
 
-    body : part f 15 (recordLength p) ≡ bodyOf f
-    body = sym (frames.body-is 15 f (recordLength p) long-enough)
+    pub reads-last : (n : ℕ) (y₂ : List ℕ) → h .kind ≡ readLatest → Wrote (replying h readReply) (lastOf (recordsIn k b)) y n y₂
+        → servedOutcome (replied n) b y₂ ≡ finished p h body b y
+    reads-last n y₂ e q =
+        not-write (λ z. omega arith)
+        (sent-out readReply _ n b y₂ (reply-5 e ∙ ap (λ (rs : List (List ℕ)). replyOf readReply (lastOf rs)) (sym (books.records-of p b k (S .is)))) (after-not (λ z. omega arith)) q)
 
-    of-body : (x : Fate) → x ≡ fateOf (part f 15 (recordLength p)) (recordsOf p b) → x ≡ fateOf (bodyOf f) (recordsOf p b)
-    of-body x e = e ∙ ap (λ (l : List ℕ). fateOf l (recordsOf p b)) body
+    pub reads-below : (n : ℕ) (y₂ : List ℕ) → h .kind ≡ readPrevious → Wrote (replying h readReply) (lastBelow (stamp body) (recordsIn k b)) y n y₂
+        → servedOutcome (replied n) b y₂ ≡ finished p h body b y
+    reads-below n y₂ e q =
+        not-write (λ z. omega arith)
+        (sent-out readReply _ n b y₂ (reply-6 e ∙ ap (λ (rs : List (List ℕ)). replyOf readReply (lastBelow (stamp body) rs)) (sym (books.records-of p b k (S .is))))
+        (after-not (λ z. omega arith)) q)
 
-    no-other : holdsOther (bodyOf f) (recordsOf p b) ≡ false → otherHeld p f b ≡ false
+  module _ (k : h .kind ≡ writeRequest) where
+    no-other : holdsOther body (recordsOf p b) ≡ false → otherHeld p h body b ≡ false
     unfolding otherHeld
-    no-other e = rw (eq-eqb (kindOf f) 3 k) e
+    no-other e = rw (eq-eqb (h .kind) writeRequest k) e
 
-    after-held : holds (bodyOf f) (recordsOf p b) ≡ true → b ≡ bookAfter p f b
+    after-held : holds body (recordsOf p b) ≡ true → b ≡ bookAfter p h body b
     unfolding bookAfter
-    after-held e = rw (eq-eqb (kindOf f) 3 k, e)
+    after-held e = rw (eq-eqb (h .kind) writeRequest k, e)
 
-    after-new : holds (bodyOf f) (recordsOf p b) ≡ false → grown p (bodyOf f) b ≡ bookAfter p f b
+    after-new : holds body (recordsOf p b) ≡ false → grown p body b ≡ bookAfter p h body b
     unfolding bookAfter
-    after-new e = rw (eq-eqb (kindOf f) 3 k, e)
+    after-new e = rw (eq-eqb (h .kind) writeRequest k, e)
 
-    pub write-held : (a : Answer) (y₂ : List ℕ) → fates.Held ≡ fateOf (part f 15 (recordLength p)) (recordsOf p b)
-        → Sent f 4 (part (bodyOf f) 0 40) y a y₂ → servedOutcome (saidServed a) b y₂ ≡ finished p f b y
+    pub write-held : (n : ℕ) (y₂ : List ℕ) → rising (recordsOf p b) ≡ true → fates.Held ≡ fateOf body (recordsOf p b)
+        → Wrote (replying h writeReply) (stampOf body) y n y₂ → servedOutcome (replied n) b y₂ ≡ finished p h body b y
     unfolding finished noRoom
-    write-held a y₂ e q =
-        let h = lists.fate-held (bodyOf f) (recordsOf p b) (of-body _ e) in
-        let o = lists.held-alone (bodyOf f) (recordsOf p b) (books.good-is p b (A .good) .fill .rise) h in
+    write-held n y₂ up e q =
+        let g = lists.fate-held body (recordsOf p b) e in
+        let o = lists.held-alone body (recordsOf p b) up g in
         rungs.go-on 7 _ _ _ (no-other o)
-        (rungs.go-on 8 _ _ _ (rw (eq-eqb (kindOf f) 3 k, h)) (rungs.passed _ _ (sent-out 4 _ a b y₂ (reply-3 k) (after-held h) q)))
+        (rungs.go-on 8 _ _ _ (rw (eq-eqb (h .kind) writeRequest k, g)) (rungs.passed _ _ (sent-out writeReply _ n b y₂ (reply-3 k) (after-held g) q)))
 
-    pub write-other : fates.Other ≡ fateOf (part f 15 (recordLength p)) (recordsOf p b) → servedOutcome (saidServed (Refused OtherBytes)) b y ≡ finished p f b y
+    pub write-other : fates.Other ≡ fateOf body (recordsOf p b) → servedOutcome (saidServed (Refused OtherBytes)) b y ≡ finished p h body b y
     unfolding finished otherHeld
-    write-other e = rungs.stop 7 _ _ _ (rw (eq-eqb (kindOf f) 3 k) (lists.fate-other (bodyOf f) (recordsOf p b) (of-body _ e))) refl
+    write-other e = rungs.stop 7 _ _ _ (rw (eq-eqb (h .kind) writeRequest k) (lists.fate-other body (recordsOf p b) e)) refl
 
-    pub write-full : (i : ℕ) → fates.Free i ≡ fateOf (part f 15 (recordLength p)) (recordsOf p b)
-        → leb (usedOf p b + recordLength p) (length b) ≡ false → servedOutcome (saidServed (Refused NoRoom)) b y ≡ finished p f b y
+    pub write-full : (i : ℕ) → fates.Free i ≡ fateOf body (recordsOf p b) → leb (usedOf p b + recordLength p) (length b) ≡ false
+        → servedOutcome (saidServed (Refused NoRoom)) b y ≡ finished p h body b y
     unfolding finished noRoom
     write-full i e full =
-        let q = lists.fate-free (bodyOf f) (recordsOf p b) i (of-body _ e) in
+        let q = lists.fate-free body (recordsOf p b) i e in
         rungs.go-on 7 _ _ _ (no-other (q .other))
-        (rungs.stop 8 _ _ _ (rw (eq-eqb (kindOf f) 3 k, q .held) (lt-ltb (length b) (usedOf p b + recordLength p) (leb-false (usedOf p b + recordLength p) (length b) full))) refl)
+        (rungs.stop 8 _ _ _ (rw (eq-eqb (h .kind) writeRequest k, q .held) (lt-ltb (length b) (usedOf p b + recordLength p) (leb-false (usedOf p b + recordLength p) (length b) full))) refl)
 
-    pub write-new : (i : ℕ) (a : Answer) (b₂ y₂ : List ℕ) → fates.Free i ≡ fateOf (part f 15 (recordLength p)) (recordsOf p b)
-        → leb (usedOf p b + recordLength p) (length b) ≡ true
-        → b₂ ≡ grown p (part f 15 (recordLength p)) b → Sent f 4 (part (bodyOf f) 0 40) y a y₂ → servedOutcome (saidServed a) b₂ y₂ ≡ finished p f b y
+    pub write-new : (i n : ℕ) (b₂ y₂ : List ℕ) → fates.Free i ≡ fateOf body (recordsOf p b) → leb (usedOf p b + recordLength p) (length b) ≡ true
+        → b₂ ≡ grown p body b → Wrote (replying h writeReply) (stampOf body) y n y₂ → servedOutcome (replied n) b₂ y₂ ≡ finished p h body b y
     unfolding finished noRoom
-    write-new i a b₂ y₂ e room eb q =
-        let r = lists.fate-free (bodyOf f) (recordsOf p b) i (of-body _ e) in
-        let n : b₂ ≡ bookAfter p f b = eb ∙ ap (λ (l : List ℕ). grown p l b) body ∙ after-new (r .held) in
+    write-new i n b₂ y₂ e room eb q =
+        let r = lists.fate-free body (recordsOf p b) i e in
         rungs.go-on 7 _ _ _ (no-other (r .other))
-        (rungs.go-on 8 _ _ _ (rw (eq-eqb (kindOf f) 3 k, r .held) (le-ltb (length b) (usedOf p b + recordLength p) (leb-true (usedOf p b + recordLength p) (length b) room)))
-        (rungs.passed _ _ (sent-out 4 _ a b₂ y₂ (reply-3 k) n q)))
+        (rungs.go-on 8 _ _ _ (rw (eq-eqb (h .kind) writeRequest k, r .held) (le-ltb (length b) (usedOf p b + recordLength p) (leb-true (usedOf p b + recordLength p) (length b) room)))
+        (rungs.passed _ _ (sent-out writeReply _ n b₂ y₂ (reply-3 k) (eb ∙ after-new (r .held)) q)))
 
-    pub placed : (i : ℕ) → fates.Free i ≡ fateOf (part f 15 (recordLength p)) (recordsOf p b) → leb (usedOf p b + recordLength p) (length b) ≡ true
-        → Placed p b f 15 i
-    placed i e room = record {
-      plan = A .plan;
-      good = A .good;
-      laid = A .laid;
-      room = leb-true (usedOf p b + recordLength p) (length b) room;
-      inside = omega (arith, long-enough);
-      place = lists.fate-free (part f 15 (recordLength p)) (recordsOf p b) i e .place;
-    }
+-- ---- what the door leaves
+module _ (p : Plan) (a : Asked) (f b y : List ℕ) (A : Admitted p a f b y) where
+  pub holds-in : Holds (a .book) b
+  holds-in = books.sound-holds p (a .book) b (A .plan) (A .book)
 
--- ---- a fresh book: its length as the document's condition
-pub book-low : (n : ℕ) → n < 11 → not (bookLent n) ≡ true
-book-low n h = rw (lt-leb 11 n h)
+  -- room for a record, a timestamp or a time
+  pub room-for : (framed (a .frame .version) (a .book .each) ≤ length y) × (framed (a .frame .version) 40 ≤ length y)
+  room-for =
+      let e : a .book .each ≡ recordLength p = ap (λ (x : Book). x .each) (A .book .is) in
+      let r = A .room in
+      let l = long p (A .plan) in
+      (omega arith, omega arith)
 
-pub book-high : (n : ℕ) → 11 ≤ n → 65536 < n → not (bookLent n) ≡ true
-book-high n h k = rw (le-leb 11 n h, lt-leb n 65536 k)
+  pub rises : rising (recordsOf p b) ≡ true
+  rises = books.good-is p b (A .book .good) .fill .rise
 
-pub book-fine : (n : ℕ) → 11 ≤ n → n ≤ 65536 → not (bookLent n) ≡ false
-book-fine n h k = rw (le-leb 11 n h, le-leb n 65536 k)
+-- ---- what the code of a write says, in these words
+module _ (p : Plan) (a : Asked) (f b y : List ℕ) (A : Admitted p a f b y) (k : a .frame .kind ≡ writeRequest) where
+  each : a .book .each ≡ recordLength p
+  each = ap (λ (x : Book). x .each) (A .book .is)
+
+  pub inside : (at : ℕ) → at ≡ headBytes (a .frame .version) → at + a .book .each ≤ length f
+  inside at e = omega (arith, write-length p (a .frame) f (A .request) k, each)
+
+  pub stamp-fits : framed (a .frame .version) 40 ≤ length f
+  stamp-fits = let l = long p (A .plan) in omega (arith, write-length p (a .frame) f (A .request) k)
+
+  pub body : (at : ℕ) → at ≡ headBytes (a .frame .version) → part f at (a .book .each) ≡ bodyOf f
+  body at e = body-at p (a .frame) f (A .request) at (a .book .each) e each k
+
+  pub fate-as : (at : ℕ) (x : Fate) → at ≡ headBytes (a .frame .version) → x ≡ fateOf (part f at (a .book .each)) (recordsIn (a .book) b)
+      → x ≡ fateOf (bodyOf f) (recordsOf p b)
+  fate-as at x e q = q ∙ (λ i. fateOf (body at e i) (books.records-of p b (a .book) (A .book .is) i))
+
+  pub room-as : (r t : Bool) → r ≡ leb (usedIn (a .book) + a .book .each) (length b) → r ≡ t → leb (usedOf p b + recordLength p) (length b) ≡ t
+  room-as r t e q = sym (e ∙ (λ i. leb (books.used-of p b (a .book) (A .book .is) i + each i) (length b))) ∙ q
+
+  pub placed : (at i : ℕ) → at ≡ headBytes (a .frame .version) → fates.Free i ≡ fateOf (part f at (a .book .each)) (recordsIn (a .book) b)
+      → leb (usedIn (a .book) + a .book .each) (length b) ≡ true
+      → Placed (a .book) b f at i
+  placed at i e q room = record {
+    holds = holds-in p a f b y A;
+    room = leb-true (usedIn (a .book) + a .book .each) (length b) room;
+    inside = inside at e;
+    place = lists.fate-free (part f at (a .book .each)) (recordsIn (a .book) b) i q .place;
+  }
+
+  pub grown-as : (at : ℕ) (b₂ : List ℕ) → at ≡ headBytes (a .frame .version) → Grows (a .book) (part f at (a .book .each)) b b₂ → b₂ ≡ grown p (bodyOf f) b
+  grown-as at b₂ e q = q .of p (A .book) ∙ ap (λ (l : List ℕ). grown p l b) (body at e)
 
 -- a request that is no write leaves the book
-pub after-other : (p : Plan) (f b : List ℕ) → writes f ≡ false → bookAfter p f b ≡ b
+pub after-other : (p : Plan) (h : Header) (body b : List ℕ) → writes h ≡ false → bookAfter p h body b ≡ b
 unfolding bookAfter
-after-other p f b e = rw e
+after-other p h body b e = rw e
+
+-- ---- the call
+pub goes-responded : {z : ServedOutcome} (p : Plan) (h : Header) (body b y : List ℕ) → z ≡ finished p h body b y
+    → z ≡ first (since 7 (workLadder p h body b)) (λ (k : ℕ). servedOutcome (refused k) b y) (answered p h body b y)
+unfolding finished
+goes-responded p h body b y e = e
+
+pub was-responded : {z : ServedOutcome} (p : Plan) (h : Header) (body b y : List ℕ)
+    → z ≡ first (workLadder p h body b) (λ (k : ℕ). servedOutcome (refused k) b y) (answered p h body b y) → z ≡ responded p h body b y
+unfolding responded
+was-responded p h body b y e = e
+
+pub is-responded : {z : ServedOutcome} (p : Plan) (h g : Header) (body b y : List ℕ) → h ≡ g → z ≡ responded p h body b y
+    → z ≡ first (workLadder p g body b) (λ (k : ℕ). servedOutcome (refused k) b y) (answered p g body b y)
+unfolding responded
+is-responded p h g body b y e q = q ∙ ap (λ (x : Header). first (workLadder p x body b) (λ (k : ℕ). servedOutcome (refused k) b y) (answered p x body b y)) e
+
+pub called : (p : Plan) (f b y : List ℕ) (a : Answer) (b₂ y₂ : List ℕ)
+    → servedOutcome (saidServed a) b₂ y₂ ≡ first (nodeLadder p f b y) (λ (k : ℕ). servedOutcome (refused k) b y) (answered p (headerIn f) (bodyOf f) b y)
+    → NodeCall p f b y a b₂ y₂
+unfolding served
+called p f b y a b₂ y₂ e = record { is = e }
+
+-- the request is for the node of the book
+pub here : (p : Plan) (f b : List ℕ) {node : ℕ} {r : Bool} → node ≡ nodeOf b → goodRequest p node f ≡ r → goodRequest p (nodeOf b) f ≡ r
+here p f b n e = ap (λ (x : ℕ). goodRequest p x f) (sym n) ∙ e
+
+-- the door leaves a request and a book
+pub admitted : (p : Plan) (f b y : List ℕ) (k : Book) (h : Header) (node : ℕ) → planOk p ≡ true → bookReplyOk p (length b) (length y) ≡ true → Sound p k b
+    → node ≡ k .node → frames.Opened (goodRequest p node f) f h → Admitted p (record { frame = h; book = k }) f b y
+admitted p f b y k h node pk l S en o =
+    let r = frames.request-is p node f (o .good) in
+    let q = r .frame-is in
+    let eh : h ≡ headerIn f = o .is in
+    let i = books.good-is p b (S .good) .head .node in
+    record {
+      plan = pk;
+      room = subst (λ (x : Header). longest (x .version) p ≤ length y) (sym eh) (lengths-are p (length b) (length y) l .room);
+      book = S;
+      request = record {
+        is = eh;
+        low = subst (λ (x : Header). headBytes (x .version) ≤ length f) (sym eh) (q .low);
+        fit = ap (λ (x : Header). suits Node p x (length f)) eh ∙ sym (frames.suits-last Node p (headerIn f) (length f) true (q .for) (sym (q .fits)));
+        node = omega (arith, ap (λ (x : Header). x .node) eh, r .node-is, en, books.node-of p b k (S .is));
+      };
+    }
+
+-- ---- a fresh book
+pub fresh-called : (p : Plan) (node : ℕ) (b : List ℕ) (m : Made) (b₂ : List ℕ)
+    → freshOutcome (saidMade m) b₂ ≡ first (freshLadder p node b) (λ (k : ℕ). freshOutcome (notMade k) b) (freshOutcome made (over (laidOut p node []) b)) → FreshCall p node b m b₂
+unfolding freshened
+fresh-called p node b m b₂ e = record { is = e }

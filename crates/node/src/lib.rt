@@ -2,15 +2,23 @@
 // any input: they check all of it, refuse by the first number that applies, and change no byte then.
 ghost use mathlib.Core.Path.{_≡_};
 ghost use mathlib.Core.Bool.{Bool, true, false};
-ghost use Prim.Native.Nat.{ℕ, _+_, _≤_, _<_};
+ghost use Prim.Native.Nat.{ℕ, _+_, _≤_};
 ghost use lib.ListN.{length};
-ghost use Rattle.octets.specs.Bytes.{part};
+ghost use Rattle.octets.specs.Bytes.{part, be};
 ghost use Rattle.terms.specs.Terms.{planOk};
-ghost use Rattle.frame.specs.Frame.{kindOf, bodyOf, goodRequest};
-ghost use Rattle.node.specs.Node.{bookReplyOk, timeFails, hashFails, servedOutcome, saidServed, answered, finished, Admitted, Sent, NodeCall};
+ghost use Rattle.terms.specs.Stamp.{stamp, time};
+ghost use Rattle.frame.specs.Frame.{timeReply, writeRequest, writeReply, readReply, framed, replying, bodyOf, Wrote};
+ghost use Rattle.record.specs.Record.{stampOf};
+ghost use Rattle.book.specs.Records.{lastOf, lastBelow};
+ghost use Rattle.book.specs.Book.{recordsIn, Holds};
+ghost use Rattle.node.specs.Node.{bookReplyOk, timeFails, hashFails, servedOutcome, saidServed, finished, responded, Fitting, Admitted, NodeCall};
 ghost use Rattle.node.specs.Fresh.{FreshCall};
+use book::Book;
 use book::Fate;
+use book::Shape;
 use book::Span;
+use frame::Door;
+use frame::Header;
 use terms::Plan;
 use terms::Refusal;
 
@@ -26,126 +34,155 @@ pub enum Made {
     Fresh,
 }
 
+// What was read at the door of a call: the header of the request, and that of the book that it is for.
+pub struct Asked {
+    pub frame: Header,
+    pub book: Book,
+}
+
 // 2: the lengths of the lent book and reply buffer.
 fn lengths_ok(p: Plan, book: usize, reply: usize) -> bool
     requires { ⌜ planOk p ≡ true ⌝ }
     ensures { λ r. ⌜ r ≡ bookReplyOk p book reply ⌝ }
 {
-    if book < 11 {
+    if !book::lent(book) {
         return false;
     }
-    if book > 65536 {
-        return false;
-    }
-    let r = terms::record_length(p);
-    r + 15 <= reply
+    frame::holds_any(1, p, reply)
 }
 
 // 5: time 0 in a record or a bound.
-fn zero_time(p: Plan, node: u64, request: &[u8]) -> bool
-    requires { ⌜ (planOk p ≡ true) × (goodRequest p node (now request) ≡ true) ⌝ }
-    ensures { λ r. ⌜ r ≡ timeFails (now (request .entry)) ⌝ }
+fn zero_time(p: Plan, h: Header, request: &[u8]) -> bool
+    requires { ⌜ (planOk p ≡ true) × Fitting p h (now request) ⌝ }
+    ensures { λ r. ⌜ r ≡ timeFails h (bodyOf (now (request .entry))) ⌝ }
 {
-    match frame::kind_of(request) {
-        3 | 6 => record::time_zero(request, 15),
+    let at = frame::head_bytes(h.version);
+    let kind = h.kind;
+    match kind {
+        frame::WRITE_REQUEST | frame::READ_PREVIOUS => record::time_zero(request, at),
         _ => false,
     }
 }
 
 // 6: a hash check of a record to write fails.
-fn hash_fails(p: Plan, node: u64, request: &[u8]) -> bool
-    requires { ⌜ (planOk p ≡ true) × (goodRequest p node (now request) ≡ true) × (node < p .n) ⌝ }
-    ensures { λ r. ⌜ r ≡ hashFails p (now (request .entry)) ⌝ }
+fn hash_fails(p: Plan, h: Header, request: &[u8]) -> bool
+    requires { ⌜ (planOk p ≡ true) × Fitting p h (now request) ⌝ }
+    ensures { λ r. ⌜ r ≡ hashFails p h (bodyOf (now (request .entry))) ⌝ }
 {
-    if frame::kind_of(request) != 3 {
+    let kind = h.kind;
+    if kind != frame::WRITE_REQUEST {
         return false;
     }
-    !record::hashes_ok(p, node, request, 15)
+    let at = frame::head_bytes(h.version);
+    !record::hashes_ok(p, h.node, request, at)
 }
 
-// The reply to a write: its timestamp.
-fn acknowledge(request: &[u8], reply: &mut [u8]) -> Answer
-    requires { ⌜ (55 ≤ length (now request)) × (55 ≤ length (now reply)) ⌝ }
-    ensures { λ a. ⌜ Sent (now (request .entry)) 4 (part (bodyOf (now (request .entry))) 0 40) (now (reply .entry)) a (now (reply .exit)) ⌝ }
+// The reply to a write: its timestamp. Each reply tells the length of its frame.
+fn acknowledge(h: Header, request: &[u8], reply: &mut [u8]) -> usize
+    requires { ⌜ (framed (h .version) 40 ≤ length (now request)) × (framed (h .version) 40 ≤ length (now reply)) ⌝ }
+    ensures { λ r. ⌜ Wrote (replying h writeReply) (stampOf (bodyOf (now (request .entry)))) (now (reply .entry)) r (now (reply .exit)) ⌝ }
 {
-    let node = frame::node_of(request);
-    let ask = frame::ask_of(request);
-    frame::with_part(reply, 4, node, ask, request, 15, 40);
-    Answer::Replied(55)
+    let g = frame::replying(h, frame::WRITE_REPLY);
+    let at = frame::head_bytes(h.version);
+    frame::with_part(reply, g, request, at, 40)
 }
 
 // The reply to a read: the record at a span of the book, or none.
-fn send(request: &[u8], book: &[u8], s: Span, reply: &mut [u8]) -> Answer
-    requires { ⌜ (15 ≤ length (now request)) × (s .at + s .len ≤ length (now book)) × (15 + s .len ≤ length (now reply)) ⌝ }
-    ensures { λ a. ⌜ Sent (now (request .entry)) 7 (part (now (book .entry)) (s .at) (s .len)) (now (reply .entry)) a (now (reply .exit)) ⌝ }
+fn send(h: Header, book: &[u8], s: Span, reply: &mut [u8]) -> usize
+    requires { ⌜ (s .at + s .len ≤ length (now book)) × (framed (h .version) (s .len) ≤ length (now reply)) ⌝ }
+    ensures { λ r. ⌜ Wrote (replying h readReply) (part (now (book .entry)) (s .at) (s .len)) (now (reply .entry)) r (now (reply .exit)) ⌝ }
 {
-    let node = frame::node_of(request);
-    let ask = frame::ask_of(request);
-    let n = s.len;
-    frame::with_part(reply, 7, node, ask, book, s.at, n);
-    Answer::Replied(15 + n)
+    let g = frame::replying(h, frame::READ_REPLY);
+    frame::with_part(reply, g, book, s.at, s.len)
 }
 
 // The reply to a time request: the time of the last record.
-fn tell_time(p: Plan, request: &[u8], book: &[u8], reply: &mut [u8]) -> Answer
-    requires { ⌜ Admitted p (now request) (now book) (now reply) × (kindOf (now request) ≡ 1) ⌝ }
-    ensures { λ a. ⌜ servedOutcome (saidServed a) (now (book .entry)) (now (reply .exit)) ≡ answered p (now (request .entry)) (now (book .entry)) (now (reply .entry)) ⌝ }
+fn tell_time(a: Asked, book: &[u8], reply: &mut [u8]) -> usize
+    requires { ⌜ Holds (a .book) (now book) × (framed (a .frame .version) 8 ≤ length (now reply)) ⌝ }
+    ensures { λ r. ⌜ Wrote (replying (a .frame) timeReply) (be 8 (time (lastOf (recordsIn (a .book) (now (book .entry)))))) (now (reply .entry)) r (now (reply .exit)) ⌝ }
 {
-    let node = frame::node_of(request);
-    let ask = frame::ask_of(request);
-    let t = book::last_time(p, book);
-    frame::with_time(reply, 2, node, ask, t);
-    Answer::Replied(23)
+    let g = frame::replying(a.frame, frame::TIME_REPLY);
+    let t = book::last_time(a.book, book);
+    frame::with_time(reply, g, t)
 }
 
-// Kinds 5 and 6: the last record, the last one strictly below the bound.
-fn read(p: Plan, request: &[u8], book: &[u8], reply: &mut [u8]) -> Answer
-    requires { ⌜ Admitted p (now request) (now book) (now reply) × (kindOf (now request) ≡ 1 → ⊥) × (kindOf (now request) ≡ 3 → ⊥) ⌝ }
-    ensures { λ a. ⌜ servedOutcome (saidServed a) (now (book .entry)) (now (reply .exit)) ≡ answered p (now (request .entry)) (now (book .entry)) (now (reply .entry)) ⌝ }
+// The reply to a read of the latest record: the last one.
+fn latest(a: Asked, book: &[u8], reply: &mut [u8]) -> usize
+    requires { ⌜ Holds (a .book) (now book) × (framed (a .frame .version) (a .book .each) ≤ length (now reply)) ⌝ }
+    ensures { λ r. ⌜ Wrote (replying (a .frame) readReply) (lastOf (recordsIn (a .book) (now (book .entry)))) (now (reply .entry)) r (now (reply .exit)) ⌝ }
 {
-    if frame::kind_of(request) == 5 {
-        let s = book::last(p, book);
-        return send(request, book, s, reply);
-    }
-    let s = book::last_below(p, book, request, 15);
-    send(request, book, s, reply)
+    let s = book::last(a.book, book);
+    send(a.frame, book, s, reply)
 }
 
-// Kind 3. The record finds its place once: refusals 7 and 8, the acknowledgement and the insertion go by that one fate.
-fn write(p: Plan, request: &[u8], book: &mut [u8], reply: &mut [u8]) -> Answer
-    requires { ⌜ Admitted p (now request) (now book) (now reply) × (kindOf (now request) ≡ 3) ⌝ }
-    ensures { λ a. ⌜ servedOutcome (saidServed a) (now (book .exit)) (now (reply .exit)) ≡ finished p (now (request .entry)) (now (book .entry)) (now (reply .entry)) ⌝ }
+// The reply to a read of the record before a bound: the last one strictly below it.
+fn previous(a: Asked, request: &[u8], book: &[u8], reply: &mut [u8]) -> usize
+    requires { ⌜ Holds (a .book) (now book) × (framed (a .frame .version) (a .book .each) ≤ length (now reply)) × (framed (a .frame .version) 40 ≤ length (now request)) ⌝ }
+    ensures { λ r. ⌜ Wrote (replying (a .frame) readReply) (lastBelow (stamp (bodyOf (now (request .entry)))) (recordsIn (a .book) (now (book .entry)))) (now (reply .entry)) r (now (reply .exit)) ⌝ }
 {
-    let fate = book::fate_of(p, book, request, 15);
+    let h = a.frame;
+    let at = frame::head_bytes(h.version);
+    let s = book::last_below(a.book, book, request, at);
+    send(h, book, s, reply)
+}
+
+// A write. The record finds its place once: refusals 7 and 8, the acknowledgement and the insertion go by that one fate.
+fn write(p: Plan, a: Asked, request: &[u8], book: &mut [u8], reply: &mut [u8]) -> Answer
+    requires { ⌜ Admitted p a (now request) (now book) (now reply) × (a .frame .kind ≡ writeRequest) ⌝ }
+    ensures { λ r. ⌜ servedOutcome (saidServed r) (now (book .exit)) (now (reply .exit)) ≡ finished p (a .frame) (bodyOf (now (request .entry))) (now (book .entry)) (now (reply .entry)) ⌝ }
+{
+    let h = a.frame;
+    let k = a.book;
+    let at = frame::head_bytes(h.version);
+    let fate = book::fate_of(k, book, request, at);
     match fate {
-        Fate::Held => acknowledge(request, reply),
+        Fate::Held => Answer::Replied(acknowledge(h, request, reply)),
         Fate::Other => Answer::Refused(Refusal::OtherBytes),
-        Fate::Free(k) => {
-            if !book::room(p, book) {
+        Fate::Free(i) => {
+            if !book::room(k, book.len()) {
                 return Answer::Refused(Refusal::NoRoom);
             }
-            book::insert(p, book, k, request, 15);
-            acknowledge(request, reply)
+            book::insert(k, book, i, request, at);
+            Answer::Replied(acknowledge(h, request, reply))
         }
     }
 }
 
-// A request that refusals 1 to 6 do not meet, by its kind.
-fn respond(p: Plan, request: &[u8], book: &mut [u8], reply: &mut [u8]) -> Answer
-    requires { ⌜ Admitted p (now request) (now book) (now reply) ⌝ }
-    ensures { λ a. ⌜ servedOutcome (saidServed a) (now (book .exit)) (now (reply .exit)) ≡ finished p (now (request .entry)) (now (book .entry)) (now (reply .entry)) ⌝ }
+// A request that refusals 5 and 6 do not meet, by its kind.
+fn by_kind(p: Plan, a: Asked, request: &[u8], book: &mut [u8], reply: &mut [u8]) -> Answer
+    requires { ⌜ Admitted p a (now request) (now book) (now reply) ⌝ }
+    ensures { λ r. ⌜ servedOutcome (saidServed r) (now (book .exit)) (now (reply .exit)) ≡ finished p (a .frame) (bodyOf (now (request .entry))) (now (book .entry)) (now (reply .entry)) ⌝ }
 {
-    let kind = frame::kind_of(request);
-    if kind == 3 {
-        return write(p, request, book, reply);
+    let h = a.frame;
+    let kind = h.kind;
+    if kind == frame::WRITE_REQUEST {
+        return write(p, a, request, book, reply);
     }
-    if kind == 1 {
-        return tell_time(p, request, book, reply);
+    if kind == frame::TIME_REQUEST {
+        return Answer::Replied(tell_time(a, book, reply));
     }
-    read(p, request, book, reply)
+    if kind == frame::READ_LATEST {
+        return Answer::Replied(latest(a, book, reply));
+    }
+    Answer::Replied(previous(a, request, book, reply))
 }
 
-// The node's call: one request frame, the book and a reply buffer.
+// The second part of the node's call, from refusal 5 on: a request whose frame and book passed the door.
+pub fn respond(p: Plan, a: Asked, request: &[u8], book: &mut [u8], reply: &mut [u8]) -> Answer
+    requires { ⌜ Admitted p a (now request) (now book) (now reply) ⌝ }
+    ensures { λ r. ⌜ servedOutcome (saidServed r) (now (book .exit)) (now (reply .exit)) ≡ responded p (a .frame) (bodyOf (now (request .entry))) (now (book .entry)) (now (reply .entry)) ⌝ }
+{
+    let h = a.frame;
+    if zero_time(p, h, request) {
+        return Answer::Refused(Refusal::TimeZero);
+    }
+    if hash_fails(p, h, request) {
+        return Answer::Refused(Refusal::HashFails);
+    }
+    by_kind(p, a, request, book, reply)
+}
+
+// The node's call: one request frame, the book and a reply buffer. Its first part is the door, refusals 1 to 4.
 pub fn serve(p: Plan, request: &[u8], book: &mut [u8], reply: &mut [u8]) -> Answer
     ensures { λ a. ⌜ NodeCall p (now (request .entry)) (now (book .entry)) (now (reply .entry)) a (now (book .exit)) (now (reply .exit)) ⌝ }
 {
@@ -155,33 +192,30 @@ pub fn serve(p: Plan, request: &[u8], book: &mut [u8], reply: &mut [u8]) -> Answ
     if !lengths_ok(p, book.len(), reply.len()) {
         return Answer::Refused(Refusal::WrongLength);
     }
-    if !book::good(p, book) {
-        return Answer::Refused(Refusal::WrongBook);
+    let shape = book::good(p, book);
+    match shape {
+        Shape::Bad => Answer::Refused(Refusal::WrongBook),
+        Shape::Good(k) => {
+            let door = frame::request_at(p, k.node, request);
+            match door {
+                Door::Bad => Answer::Refused(Refusal::WrongFrame),
+                Door::Open(h) => {
+                    let a = Asked { frame: h, book: k };
+                    respond(p, a, request, book, reply)
+                }
+            }
+        }
     }
-    let node = book::node_of(book);
-    if !frame::request_ok(p, node, request) {
-        return Answer::Refused(Refusal::WrongFrame);
-    }
-    if zero_time(p, node, request) {
-        return Answer::Refused(Refusal::TimeZero);
-    }
-    if hash_fails(p, node, request) {
-        return Answer::Refused(Refusal::HashFails);
-    }
-    respond(p, request, book, reply)
 }
 
-// A fresh book: its first 11 bytes.
+// A fresh book: its header alone.
 pub fn fresh(p: Plan, node: u64, book: &mut [u8]) -> Made
     ensures { λ m. ⌜ FreshCall p node (now (book .entry)) m (now (book .exit)) ⌝ }
 {
     if !terms::plan_ok(p) {
         return Made::Refused(Refusal::OutsidePlan);
     }
-    if book.len() < 11 {
-        return Made::Refused(Refusal::WrongLength);
-    }
-    if book.len() > 65536 {
+    if !book::lent(book.len()) {
         return Made::Refused(Refusal::WrongLength);
     }
     let n = p.n;

@@ -17,7 +17,7 @@ use Rattle.terms.specs.Stamp.{time, stampAt, stampNumber, top}
 use Rattle.terms.specs.declared.Plan.{Plan}
 use Rattle.terms.specs.declared.Ask.{Ask}
 use Rattle.terms.specs.declared.Time.{Time}
-use Rattle.frame.specs.Frame.{frameNode, bodyOf}
+use Rattle.frame.specs.Frame.{frameNode, bodyOf, framed, versionOf, headBytes}
 use Rattle.frame.proofs.Frames.{body-part}
 use Rattle.record.proofs.Desks.{time-made}
 use Rattle.rounds.specs.declared.Heard.{Heard}
@@ -55,11 +55,11 @@ opened-kept op p a r call e d l =
     record { range = accepted-in-range op p a r call e d; desk-is = l; clock = rw (accepted-session op p a r call e) (omega arith) }
 
 -- ---- times, timestamps and records as they are made
-time-small : (f : List ℕ) → Octets f → length f ≡ 23 → time (bodyOf f) < 256 ^ 8
+time-small : (f : List ℕ) → Octets f → length f ≡ framed (versionOf f) 8 → time (bodyOf f) < 256 ^ 8
 time-small f o l =
-    let z : part (bodyOf f) 0 8 ≡ part f 15 8 = body-part 15 f 0 8 in
-    let e : length (part f 15 8) ≡ 8 = length-part f 15 8 (omega arith) in
-    rw z (subst (λ (n : ℕ). num (part f 15 8) < 256 ^ n) e (num-small (part f 15 8) (bytes-part f 15 8 (bytes-all f o))))
+    let z : part (bodyOf f) 0 8 ≡ part f (headBytes (versionOf f)) 8 = body-part (headBytes (versionOf f)) f 0 8 in
+    let e : length (part f (headBytes (versionOf f)) 8) ≡ 8 = length-part f (headBytes (versionOf f)) 8 (omega arith) in
+    rw z (subst (λ (n : ℕ). num (part f (headBytes (versionOf f)) 8) < 256 ^ n) e (num-small (part f (headBytes (versionOf f)) 8) (bytes-part f (headBytes (versionOf f)) 8 (bytes-all f o))))
 
 later-small : (a b : ℕ) → a < 256 ^ 8 → b < 256 ^ 8 → laterOf a b < 256 ^ 8
 later-small a b h k = go (ltb a b)

@@ -15,7 +15,8 @@ use Rattle.terms.specs.declared.Plan.{Plan}
 use Rattle.terms.specs.declared.Refusal.{Refusal}
 use Rattle.terms.specs.declared.Timestamp.{Timestamp}
 use Rattle.terms.proofs.Rungs.{refusal-one}
-use Rattle.frame.specs.Frame.{frame}
+use Rattle.frame.specs.declared.Header.{Header}
+use Rattle.frame.specs.Frame.{frame, longest, readLatest, readPrevious, writeRequest, timeRequest, frameOf, Wrote}
 use Rattle.frame.proofs.Built.{length-frame}
 use Rattle.rounds.specs.declared.Bound.{Bound}
 use Rattle.rounds.specs.declared.Bound.the-variants.{Free, Under}
@@ -36,7 +37,7 @@ module _ (p : Plan) (s : Session) (node : ℕ) (d : List ℕ) (request : ℕ) (o
   pub node-low : node < p .n
   node-low = ltb-true node (p .n) (not-false (ltb node (p .n)) (o .past 4))
 
-  pub request-low : recordLength p + 15 ≤ request
+  pub request-low : longest 1 p ≤ request
   request-low = room-is p (length d) request (not-false (roomOk p (length d) request) (o .past 2)) .request-low
 
 -- ---- the frame of the round
@@ -44,22 +45,20 @@ module _ (p : Plan) (s : Session) (node : ℕ) (d : List ℕ) (request : ℕ) (o
 pub the-same : (want got old new : List ℕ) (n : ℕ) → want ≡ got → (new ≡ over got old) × (n ≡ length got) → (new ≡ over want old) × (n ≡ length want)
 the-same want got old new n w e = (e .0 ∙ ap (λ (f : List ℕ). over f old) (sym w), e .1 ∙ ap length (sym w))
 
-pub sent : (want : List ℕ) (kind node ask : ℕ) (body old new : List ℕ) (n : ℕ) → want ≡ frame kind node ask body → length body ≡ n
-    → new ≡ over (frame kind node ask body) old → (new ≡ over want old) × (15 + n ≡ length want)
-sent want kind node ask body old new n w l e =
-    the-same want (frame kind node ask body) old new (15 + n) w (e, ap (λ (k : ℕ). 15 + k) (sym l) ∙ sym (length-frame kind node ask body))
+pub sent : (want : List ℕ) (h : Header) (body old : List ℕ) (n : ℕ) (new : List ℕ) → want ≡ frameOf h body → Wrote h body old n new → (new ≡ over want old) × (n ≡ length want)
+sent want h body old n new w q = the-same want (frameOf h body) old new n w (q .bytes, q .told ∙ sym (length-frame h body))
 
 module _ (b : Bound) (node ask : ℕ) where
-  pub read-latest : b ≡ Free → readRequest b node ask ≡ frame 5 node ask []
+  pub read-latest : b ≡ Free → readRequest b node ask ≡ frame readLatest node ask []
   unfolding readRequest
   read-latest e = rw e
 
-  pub read-previous : (u : Timestamp) → b ≡ Under u → readRequest b node ask ≡ frame 6 node ask (be 40 (stampNumber u))
+  pub read-previous : (u : Timestamp) → b ≡ Under u → readRequest b node ask ≡ frame readPrevious node ask (be 40 (stampNumber u))
   unfolding readRequest
   read-previous u e = rw e
 
 module _ (p : Plan) (s : Session) (node : ℕ) (d : List ℕ) (ask : ℕ) (a : ask ≡ askNow s) (x : Bool) (g : x ≡ isStoring (s .round .stage)) where
-  pub stores : x ≡ true → (r : ℕ) → r ≡ recordLength p → requestOf p s node d ≡ frame 3 node ask (part d (node * r) r)
+  pub stores : x ≡ true → (r : ℕ) → r ≡ recordLength p → requestOf p s node d ≡ frame writeRequest node ask (part d (node * r) r)
   unfolding requestOf
   stores t r e = rw (← g, t, a, e)
 
@@ -68,7 +67,7 @@ module _ (p : Plan) (s : Session) (node : ℕ) (d : List ℕ) (ask : ℕ) (a : a
     unfolding requestOf
     asks-record t = rw (← g, f, ← h, t, a)
 
-    pub asks-time : y ≡ false → requestOf p s node d ≡ frame 1 node ask []
+    pub asks-time : y ≡ false → requestOf p s node d ≡ frame timeRequest node ask []
     unfolding requestOf
     asks-time t = rw (← g, f, ← h, t, a)
 

@@ -4,11 +4,11 @@ use mathlib.Core.Bool.{Bool, true, false}
 use mathlib.Core.List.{List}
 use Prim.Native.Nat.{ℕ, _+_, _-_, _*_, _≤_, _<_}
 use native.Mathlib.Omega.{arith}
-use borrow.Author.Tests.{lt-leb, le-leb, eqb-true}
+use borrow.Author.Tests.{lt-leb, le-leb, eqb-true, eq-eqb, ne-eqb}
 use lib.Dec.{eqb}
-use lib.ListN.{length, getD}
+use lib.ListN.{length, getD, drop}
 use lib.Seq.{getD-take}
-use Rattle.octets.specs.Bytes.{part, put}
+use Rattle.octets.specs.Bytes.{part, put, num}
 use Rattle.octets.proofs.Laws.{slot-room}
 use Rattle.terms.specs.Ladder.{first}
 use Rattle.terms.specs.declared.Refusal.{Refusal}
@@ -23,13 +23,17 @@ use Rattle.terms.proofs.Plans.{plan-is}
 use Rattle.fragments.proofs.Lists.{all-at}
 use Rattle.terms.specs.declared.Slots.{Slots}
 use Rattle.terms.specs.declared.Thresholds.{Thresholds}
-use Rattle.frame.specs.Frame.{kindOf, frameNode, bodyOf, goodReply}
+use Rattle.session.proofs.Rules.{body-stamp}
+use Rattle.rounds.specs.declared.Bound.{Bound}
+use Rattle.frame.specs.declared.Header.{Header}
+use Rattle.frame.specs.Frame.{kindOf, frameNode, bodyOf, goodReply, framed, headBytes, versionOf, headerIn}
+use Rattle.frame.specs.Frame.{readReply as readKind}
 use Rattle.frame.proofs.Frames.{reply-is, body-is}
 use Rattle.rounds.specs.declared.Heard.the-variants.{First, Record}
 use Rattle.rounds.specs.declared.Lead.the-variants.{Nobody, Node}
 use Rattle.rounds.specs.declared.Close.{Close}
-use Rattle.record.specs.Record.{hashesOk}
-use Rattle.rounds.specs.Rounds.{listed, told, Closed, closeOf}
+use Rattle.record.specs.Record.{hashesOk, timeZero}
+use Rattle.rounds.specs.Rounds.{listed, told, Closed, closeOf, underOf}
 use Rattle.rounds.proofs.Laws.{size-is}
 use Rattle.recover.specs.Recover.{sound, decoded, collected, repaired, Usable}
 use Rattle.session.specs.declared.Session.{Session}
@@ -154,15 +158,25 @@ module _ (p : Plan) (s : Session) (f d i : List ℕ) (x : Bool) (b : x ≡ bears
   unfolding heard
   heard-record k m d₂ o t e g w q = q ∙ rw (← b, t, g, w, e)
 
+-- the test for a record, one after the other
+pub bears-not : (p : Plan) (f : List ℕ) (h : Header) → h ≡ headerIn f → (h .kind ≡ readKind → ⊥) → false ≡ bears p f
+unfolding bears
+bears-not p f h i n = rw (ne-eqb (kindOf f) readKind (λ e. n (ap (λ (g : Header). g .kind) i ∙ e)))
+
+pub bears-last : (p : Plan) (f : List ℕ) (h : Header) (at r : ℕ) → h ≡ headerIn f → h .kind ≡ readKind → at ≡ headBytes (h .version) → r ≡ recordLength p
+    → eqb (length f) (at + r) ≡ bears p f
+unfolding bears
+bears-last p f h at r i k ea er = rw (eq-eqb (kindOf f) readKind (sym (ap (λ (g : Header). g .kind) i) ∙ k)) (λ j. eqb (length f) (ea j + er j))
+
 -- what a reply that bears a record is
-pub bears-is : (p : Plan) (f : List ℕ) (x : Bool) → x ≡ bears p f → x ≡ true → (kindOf f ≡ 7) × (length f ≡ 15 + recordLength p)
+pub bears-is : (p : Plan) (f : List ℕ) (x : Bool) → x ≡ bears p f → x ≡ true → (kindOf f ≡ readKind) × (length f ≡ framed (versionOf f) (recordLength p))
 unfolding bears
 bears-is p f x e t =
-    let q = both (eqb (kindOf f) 7) _ (sym e ∙ t) in
-    (eqb-true (kindOf f) 7 (q .0), eqb-true (length f) (15 + recordLength p) (q .1))
+    let q = both (eqb (kindOf f) readKind) _ (sym e ∙ t) in
+    (eqb-true (kindOf f) readKind (q .0), eqb-true (length f) (framed (versionOf f) (recordLength p)) (q .1))
 
-pub body-at : (p : Plan) (f : List ℕ) (r : ℕ) → r ≡ recordLength p → length f ≡ 15 + recordLength p → part f 15 r ≡ bodyOf f
-body-at p f r e l = rw e (sym (body-is 15 f (recordLength p) l))
+pub body-at : (p : Plan) (f : List ℕ) (at r : ℕ) → at ≡ headBytes (versionOf f) → r ≡ recordLength p → length f ≡ framed (versionOf f) (recordLength p) → part f at r ≡ bodyOf f
+body-at p f at r ea e l = (λ i. part f (ea i) (e i)) ∙ sym (body-is (headBytes (versionOf f)) f (recordLength p) l)
 
 pub accept-stored : (p : Plan) (s : Session) (f d i : List ℕ) (x : Bool) (k : ℕ) (m : Session) (o : Outcome) → x ≡ isStoring (s .round .stage) → x ≡ true
     → k ≡ frameNode f → m ≡ markedOf s k Record → o ≡ stored p m d i → o ≡ accepted p s f d i
@@ -212,12 +226,18 @@ pub record-long : (p : Plan) → 40 ≤ recordLength p
 unfolding recordLength
 record-long p = omega arith
 
-pub bears-length : (p : Plan) (f : List ℕ) → bears p f ≡ true → length f ≡ 15 + recordLength p
+pub bears-length : (p : Plan) (f : List ℕ) → bears p f ≡ true → length f ≡ framed (versionOf f) (recordLength p)
 bears-length p f t = bears-is p f (bears p f) refl t .1
 
-pub hashes-at : (p : Plan) (f : List ℕ) (k : ℕ) → bears p f ≡ true → k ≡ frameNode f → (y : Bool) → y ≡ hashesOk p k (part f 15 (recordLength p))
-    → y ≡ hashesOk p (frameNode f) (bodyOf f)
-hashes-at p f k t e y q = q ∙ ap₂ (hashesOk p) e (body-at p f (recordLength p) refl (bears-length p f t))
+pub zero-at : (f : List ℕ) (at : ℕ) (y : Bool) → at ≡ headBytes (versionOf f) → y ≡ timeZero (drop at f) → y ≡ timeZero (bodyOf f)
+zero-at f at y e q = q ∙ ap (λ (n : ℕ). timeZero (drop n f)) e
+
+pub under-at : (f : List ℕ) (b : Bound) (at : ℕ) (y : Bool) → at ≡ headBytes (versionOf f) → y ≡ underOf b (num (part f at 40)) → y ≡ underOf b (stamp (bodyOf f))
+under-at f b at y e q = q ∙ ap (λ (n : ℕ). underOf b (num (part f n 40))) e ∙ ap (underOf b) (body-stamp f)
+
+pub hashes-at : (p : Plan) (f : List ℕ) (k at : ℕ) → bears p f ≡ true → k ≡ frameNode f → at ≡ headBytes (versionOf f) → (y : Bool)
+    → y ≡ hashesOk p k (part f at (recordLength p)) → y ≡ hashesOk p (frameNode f) (bodyOf f)
+hashes-at p f k at t e ea y q = q ∙ ap₂ (hashesOk p) e (body-at p f at (recordLength p) ea refl (bears-length p f t))
 
 -- ---- a record in its slot
 pub slot-fits-desk : (p : Plan) (f d : List ℕ) (k r : ℕ) → goodReply p f ≡ true → k ≡ frameNode f → r ≡ recordLength p → length d ≡ p .n * recordLength p
@@ -226,7 +246,7 @@ slot-fits-desk p f d k r g e q l =
     let n : k < p .n = omega (arith, e, reply-is p f g .node-low) in
     rw q (slot-room k (p .n) (recordLength p) (length d) n (omega arith))
 
-pub slot-body : (p : Plan) (f d : List ℕ) (k r : ℕ) (x : Bool) → x ≡ bears p f → x ≡ true → r ≡ recordLength p
-    → put d (k * r) (part f 15 r) ≡ put d (k * recordLength p) (bodyOf f)
-slot-body p f d k r x b t q =
-    ap (λ (g : List ℕ). put d (k * r) g) (body-at p f r q (bears-is p f x b t .1)) ∙ ap (λ (n : ℕ). put d (k * n) (bodyOf f)) q
+pub slot-body : (p : Plan) (f d : List ℕ) (k at r : ℕ) (x : Bool) → x ≡ bears p f → x ≡ true → at ≡ headBytes (versionOf f) → r ≡ recordLength p
+    → put d (k * r) (part f at r) ≡ put d (k * recordLength p) (bodyOf f)
+slot-body p f d k at r x b t ea q =
+    ap (λ (g : List ℕ). put d (k * r) g) (body-at p f at r ea q (bears-is p f x b t .1)) ∙ ap (λ (n : ℕ). put d (k * n) (bodyOf f)) q

@@ -16,13 +16,14 @@ use Rattle.terms.proofs.Stamps.{stamp-at-number}
 use Rattle.terms.proofs.Rungs.{both}
 use Rattle.terms.proofs.Picks.{itself}
 use Rattle.octets.specs.Bytes.{part, num}
-use Rattle.frame.specs.Frame.{kindOf, askOf, bodyOf}
+use Rattle.frame.specs.Frame.{kindOf, askOf, bodyOf, writeReply, timeReply, framed, headBytes, headerIn, answersTo, versionOf, longest}
 use Rattle.frame.proofs.Frames.{ReplyIs, length-4}
 use Rattle.rounds.specs.Rounds.{restUnheard, heardCount}
 use Rattle.session.specs.declared.Session.{Session}
 use Rattle.session.specs.Session.{isRead, isStoring, replies, askNow, awaitsKind, roundOpen}
 use Rattle.session.specs.Reply.{awaited, lengthsOk}
 use Rattle.terms.specs.Terms.{recordLength, openingOk}
+use Rattle.frame.specs.declared.Header.{Header}
 use Rattle.session.specs.Owed.{roomOk}
 use Rattle.session.specs.Ranges.{boundOk, standingRules, inRange}
 
@@ -94,11 +95,14 @@ pub ask-high : (p : Plan) (s : Session) → StandingIs p s → s .opening .0 + s
 ask-high p s q = omega (arith, q .high, q .opening)
 
 -- a write reply bears a timestamp
-pub reply-stamped : (p : Plan) (f : List ℕ) → ReplyIs p f → kindOf f ≡ 4 → 55 ≤ length f
+pub reply-stamped : (p : Plan) (f : List ℕ) → ReplyIs p f → kindOf f ≡ writeReply → framed 1 40 ≤ length f
 reply-stamped p f r k = omega (arith, length-4 (r .frame-is) k)
 
+pub header-stamped : (p : Plan) (f : List ℕ) (h : Header) → h ≡ headerIn f → ReplyIs p f → h .kind ≡ writeReply → framed (h .version) 40 ≤ length f
+header-stamped p f h i r k = reply-stamped p f r (sym (ap (λ (x : Header). x .kind) i) ∙ k)
+
 -- the timestamp that a body starts with
-pub body-stamp : (f : List ℕ) → num (part f 15 40) ≡ stamp (bodyOf f)
+pub body-stamp : (f : List ℕ) → num (part f (headBytes (versionOf f)) 40) ≡ stamp (bodyOf f)
 unfolding part
 body-stamp f = refl
 
@@ -118,26 +122,29 @@ module _ (p : Plan) (s : Session) where
 
 -- ---- the kinds that a round awaits
 module _ (s : Session) (k : ℕ) (e : awaitsKind s k ≡ true) where
-  pub kind-stored : isStoring (s .round .stage) ≡ true → k ≡ 4
+  pub kind-stored : isStoring (s .round .stage) ≡ true → k ≡ writeReply
   unfolding awaitsKind
-  kind-stored g = eqb-true k 4 (rw g at e)
+  kind-stored g = eqb-true k writeReply (rw g at e)
 
-  pub kind-timed : isStoring (s .round .stage) ≡ false → isRead (s .operation) ≡ false → k ≡ 2
+  pub kind-timed : isStoring (s .round .stage) ≡ false → isRead (s .operation) ≡ false → k ≡ timeReply
   unfolding awaitsKind
-  kind-timed g h = eqb-true k 2 (rw (g, h) at e)
+  kind-timed g h = eqb-true k timeReply (rw (g, h) at e)
 
 -- ---- what a round awaits, tested one after the other
-module _ (s : Session) (f : List ℕ) (ask here : ℕ) (a : ask ≡ askNow s) (h : here ≡ askOf f) where
-  pub other-ask : (here ≡ ask → ⊥) → false ≡ awaited s f
-  unfolding awaited
-  other-ask n = and-fails _ (ne-eqb (askOf f) (askNow s) (λ e. n (h ∙ e ∙ sym a)))
+module _ (s : Session) (f : List ℕ) (h : Header) (i : h ≡ headerIn f) (ask : ℕ) (a : ask ≡ askNow s) (w : Bool) (q : w ≡ answersTo h ask) where
+  asked-is : w ≡ answersTo (headerIn f) (askNow s)
+  asked-is = q ∙ (λ j. answersTo (i j) (a j))
 
-  module _ (same : here ≡ ask) (kind : ℕ) (w : kind ≡ kindOf f) (x : Bool) (k : x ≡ awaitsKind s kind) where
-    asked : eqb (askOf f) (askNow s) ≡ true
-    asked = eq-eqb (askOf f) (askNow s) (sym h ∙ same ∙ a)
+  pub other-ask : w ≡ false → false ≡ awaited s f
+  unfolding awaited
+  other-ask e = and-fails _ (sym asked-is ∙ e)
+
+  module _ (same : w ≡ true) (x : Bool) (k : x ≡ awaitsKind s (h .kind)) where
+    asked : answersTo (headerIn f) (askNow s) ≡ true
+    asked = sym asked-is ∙ same
 
     fits : x ≡ awaitsKind s (kindOf f)
-    fits = k ∙ ap (awaitsKind s) w
+    fits = k ∙ ap (λ (g : Header). awaitsKind s (g .kind)) i
 
     pub other-kind : x ≡ false → false ≡ awaited s f
     unfolding awaited
@@ -149,13 +156,14 @@ module _ (s : Session) (f : List ℕ) (ask here : ℕ) (a : ask ≡ askNow s) (h
       no-stamp e = and-last asked (and-last (sym fits ∙ t) (or-holds _ (ap not (sym g ∙ e))))
 
       -- a write reply bears a timestamp, which is compared
-      pub stamp-there : y ≡ true → (kindOf f ≡ 4 → 55 ≤ length f) → 55 ≤ length f
-      stamp-there e l = l (kind-stored s (kindOf f) (sym fits ∙ t) (sym g ∙ e))
+      pub stamp-there : y ≡ true → (h .kind ≡ writeReply → framed (h .version) 40 ≤ length f) → framed (h .version) 40 ≤ length f
+      stamp-there e l = l (kind-stored s (h .kind) (sym k ∙ t) (sym g ∙ e))
 
-      pub stamp-told : y ≡ true → (u : Timestamp) (o : Bool) → u ≡ stampAt f 15 → 55 ≤ length f → o ≡ eqb (stampNumber u) (stampNumber (s .stamp)) → o ≡ awaited s f
+      pub stamp-told : y ≡ true → (at : ℕ) (u : Timestamp) (o : Bool) → at ≡ headBytes (h .version) → u ≡ stampAt f at → framed (h .version) 40 ≤ length f
+          → o ≡ eqb (stampNumber u) (stampNumber (s .stamp)) → o ≡ awaited s f
       unfolding awaited
-      stamp-told e u o p l q =
-          let n : stampNumber u ≡ stamp (bodyOf f) = ap stampNumber p ∙ stamp-at-number f 15 l ∙ body-stamp f in
+      stamp-told e at u o ea p l q =
+          let n : stampNumber u ≡ stamp (bodyOf f) = ap stampNumber (p ∙ ap (stampAt f) ea) ∙ stamp-at-number f (headBytes (h .version)) l ∙ body-stamp f in
           and-last asked (and-last (sym fits ∙ t) (or-last (ap not (sym g ∙ e)) (q ∙ ap (λ (m : ℕ). eqb m (stampNumber (s .stamp))) n)))
 
 -- ---- lengths
@@ -174,7 +182,11 @@ desk-fits p desk item e = lengths-are p desk item e .desk-is
 
 pub record Room (p : Plan) (desk request : ℕ) : Type 0 where
   pub desk-is : desk ≡ p .n * recordLength p
-  pub request-low : recordLength p + 15 ≤ request
+  pub request-low : longest 1 p ≤ request
+
+pub room-last : (p : Plan) (desk request r : ℕ) (x : Bool) → r ≡ recordLength p → desk ≡ p .n * r → x ≡ leb (longest 1 p) request → x ≡ roomOk p desk request
+unfolding roomOk
+room-last p desk request r x er e q = rw (eq-eqb desk (p .n * recordLength p) (e ∙ ap (λ (y : ℕ). p .n * y) er)) q
 
 pub room-is : (p : Plan) (desk request : ℕ) → roomOk p desk request ≡ true → Room p desk request
 unfolding roomOk

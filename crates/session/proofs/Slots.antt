@@ -22,7 +22,7 @@ use Rattle.terms.specs.declared.Slots.{Slots}
 use Rattle.terms.specs.Stamp.{time, stamp, stampAt}
 use Rattle.terms.specs.declared.Plan.{Plan}
 use Rattle.terms.proofs.Rungs.{both}
-use Rattle.frame.specs.Frame.{frameNode, bodyOf}
+use Rattle.frame.specs.Frame.{frameNode, bodyOf, versionOf, headBytes}
 use Rattle.record.specs.Record.{timeZero}
 use Rattle.rounds.specs.declared.Bound.{Bound}
 use Rattle.rounds.specs.declared.Heard.{Heard}
@@ -102,7 +102,7 @@ lead-time ms d slots b n a e h m = leb-true 1 _ (both (leb 1 (num (part d (slotA
 
 -- ---- a reply that was heard
 pub long-body : (p : Plan) (f : List ℕ) → bears p f ≡ true → length (bodyOf f) ≡ recordLength p
-long-body p f b = length-drop 15 f ∙ omega (arith, bears-is p f (bears p f) refl b .1)
+long-body p f b = length-drop (headBytes (versionOf f)) f ∙ omega (arith, bears-is p f (bears p f) refl b .1)
 
 module _ (p : Plan) (f d : List ℕ) (low : frameNode f < p .n) (long : length d ≡ p .n * recordLength p) where
   room : frameNode f * recordLength p + recordLength p ≤ length d

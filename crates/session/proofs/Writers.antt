@@ -14,7 +14,8 @@ use Rattle.terms.specs.declared.Refusal.{Refusal}
 use Rattle.terms.specs.declared.Time.{Time}
 use Rattle.terms.specs.declared.Timestamp.{Timestamp}
 use Rattle.terms.proofs.Rungs.{both}
-use Rattle.frame.specs.Frame.{kindOf, askOf, frameNode, bodyOf}
+use Rattle.octets.specs.Bytes.{part, num}
+use Rattle.frame.specs.Frame.{kindOf, askOf, frameNode, bodyOf, framed, versionOf, headBytes}
 use Rattle.frame.proofs.Frames.{length-2}
 use Rattle.rounds.specs.declared.Heard.the-variants.{Record}
 use Rattle.session.specs.declared.Session.{Session}
@@ -61,7 +62,12 @@ module _ (p : Plan) (s : Session) (d : List ℕ) (x : Bool) (c : x ≡ roundOpen
         (λ j. leaves stillOpen ((e ∙ ap (storingOf s) (q .0)) j) (q .1 j))
 
 -- a time round takes a time reply
-pub time-there : (p : Plan) (s : Session) (f d : List ℕ) (item : ℕ) → Known (replyLadder Write p s f d item) p s d → isStoring (s .round .stage) ≡ false → length f ≡ 23
+-- the time at the start of a body
+pub time-at : (f : List ℕ) (at x : ℕ) → at ≡ headBytes (versionOf f) → x ≡ num (part f at 8) → x ≡ time (bodyOf f)
+unfolding part
+time-at f at x e q = q ∙ ap (λ (n : ℕ). num (part f n 8)) e
+
+pub time-there : (p : Plan) (s : Session) (f d : List ℕ) (item : ℕ) → Known (replyLadder Write p s f d item) p s d → isStoring (s .round .stage) ≡ false → length f ≡ framed (versionOf f) 8
 unfolding awaited
 time-there p s f d item q g =
     let a = both (eqb (askOf f) (askNow s)) _ (not-false (awaited s f) (q .past 10)) in

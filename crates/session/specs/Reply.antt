@@ -17,7 +17,7 @@ use Rattle.terms.specs.Ladder.{Rung, on, _and_, _or_}
 use Rattle.terms.specs.Terms.{planOk, recordLength, refusalNumber}
 use Rattle.terms.specs.Stamp.{stamp, stampNumber}
 use Rattle.terms.specs.declared.Plan.{Plan}
-use Rattle.frame.specs.Frame.{kindOf, frameNode, askOf, bodyOf, goodReply}
+use Rattle.frame.specs.Frame.{kindOf, frameNode, askOf, bodyOf, goodReply, readReply, framed, versionOf, answersTo, headerIn}
 use Rattle.record.specs.Record.{hashesOk, timeZero}
 use Rattle.rounds.specs.Rounds.{heardAt, underOf}
 use Rattle.session.specs.declared.Session.{Session}
@@ -37,10 +37,14 @@ sameOperation Write o = not (isRead o)
 
 unfoldable pub awaited : Session → List ℕ → Bool
 awaited s f =
-    eqb (askOf f) (askNow s) and awaitsKind s (kindOf f) and (not (isStoring (s .round .stage)) or eqb (stamp (bodyOf f)) (stampNumber (s .stamp)))
+    answersTo (headerIn f) (askNow s) and awaitsKind s (kindOf f) and (not (isStoring (s .round .stage)) or eqb (stamp (bodyOf f)) (stampNumber (s .stamp)))
 
 unfoldable pub isHeard : Session → ℕ → Bool
 isHeard s i = heardAt (s .marks) i
+
+-- of a good reply
+abbrev pub awaitedLadder : Session → List ℕ → List Rung
+awaitedLadder s f = on 10 (not (awaited s f)) ∷ on 11 (isHeard s (frameNode f)) ∷ []
 
 abbrev pub replyLadder : Operation → Plan → Session → List ℕ → List ℕ → ℕ → List Rung
 replyLadder op p s f d item =
@@ -48,13 +52,11 @@ replyLadder op p s f d item =
     on 2 (not (lengthsOk p (length d) item)) ∷
     on 9 (not (sameOperation op (s .operation) and inRange p s d)) ∷
     on 14 (isEnded (s .round .stage)) ∷
-    on 4 (not (goodReply p f)) ∷
-    on 10 (not (awaited s f)) ∷
-    on 11 (isHeard s (frameNode f)) ∷ []
+    on 4 (not (goodReply p f)) ∷ awaitedLadder s f
 
 -- a read reply with a record, and not the first triple
 unfoldable pub bears : Plan → List ℕ → Bool
-bears p f = eqb (kindOf f) 7 and eqb (length f) (15 + recordLength p)
+bears p f = eqb (kindOf f) readReply and eqb (length f) (framed (versionOf f) (recordLength p))
 
 abbrev pub recordLadder : Plan → Session → List ℕ → List Rung
 recordLadder p s f =

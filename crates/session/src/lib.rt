@@ -6,6 +6,8 @@ pub mod owed;
 mod reader;
 mod writer;
 
+use frame::Door;
+use frame::Header;
 use rounds::Bound;
 use rounds::Heard;
 use rounds::Mark;
@@ -21,11 +23,11 @@ ghost use lib.ListN.{length};
 ghost use Rattle.terms.specs.Terms.{planOk, recordLength, slotsOf};
 ghost use lib.Dec.{eqb, leb};
 ghost use Rattle.terms.specs.Ladder.{first, _or_};
-ghost use Rattle.frame.specs.Frame.{kindOf};
+ghost use Rattle.frame.specs.Frame.{writeReply, framed, headerIn};
 ghost use Rattle.rounds.specs.Rounds.{noneFirst, slotsFit};
 ghost use Rattle.session.specs.Session.{isRead, isAsking, isStoring, isEnded, readRound, askNow, awaitsKind, roundOpen, markedOf, endedOf, nextOf, storingOf};
 ghost use Rattle.session.specs.Ranges.{boundOk, standingRules, openRules, inRange};
-ghost use Rattle.session.specs.Reply.{lengthsOk, sameOperation, awaited, isHeard, replyLadder, checkNumber};
+ghost use Rattle.session.specs.Reply.{lengthsOk, sameOperation, awaited, isHeard, awaitedLadder, replyLadder, checkNumber};
 
 pub enum Operation {
     Write,
@@ -377,33 +379,33 @@ impl Session {
         ensures { λ r. ⌜ r ≡ awaitsKind self k ⌝ }
     {
         if self.storing() {
-            return k == 4;
+            return k == frame::WRITE_REPLY;
         }
         let o = self.operation;
         if reads(o) {
-            return k == 7;
+            return k == frame::READ_REPLY;
         }
-        k == 2
+        k == frame::TIME_REPLY
     }
 
     // Refusal 10: whether ask number, kind and write timestamp are the ones awaited.
-    fn awaits(self, frame: &[u8]) -> bool
-        requires { ⌜ (1 ≤ self .round .number) × (self .opening .0 + self .round .number ≤ 18446744073709551615) × (15 ≤ length (now frame))
-            × (kindOf (now frame) ≡ 4 → 55 ≤ length (now frame)) ⌝ }
+    fn awaits(self, h: Header, frame: &[u8]) -> bool
+        requires { ⌜ (1 ≤ self .round .number) × (self .opening .0 + self .round .number ≤ 18446744073709551615) × (h ≡ headerIn (now frame))
+            × (h .kind ≡ writeReply → framed (h .version) 40 ≤ length (now frame)) ⌝ }
         ensures { λ r. ⌜ r ≡ awaited self (now (frame .entry)) ⌝ }
     {
         let ask = self.asked();
-        let here = frame::ask_of(frame);
-        if here.0 != ask.0 {
+        if !frame::answers(h, ask) {
             return false;
         }
-        if !self.awaits_kind(frame::kind_of(frame)) {
+        if !self.awaits_kind(h.kind) {
             return false;
         }
         if !self.storing() {
             return true;
         }
-        let t = terms::stamp_at(frame, 15);
+        let at = frame::head_bytes(h.version);
+        let t = terms::stamp_at(frame, at);
         let u = self.stamp;
         t.same(u)
     }
@@ -415,6 +417,21 @@ impl Session {
     {
         let marks = self.marks;
         rounds::has_heard(marks, i)
+    }
+
+    // What a good reply is refused for: 10, 11.
+    fn check_awaited(self, h: Header, frame: &[u8]) -> Check
+        requires { ⌜ (1 ≤ self .round .number) × (self .opening .0 + self .round .number ≤ 18446744073709551615) × (h ≡ headerIn (now frame))
+            × (h .kind ≡ writeReply → framed (h .version) 40 ≤ length (now frame)) × (h .node < 16) ⌝ }
+        ensures { λ r. ⌜ checkNumber r ≡ first (awaitedLadder self (now (frame .entry))) (λ k. k) 0 ⌝ }
+    {
+        if !self.awaits(h, frame) {
+            return Check::Failed(Refusal::NotAwaited);
+        }
+        if self.has_heard(h.node as usize) {
+            return Check::Failed(Refusal::AlreadyHeard);
+        }
+        Check::Passed
     }
 
     // What a reply to a client is refused for: 1, 2, 9, 14, 4, 10, 11, in this order.
@@ -437,15 +454,10 @@ impl Session {
         if self.ended() {
             return Check::Failed(Refusal::HasEnded);
         }
-        if !frame::reply_ok(p, frame) {
-            return Check::Failed(Refusal::WrongFrame);
+        let door = frame::reply_at(p, frame);
+        match door {
+            Door::Bad => Check::Failed(Refusal::WrongFrame),
+            Door::Open(h) => self.check_awaited(h, frame),
         }
-        if !self.awaits(frame) {
-            return Check::Failed(Refusal::NotAwaited);
-        }
-        if self.has_heard(frame::node_of(frame) as usize) {
-            return Check::Failed(Refusal::AlreadyHeard);
-        }
-        Check::Passed
     }
 }

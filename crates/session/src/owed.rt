@@ -15,6 +15,7 @@ ghost use Rattle.octets.specs.Bytes.{over};
 ghost use Rattle.terms.specs.Terms.{planOk};
 ghost use Rattle.terms.specs.Ladder.{first};
 ghost use Rattle.session.specs.Reply.{checkNumber};
+ghost use Rattle.frame.specs.Frame.{framed};
 ghost use Rattle.session.specs.Owed.{roomOk, owedLadder, readRequest, requestOf, OwedCall};
 
 // The answer: refused, or the length of the frame that was written.
@@ -32,23 +33,17 @@ fn room_ok(p: Plan, desk: usize, request: usize) -> bool
     if desk != (p.n as usize) * r {
         return false;
     }
-    request >= r + 15
+    frame::holds_any(1, p, request)
 }
 
 // A read round's request: the latest record where there is no bound, else the one before it.
 fn read_request(b: Bound, node: u64, ask: Ask, request: &mut [u8]) -> usize
-    requires { ⌜ 55 ≤ length (now request) ⌝ }
+    requires { ⌜ framed 1 40 ≤ length (now request) ⌝ }
     ensures { λ r. ⌜ (now (request .exit) ≡ over (readRequest b node (ask .0)) (now (request .entry))) × (r ≡ length (readRequest b node (ask .0))) ⌝ }
 {
     match b {
-        Bound::Free => {
-            frame::latest(request, node, ask);
-            15
-        }
-        Bound::Under(u) => {
-            frame::previous(request, node, ask, u);
-            55
-        }
+        Bound::Free => frame::latest(request, node, ask),
+        Bound::Under(u) => frame::previous(request, node, ask, u),
     }
 }
 
@@ -87,8 +82,8 @@ impl Session {
         let ask = self.asked();
         let r = terms::record_length(p);
         if self.storing() {
-            frame::with_part(request, 3, node, ask, desk, (node as usize) * r, r);
-            return 15 + r;
+            let h = frame::asking(frame::WRITE_REQUEST, node, ask);
+            return frame::with_part(request, h, desk, (node as usize) * r, r);
         }
         let o = self.operation;
         if reads(o) {
@@ -96,8 +91,8 @@ impl Session {
             let b = now.bound;
             return read_request(b, node, ask, request);
         }
-        frame::bare(request, 1, node, ask);
-        15
+        let h = frame::asking(frame::TIME_REQUEST, node, ask);
+        frame::bare(request, h)
     }
 
     // The request frame owed to a node, into the request buffer; bytes past it stay.

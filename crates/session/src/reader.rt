@@ -18,7 +18,7 @@ ghost use Prim.Native.Nat.{_+_, _*_, _≤_};
 ghost use lib.ListN.{length};
 ghost use Rattle.terms.specs.Ladder.{first};
 ghost use Rattle.terms.specs.Terms.{planOk, recordLength};
-ghost use Rattle.frame.specs.Frame.{goodReply};
+ghost use Rattle.frame.specs.Frame.{headBytes, goodReply};
 ghost use Rattle.rounds.specs.declared.Lead.the-variants.{Node};
 ghost use Rattle.rounds.specs.Rounds.{told};
 ghost use Rattle.session.specs.Session.{saidOf};
@@ -27,13 +27,16 @@ ghost use Rattle.session.specs.Reader.{outcome, failing, actOn, acted, s
 
 // Whether a reply bears a record, and not the first triple.
 fn bears_record(p: Plan, frame: &[u8]) -> bool
-    requires { ⌜ (planOk p ≡ true) × (15 ≤ length (now frame)) ⌝ }
+    requires { ⌜ (planOk p ≡ true) × (headBytes 1 ≤ length (now frame)) ⌝ }
     ensures { λ r. ⌜ r ≡ bears p (now (frame .entry)) ⌝ }
 {
-    if frame::kind_of(frame) != 7 {
+    let h = frame::header_of(frame);
+    let kind = h.kind;
+    if kind != frame::READ_REPLY {
         return false;
     }
-    frame.len() == 15 + terms::record_length(p)
+    let at = frame::head_bytes(h.version);
+    frame.len() == at + terms::record_length(p)
 }
 
 impl Session {
@@ -45,15 +48,17 @@ impl Session {
         if !bears_record(p, frame) {
             return Check::Passed;
         }
-        if record::time_zero(frame, 15) {
+        let h = frame::header_of(frame);
+        let at = frame::head_bytes(h.version);
+        if record::time_zero(frame, at) {
             return Check::Failed(Refusal::TimeZero);
         }
-        if !record::hashes_ok(p, frame::node_of(frame), frame, 15) {
+        if !record::hashes_ok(p, h.node, frame, at) {
             return Check::Failed(Refusal::HashFails);
         }
         let now = self.round;
         let b = now.bound;
-        if !rounds::under(b, frame, 15) {
+        if !rounds::under(b, frame, at) {
             return Check::Failed(Refusal::NotBelow);
         }
         Check::Passed
@@ -164,13 +169,15 @@ impl Session {
         requires { ⌜ (planOk p ≡ true) × (goodReply p (now frame) ≡ true) × (length (now desk) ≡ p .n * recordLength p) × (length (now item) ≡ p .m * p .f) ⌝ }
         ensures { λ r. ⌜ outcome (saidOf (r .answer)) (r .session) (now (desk .exit)) (now (item .exit)) ≡ heard p self (now (frame .entry)) (now (desk .entry)) (now (item .entry)) ⌝ }
     {
-        let i = frame::node_of(frame) as usize;
+        let h = frame::header_of(frame);
+        let i = h.node as usize;
         if !bears_record(p, frame) {
             let s = self.marked(i, Heard::First);
             return s.settle(p, desk, item);
         }
         let r = terms::record_length(p);
-        octets::copy(frame, 15, r, desk, i * r);
+        let at = frame::head_bytes(h.version);
+        octets::copy(frame, at, r, desk, i * r);
         let s = self.marked(i, Heard::Record);
         s.settle(p, desk, item)
     }
@@ -202,7 +209,8 @@ impl Session {
         ensures { λ r. ⌜ outcome (saidOf (r .answer)) (r .session) (now (desk .exit)) (now (item .exit)) ≡ accepted p self (now (frame .entry)) (now (desk .entry)) (now (item .entry)) ⌝ }
     {
         if self.storing() {
-            let i = frame::node_of(frame) as usize;
+            let h = frame::header_of(frame);
+            let i = h.node as usize;
             let s = self.marked(i, Heard::Record);
             return s.keep(p, &desk[..], item);
         }

@@ -5,6 +5,7 @@ use crate::Check;
 use crate::Operation;
 use crate::Session;
 use crate::Took;
+use frame::Header;
 use rounds::Heard;
 use rounds::Mark;
 use terms::Plan;
@@ -17,18 +18,19 @@ ghost use lib.ListN.{length};
 ghost use Rattle.terms.specs.Ladder.{first};
 ghost use Rattle.terms.specs.Terms.{planOk, recordLength};
 ghost use Rattle.terms.specs.Stamp.{time};
-ghost use Rattle.frame.specs.Frame.{bodyOf};
+ghost use Rattle.frame.specs.Frame.{framed, bodyOf};
 ghost use Rattle.session.specs.declared.Operation.the-variants.{Write};
 ghost use Rattle.session.specs.Session.{saidOf};
 ghost use Rattle.session.specs.Reply.{replyLadder};
 ghost use Rattle.session.specs.Writer.{laterOf, timedOf, leaves, timeTurn, writeTurn, acceptedWrite, WriteReplyCall};
 
 // The time that a time reply bears.
-fn time_in(reply: &[u8]) -> Time
-    requires { ⌜ 23 ≤ length (now reply) ⌝ }
+fn time_in(h: Header, reply: &[u8]) -> Time
+    requires { ⌜ framed (h .version) 8 ≤ length (now reply) ⌝ }
     ensures { λ r. ⌜ r .0 ≡ time (bodyOf (now (reply .entry))) ⌝ }
 {
-    Time(octets::get(reply, 15, 8))
+    let at = frame::head_bytes(h.version);
+    Time(octets::get(reply, at, 8))
 }
 
 // The later of two times.
@@ -112,12 +114,13 @@ impl Session {
         ensures { λ r. ⌜ leaves (saidOf (r .answer)) (r .session) (now (desk .exit))
             ≡ acceptedWrite p self (now (reply .entry)) (now (desk .entry)) (now (item .entry)) ⌝ }
     {
-        let i = frame::node_of(reply) as usize;
+        let h = frame::header_of(reply);
+        let i = h.node as usize;
         if self.storing() {
             let s = self.marked(i, Heard::Record);
             return s.write_turn(p);
         }
-        let s = self.timed(i, time_in(reply));
+        let s = self.timed(i, time_in(h, reply));
         s.time_turn(p, desk, item, cross)
     }
 

@@ -10,7 +10,7 @@ use Rattle.octets.specs.Bytes.{over}
 use Rattle.terms.specs.Terms.{planOk, recordLength}
 use Rattle.terms.specs.declared.Plan.{Plan}
 use Rattle.book.specs.Records.{rising}
-use Rattle.book.specs.Book.{recordsOf, laidOut, usedOf}
+use Rattle.book.specs.Book.{recordsOf, laidOut, usedOf, bookHead}
 use Rattle.book.proofs.Laid as laid
 use Rattle.store.specs.Deliver.{Among, acceptedAt, keptAll, gathered, finalBook, Delivery, sent, delivered, Ready, Delivers, Contents, Setting}
 use Rattle.store.proofs.Order as order
@@ -38,8 +38,8 @@ module _ (p : Plan) (books : ℕ → List ℕ) (fs : List (List ℕ)) (i : ℕ) 
   unfolding finalBook
   final-is = λ u. over (laidOut p (r .node u) (gathered-is u)) (books i)
 
-  room : 11 + length (keptAll (acceptedAt p i fs) (recordsOf p (books i))) * recordLength p ≤ length (books i)
-  room = subst (λ (l : List (List ℕ)). 11 + length l * recordLength p ≤ length (books i)) gathered-is (r .room)
+  room : bookHead 1 + length (keptAll (acceptedAt p i fs) (recordsOf p (books i))) * recordLength p ≤ length (books i)
+  room = subst (λ (l : List (List ℕ)). bookHead 1 + length l * recordLength p ≤ length (books i)) gathered-is (r .room)
 
   -- what a run leaves: the gathered records laid out over the old book
   ends : (ds : List Delivery) → Delivers p fs ds i → one.Laid p i (books i) (delivered p ds books i) (keptAll (acceptedAt p i fs) (recordsOf p (books i)))
@@ -48,7 +48,7 @@ module _ (p : Plan) (books : ℕ → List ℕ) (fs : List (List ℕ)) (i : ℕ) 
       (λ z. (runs.accepted-in p i fs (sent i ds) (h .each) z, runs.accepted-in p i (sent i ds) fs (λ f m _. h .only f m) z)) in
       let e = order.same-kept (acceptedAt p i fs) (acceptedAt p i (sent i ds)) (recordsOf p (books i)) (start .rise) agree s in
       let a : Agree (Of (recordsOf p (books i)) (acceptedAt p i (sent i ds))) = (λ z w hz hw q. agree z w (turn s z hz) (turn s w hw) q) in
-      let rm = subst (λ (l : List (List ℕ)). 11 + length l * recordLength p ≤ length (books i)) e room in
+      let rm = subst (λ (l : List (List ℕ)). bookHead 1 + length l * recordLength p ≤ length (books i)) e room in
       let q = runs.run p i (books i) ds (books i) (recordsOf p (books i)) start (h .room) a rm in
       subst (λ (l : List (List ℕ)). one.Laid p i (books i) (delivered p ds books i) l) (sym e)
       (subst (λ (x : List ℕ). one.Laid p i (books i) x (keptAll (acceptedAt p i (sent i ds)) (recordsOf p (books i)))) (sym (runs.after-through p ds books i)) q)
@@ -70,7 +70,7 @@ module _ (p : Plan) (books : ℕ → List ℕ) (fs : List (List ℕ)) (i : ℕ) 
       (start .rise) agree in
       let e : recordsOf p F ≡ K = one.is-records q in
       let ln : length (laidOut p i K) ≡ usedOf p F = laid.length-laid 1 [] p i K (q .sizes)
-      ∙ ap (λ (c : ℕ). 11 + c * recordLength p) (sym (one.is-count q)) in
+      ∙ ap (λ (c : ℕ). bookHead 1 + c * recordLength p) (sym (one.is-count q)) in
       record {
         good = one.is-good q;
         has = λ z m. rw e (k .has z (subst (λ (n : ℕ). Among z (recordsOf p (books i)) ⊎ Among z (acceptedAt p n fs)) (r .node) m));

@@ -17,9 +17,9 @@ use Rattle.terms.specs.Terms.{recordLength}
 use Rattle.terms.specs.declared.Plan.{Plan}
 use Rattle.terms.proofs.Rungs as rungs
 use Rattle.terms.proofs.Rungs.{clash}
-use Rattle.frame.specs.Frame.{bodyOf}
+use Rattle.frame.specs.Frame.{bodyOf, headerIn}
 use Rattle.book.specs.Records.{some, holds, holdsOther, kept}
-use Rattle.book.specs.Book.{recordsOf, nodeOf, countOf, usedOf, goodBook}
+use Rattle.book.specs.Book.{recordsOf, nodeOf, countOf, usedOf, goodBook, bookHead}
 use Rattle.book.proofs.Lists.{length-insert}
 use Rattle.book.proofs.Laid as laid
 use Rattle.node.specs.Node.{served, answered, ServedOutcome, servedOutcome, replied, nodeLadder, writes, otherHeld, noRoom, NodeCall}
@@ -58,7 +58,7 @@ same-after : (p : Plan) (b b₂ : List ℕ) → goodBook p b ≡ true → b₂ �
 same-after p b b₂ g e =
     record { good = ap (λ (x : List ℕ). goodBook p x) e ∙ g; keeps = λ z h. subst (λ (x : List ℕ). Among z (recordsOf p x)) (sym e) h }
 
-module _ (p : Plan) (f b y : List ℕ) (g : goodBook p b ≡ true) (o : Octets b) (n : theorems.Clear p f b y) (w : writes f ≡ true) where
+module _ (p : Plan) (f b y : List ℕ) (g : goodBook p b ≡ true) (o : Octets b) (n : theorems.Clear p f b y) (w : writes (headerIn f) ≡ true) where
   -- a write request that none of the refusals meets
   start : one.Laid p (nodeOf b) b b (recordsOf p b)
   start = one.itself p b (n .plan) g o (nodes.lengths-are p (length b) (length y) (n .lengths) .high)
@@ -67,20 +67,20 @@ module _ (p : Plan) (f b y : List ℕ) (g : goodBook p b ≡ true) (o : Octets b
   unfolding otherHeld
   own-it = own (bodyOf f) (recordsOf p b) (rw w at (n .other))
 
-  room : 11 + length (kept (bodyOf f) (recordsOf p b)) * recordLength p ≤ length b
+  room : bookHead 1 + length (kept (bodyOf f) (recordsOf p b)) * recordLength p ≤ length b
   unfolding noRoom
   room = go (holds (bodyOf f) (recordsOf p b)) refl (n .room)
     where
-      go : (t : Bool) → holds (bodyOf f) (recordsOf p b) ≡ t → noRoom p f b ≡ false
-          → 11 + length (kept (bodyOf f) (recordsOf p b)) * recordLength p ≤ length b
+      go : (t : Bool) → holds (bodyOf f) (recordsOf p b) ≡ t → noRoom p (headerIn f) (bodyOf f) b ≡ false
+          → bookHead 1 + length (kept (bodyOf f) (recordsOf p b)) * recordLength p ≤ length b
       go true h n8 = rw (order.kept-held (bodyOf f) (recordsOf p b) h) (start .fits)
       go false h n8 =
           let q : ltb (length b) (usedOf p b + recordLength p) ≡ false = rw (w, h) at n8 in
           let r : usedOf p b + recordLength p ≤ length b = ltb-false _ _ q in
           let l : length (kept (bodyOf f) (recordsOf p b)) ≡ countOf b + 1 =
           ap length (order.kept-new (bodyOf f) (recordsOf p b) h) ∙ length-insert (bodyOf f) (recordsOf p b)
-          ∙ ap (λ (m : ℕ). m + 1) (laid.length-records b (recordLength p) (countOf b) 11) in
-          subst (λ (m : ℕ). 11 + m * recordLength p ≤ length b) (sym l) (omega (arith, add-mul (countOf b) 1 (recordLength p)))
+          ∙ ap (λ (m : ℕ). m + 1) (laid.length-records b (recordLength p) (countOf b) (bookHead 1)) in
+          subst (λ (m : ℕ). bookHead 1 + m * recordLength p ≤ length b) (sym l) (omega (arith, add-mul (countOf b) 1 (recordLength p)))
 
   passed : passes p (nodeOf b) f ≡ true
   passed =
@@ -99,17 +99,17 @@ module _ (p : Plan) (f b y : List ℕ) (g : goodBook p b ≡ true) (o : Octets b
   -- Whatever a call answers, it leaves a good book good and with all its records.
   pub call-keeps : (a : Answer) (b₂ y₂ : List ℕ) → NodeCall p f b y a b₂ y₂ → After p b b₂
   call-keeps (Refused r) b₂ y₂ c = same-after p b b₂ g (theorems.refused-is p f b y r b₂ y₂ c .1)
-  call-keeps (Replied n) b₂ y₂ c = go (writes f) refl
+  call-keeps (Replied n) b₂ y₂ c = go (writes (headerIn f)) refl
     where
-      q : None (nodeLadder p f b y) × (servedOutcome (replied n) b₂ y₂ ≡ answered p f b y)
+      q : None (nodeLadder p f b y) × (servedOutcome (replied n) b₂ y₂ ≡ answered p (headerIn f) (bodyOf f) b y)
       q = theorems.replied-is p f b y n b₂ y₂ c
 
-      go : (t : Bool) → writes f ≡ t → After p b b₂
+      go : (t : Bool) → writes (headerIn f) ≡ t → After p b b₂
       go true w = subst (After p b) (sym (ap (λ (o : ServedOutcome). o .book) (c .is))) (written p f b y g o (theorems.clear p f b y (q .0)) w .0)
-      go false w = same-after p b b₂ g (ap (λ (o : ServedOutcome). o .book) (q .1) ∙ one.answered-book p f b y ∙ nodes.after-other p f b w)
+      go false w = same-after p b b₂ g (ap (λ (o : ServedOutcome). o .book) (q .1) ∙ one.answered-book p f b y ∙ nodes.after-other p (headerIn f) (bodyOf f) b w)
 
   -- A write request that was acknowledged is in the book.
-  pub call-stores : (n : ℕ) (b₂ y₂ : List ℕ) → NodeCall p f b y (Replied n) b₂ y₂ → writes f ≡ true → Among (bodyOf f) (recordsOf p b₂)
+  pub call-stores : (n : ℕ) (b₂ y₂ : List ℕ) → NodeCall p f b y (Replied n) b₂ y₂ → writes (headerIn f) ≡ true → Among (bodyOf f) (recordsOf p b₂)
   call-stores n b₂ y₂ c w =
       subst (λ (x : List ℕ). Among (bodyOf f) (recordsOf p x)) (sym (ap (λ (o : ServedOutcome). o .book) (c .is)))
       (written p f b y g o (theorems.clear p f b y (theorems.replied-is p f b y n b₂ y₂ c .0)) w .1)
@@ -139,7 +139,7 @@ history-keeps p b (c ∷ cs) g h =
 
 -- A record that a node acknowledged is in every later book, whatever calls come between.
 pub stored-for-good : (p : Plan) (f b y : List ℕ) (n : ℕ) (b₂ y₂ : List ℕ) (cs : List Call) → goodBook p b ≡ true → Octets b
-    → NodeCall p f b y (Replied n) b₂ y₂ → writes f ≡ true
+    → NodeCall p f b y (Replied n) b₂ y₂ → writes (headerIn f) ≡ true
     → History b₂ cs → Among (bodyOf f) (recordsOf p (lastBook b₂ cs))
 stored-for-good p f b y n b₂ y₂ cs g o c w h =
     let a = call-keeps p f b y g o (Replied n) b₂ y₂ c in

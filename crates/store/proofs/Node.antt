@@ -15,7 +15,7 @@ use Rattle.terms.specs.declared.Clients.the-variants.{Crash}
 use Rattle.terms.specs.declared.Refusal.{Refusal}
 use Rattle.terms.proofs.Down as down
 use Rattle.terms.proofs.Rungs as rungs
-use Rattle.frame.specs.Frame.{goodRequest, goodFrame, bodyFits}
+use Rattle.frame.specs.Frame.{headerIn, bodyOf, bodyFits, suits, goodFrame, goodRequest}
 use Rattle.record.specs.Record.{hashesOk, fragmentHash, prefixOf}
 use Rattle.book.specs.Book.{goodBook, headed, filled, laidAs, laidOut, header, recordsOf, nodeOf}
 use Rattle.book.proofs.Laws as books
@@ -51,7 +51,7 @@ module _ (p : Plan) (f b y : List ℕ) where
   IsReply (refused k) = ⊥
   IsReply (replied n) = _≡_ {A = ℕ} 0 0
 
-  replies-so : IsReply (answered p f b y .answer)
+  replies-so : IsReply (answered p (headerIn f) (bodyOf f) b y .answer)
   unfolding answered sends
   replies-so = refl
 
@@ -62,7 +62,7 @@ module _ (p : Plan) (f b y : List ℕ) where
   refused-is r b₂ y₂ c =
       ladders.by-ladder
       (λ (o : ServedOutcome). servedOutcome (refused (refusalNumber r)) b₂ y₂ ≡ o → Given (nodeLadder p f b y) (refusalNumber r) × (b₂ ≡ b) × (y₂ ≡ y))
-      (nodeLadder p f b y) refuse (answered p f b y)
+      (nodeLadder p f b y) refuse (answered p (headerIn f) (bodyOf f) b y)
       (λ k g h. let s : refused (refusalNumber r) ≡ refused k = ap (λ (o : ServedOutcome). o .answer) h in
       let n : k ≡ refusalNumber r = cc in
       (subst (Given (nodeLadder p f b y)) n g, ap (λ (o : ServedOutcome). o .book) h, ap (λ (o : ServedOutcome). o .reply) h))
@@ -72,15 +72,15 @@ module _ (p : Plan) (f b y : List ℕ) where
   -- And so it answers wherever its condition holds and none before it.
   pub is-refused : (r : Refusal) → Given (nodeLadder p f b y) (refusalNumber r) → NodeCall p f b y (Refused r) b y
   unfolding served
-  is-refused r g = record { is = sym (ladders.is-given (nodeLadder p f b y) refuse (answered p f b y) (refusalNumber r) g) }
+  is-refused r g = record { is = sym (ladders.is-given (nodeLadder p f b y) refuse (answered p (headerIn f) (bodyOf f) b y) (refusalNumber r) g) }
 
   -- A call that writes a reply meets none of the eight conditions, and does what the document says for its kind.
   pub replied-is : (n : ℕ) (b₂ y₂ : List ℕ) → NodeCall p f b y (Replied n) b₂ y₂
-      → None (nodeLadder p f b y) × (servedOutcome (replied n) b₂ y₂ ≡ answered p f b y)
+      → None (nodeLadder p f b y) × (servedOutcome (replied n) b₂ y₂ ≡ answered p (headerIn f) (bodyOf f) b y)
   unfolding served
   replied-is n b₂ y₂ c =
-      ladders.by-ladder (λ (o : ServedOutcome). servedOutcome (replied n) b₂ y₂ ≡ o → None (nodeLadder p f b y) × (servedOutcome (replied n) b₂ y₂ ≡ answered p f b y))
-      (nodeLadder p f b y) refuse (answered p f b y)
+      ladders.by-ladder (λ (o : ServedOutcome). servedOutcome (replied n) b₂ y₂ ≡ o → None (nodeLadder p f b y) × (servedOutcome (replied n) b₂ y₂ ≡ answered p (headerIn f) (bodyOf f) b y))
+      (nodeLadder p f b y) refuse (answered p (headerIn f) (bodyOf f) b y)
       (λ k g h. absurd (let s : replied n ≡ refused k = ap (λ (o : ServedOutcome). o .answer) h in let z : _≡_ {A = ℕ} 0 1 = cc in omega arith))
       (λ m h. (m, h))
       (c .is)
@@ -91,10 +91,10 @@ pub record Clear (p : Plan) (f b y : List ℕ) : Type 0 where
   pub lengths : bookReplyOk p (length b) (length y) ≡ true
   pub good : goodBook p b ≡ true
   pub request : goodRequest p (nodeOf b) f ≡ true
-  pub time : timeFails f ≡ false
-  pub hash : hashFails p f ≡ false
-  pub other : otherHeld p f b ≡ false
-  pub room : noRoom p f b ≡ false
+  pub time : timeFails (headerIn f) (bodyOf f) ≡ false
+  pub hash : hashFails p (headerIn f) (bodyOf f) ≡ false
+  pub other : otherHeld p (headerIn f) (bodyOf f) b ≡ false
+  pub room : noRoom p (headerIn f) (bodyOf f) b ≡ false
 
 pub clear : (p : Plan) (f b y : List ℕ) → None (nodeLadder p f b y) → Clear p f b y
 clear p f b y n = record {
@@ -146,13 +146,13 @@ rest ok p f b y =
     on 2 (not (bookReplyOk p (length b) (length y))) ∷
     on 3 (not (goodBook p b)) ∷
     on 4 (not (goodRequest p (nodeOf b) f)) ∷
-    on 5 (timeFails f) ∷
-    on 6 (hashFails p f) ∷
-    on 7 (otherHeld p f b) ∷
-    on 8 (noRoom p f b) ∷ []) (λ (k : ℕ). servedOutcome (refused k) b y) (answered p f b y)
+    on 5 (timeFails (headerIn f) (bodyOf f)) ∷
+    on 6 (hashFails p (headerIn f) (bodyOf f)) ∷
+    on 7 (otherHeld p (headerIn f) (bodyOf f) b) ∷
+    on 8 (noRoom p (headerIn f) (bodyOf f) b) ∷ []) (λ (k : ℕ). servedOutcome (refused k) b y) (answered p (headerIn f) (bodyOf f) b y)
 
 rest-bare : (ok : Bool) (p : Plan) (f b y : List ℕ) → rest ok p f b y ≡ rest ok (bare (p .n) (p .f)) f b y
-unfolding rest recordLength bookReplyOk goodBook headed filled goodRequest goodFrame bodyFits hashFails hashesOk fragmentHash prefixOf otherHeld noRoom answered bookAfter laidAs header
+unfolding rest recordLength bookReplyOk goodBook headed filled goodRequest goodFrame suits bodyFits hashFails hashesOk fragmentHash prefixOf otherHeld noRoom answered bookAfter laidAs header
 rest-bare ok p f b y = refl
 
 -- The node's answer, book and reply depend on the plan only through refusal 1, N and F: two plans that are both accepted or both not, with the

@@ -19,10 +19,11 @@ use Rattle.terms.specs.declared.Plan.{Plan}
 use Rattle.terms.proofs.Rungs as rungs
 use Rattle.terms.proofs.Rungs.{both, clash}
 use Rattle.terms.proofs.Small.{strict}
-use Rattle.frame.specs.Frame.{kindOf, bodyOf, goodRequest}
+use Rattle.frame.specs.Frame.{kindOf, bodyOf, goodRequest, headerIn, longest, writeRequest}
+use Rattle.frame.proofs.Frames as frames
 use Rattle.record.specs.Record.{timeZero}
 use Rattle.book.specs.Records.{rising, some, holds, holdsOther, insertRecord, timed, kept}
-use Rattle.book.specs.Book.{recordsOf, nodeOf, countOf, laidOut, goodBook}
+use Rattle.book.specs.Book.{recordsOf, nodeOf, countOf, laidOut, goodBook, bookHead}
 use Rattle.book.proofs.Lists.{length-insert}
 use Rattle.book.proofs.Laid as laid
 use Rattle.book.proofs.Back as back
@@ -42,23 +43,23 @@ first-stays b y pass l h = ladders.by-ladder (λ (o : ServedOutcome). o .book �
 -- ---- a request that passes, as plain facts
 pub record PassIs (p : Plan) (node : ℕ) (f : List ℕ) : Type 0 where
   pub frame : goodRequest p node f ≡ true
-  pub kind : writes f ≡ true
-  pub time : timeFails f ≡ false
-  pub hash : hashFails p f ≡ false
+  pub kind : writes (headerIn f) ≡ true
+  pub time : timeFails (headerIn f) (bodyOf f) ≡ false
+  pub hash : hashFails p (headerIn f) (bodyOf f) ≡ false
 
 pub pass-is : (p : Plan) (node : ℕ) (f : List ℕ) → passes p node f ≡ true → PassIs p node f
 unfolding passes
 pass-is p node f e =
     let a = both (goodRequest p node f) _ e in
-    let b = both (writes f) _ (a .1) in
-    let c = both (not (timeFails f)) _ (b .1) in
+    let b = both (writes (headerIn f)) _ (a .1) in
+    let c = both (not (timeFails (headerIn f) (bodyOf f))) _ (b .1) in
     record { frame = a .0; kind = b .0; time = not-true _ (c .0); hash = not-true _ (c .1) }
 
 pub pass-back : (p : Plan) (node : ℕ) (f : List ℕ) → PassIs p node f → passes p node f ≡ true
 unfolding passes
 pass-back p node f q = rw (q .frame, q .kind, q .time, q .hash)
 
-pub answered-book : (p : Plan) (f b y : List ℕ) → answered p f b y .book ≡ bookAfter p f b
+pub answered-book : (p : Plan) (f b y : List ℕ) → answered p (headerIn f) (bodyOf f) b y .book ≡ bookAfter p (headerIn f) (bodyOf f) b
 unfolding answered sends
 answered-book p f b y = refl
 
@@ -66,9 +67,9 @@ answered-book p f b y = refl
 pub not-passed : (p : Plan) (f b y : List ℕ) → passes p (nodeOf b) f ≡ false → served p f b y .book ≡ b
 unfolding served
 not-passed p f b y e =
-    first-stays b y (answered p f b y) (nodeLadder p f b y) (λ n. answered-book p f b y ∙ nodes.after-other p f b (other n (writes f) refl))
+    first-stays b y (answered p (headerIn f) (bodyOf f) b y) (nodeLadder p f b y) (λ n. answered-book p f b y ∙ nodes.after-other p (headerIn f) (bodyOf f) b (other n (writes (headerIn f)) refl))
   where
-    other : None (nodeLadder p f b y) → (t : Bool) → writes f ≡ t → t ≡ false
+    other : None (nodeLadder p f b y) → (t : Bool) → writes (headerIn f) ≡ t → t ≡ false
     other n false w = refl
     other n true w =
         let q = calls.clear p f b y n in
@@ -100,7 +101,7 @@ no-other rec (x ∷ rs) g = rw (go (eqb (stamp x) (stamp rec)) refl) (no-other r
     go true e = rw (is-alike x rec (g x (order.among-first x x rs refl) (eqb-true _ _ e)))
     go false e = refl
 
-write-time : (f : List ℕ) → writes f ≡ true → timeFails f ≡ false → 1 ≤ time (bodyOf f)
+write-time : (f : List ℕ) → writes (headerIn f) ≡ true → timeFails (headerIn f) (bodyOf f) ≡ false → 1 ≤ time (bodyOf f)
 unfolding timeFails timeZero
 write-time f w e =
     let q : eqb (time (bodyOf f)) 0 ≡ false = rw w at e in
@@ -116,22 +117,22 @@ pub record Laid (p : Plan) (node : ℕ) (old b : List ℕ) (rs : List (List ℕ)
   pub sizes : laid.Sized (recordLength p) rs
   pub times : timed rs ≡ true
   pub rise : rising rs ≡ true
-  pub fits : 11 + length rs * recordLength p ≤ length old
+  pub fits : bookHead 1 + length rs * recordLength p ≤ length old
 
 -- a good book of bytes is its records laid out over itself
 pub itself : (p : Plan) (b : List ℕ) → planOk p ≡ true → goodBook p b ≡ true → Octets b → length b ≤ 65536 → Laid p (nodeOf b) b b (recordsOf p b)
 itself p b pk g o high =
     let i = books.good-is p b g in
-    let n = laid.length-records b (recordLength p) (countOf b) 11 in
+    let n = laid.length-records b (recordLength p) (countOf b) (bookHead 1) in
     record {
       plan = pk;
       low = i .head .node;
       high = high;
       bytes = books.good-laid p b o i;
-      sizes = laid.sized b (recordLength p) (countOf b) 11 (i .fill .inside);
+      sizes = laid.sized b (recordLength p) (countOf b) (bookHead 1) (i .fill .inside);
       times = i .fill .times;
       rise = i .fill .rise;
-      fits = subst (λ (k : ℕ). 11 + k * recordLength p ≤ length b) (sym n) (i .fill .inside);
+      fits = subst (λ (k : ℕ). bookHead 1 + k * recordLength p ≤ length b) (sym n) (i .fill .inside);
     }
 
 module _ {p : Plan} {node : ℕ} {old b : List ℕ} {rs : List (List ℕ)} (i : Laid p node old b rs) where
@@ -142,7 +143,7 @@ module _ {p : Plan} {node : ℕ} {old b : List ℕ} {rs : List (List ℕ)} (i : 
   unfolding goodBook
   is-good =
       ap (λ (x : List ℕ). goodBook p x) (i .bytes)
-      ∙ laid.book-back 1 11 p (over (laidOut p node rs) old)
+      ∙ laid.book-back 1 (bookHead 1) p (over (laidOut p node rs) old)
       (back.good-back 1 [] p node rs old one-low (i .plan) (i .low) (i .sizes) (i .fits) (i .high) (i .times) (i .rise))
 
   pub is-records : recordsOf p b ≡ rs
@@ -159,49 +160,49 @@ module _ {p : Plan} {node : ℕ} {old b : List ℕ} {rs : List (List ℕ)} (i : 
   is-length =
       ap length (i .bytes) ∙ length-over (laidOut p node rs) old (let q = i .fits in omega (arith, laid.length-laid 1 [] p node rs (i .sizes)))
 
-  lengths-ok : (y : List ℕ) → recordLength p + 15 ≤ length y → bookReplyOk p (length b) (length y) ≡ true
+  lengths-ok : (y : List ℕ) → longest 1 p ≤ length y → bookReplyOk p (length b) (length y) ≡ true
   unfolding bookReplyOk all
   lengths-ok y ry =
       let e = is-length in
       let u = i .fits in
       let h = i .high in
-      rw (le-leb 11 (length b) (omega arith), le-leb (length b) 65536 (omega arith), le-leb (recordLength p + 15) (length y) ry)
+      rw (le-leb (bookHead 1) (length b) (omega arith), le-leb (length b) 65536 (omega arith), le-leb (longest 1 p) (length y) ry)
 
   -- one request that passes
-  module _ (f y : List ℕ) (ry : recordLength p + 15 ≤ length y) (e : passes p node f ≡ true) (own : Own (bodyOf f) rs)
-      (room : 11 + length (kept (bodyOf f) rs) * recordLength p ≤ length old) where
+  module _ (f y : List ℕ) (ry : longest 1 p ≤ length y) (e : passes p node f ≡ true) (own : Own (bodyOf f) rs)
+      (room : bookHead 1 + length (kept (bodyOf f) rs) * recordLength p ≤ length old) where
     q : PassIs p node f
     q = pass-is p node f e
 
-    k3 : kindOf f ≡ 3
+    k3 : kindOf f ≡ writeRequest
     k3 = eqb-true _ _ (q .kind)
 
     rec-length : length (bodyOf f) ≡ recordLength p
-    rec-length = let l = nodes.write-length p node f (q .frame) k3 in simp length-drop (omega arith)
+    rec-length = let l = frames.length-3 (frames.request-is p node f (q .frame) .frame-is) k3 in simp length-drop (omega arith)
 
-    n7 : otherHeld p f b ≡ false
+    n7 : otherHeld p (headerIn f) (bodyOf f) b ≡ false
     unfolding otherHeld
     n7 = rw (q .kind, is-records) (no-other (bodyOf f) rs own)
 
-    n8 : noRoom p f b ≡ false
+    n8 : noRoom p (headerIn f) (bodyOf f) b ≡ false
     unfolding noRoom
     n8 = rw (q .kind, is-records, is-count, is-length) (go (holds (bodyOf f) rs) refl)
       where
-        go : (t : Bool) → holds (bodyOf f) rs ≡ t → cond (not t) (ltb (length old) (11 + length rs * recordLength p + recordLength p)) false ≡ false
+        go : (t : Bool) → holds (bodyOf f) rs ≡ t → cond (not t) (ltb (length old) (bookHead 1 + length rs * recordLength p + recordLength p)) false ≡ false
         go true h = refl
         go false h =
             let l : length (kept (bodyOf f) rs) ≡ length rs + 1 = ap length (order.kept-new (bodyOf f) rs h) ∙ length-insert (bodyOf f) rs in
-            let m : 11 + (length rs + 1) * recordLength p ≤ length old = subst (λ (x : ℕ). 11 + x * recordLength p ≤ length old) l room in
-            le-ltb (length old) (11 + length rs * recordLength p + recordLength p) (omega (arith, add-mul (length rs) 1 (recordLength p)))
+            let m : bookHead 1 + (length rs + 1) * recordLength p ≤ length old = subst (λ (x : ℕ). bookHead 1 + x * recordLength p ≤ length old) l room in
+            le-ltb (length old) (bookHead 1 + length rs * recordLength p + recordLength p) (omega (arith, add-mul (length rs) 1 (recordLength p)))
 
     none : None (nodeLadder p f b y)
     none =
         let g : goodRequest p (nodeOf b) f ≡ true = ap (λ (x : ℕ). goodRequest p x f) is-node ∙ q .frame in
         (ap not (i .plan), (ap not (lengths-ok y ry), (ap not is-good, (ap not g, (q .time, (q .hash, (n7, (n8, tt))))))))
 
-    pub served-is : served p f b y ≡ answered p f b y
+    pub served-is : served p f b y ≡ answered p (headerIn f) (bodyOf f) b y
     unfolding served
-    served-is = ladders.is-passed (nodeLadder p f b y) (λ (k : ℕ). servedOutcome (refused k) b y) (answered p f b y) none
+    served-is = ladders.is-passed (nodeLadder p f b y) (λ (k : ℕ). servedOutcome (refused k) b y) (answered p (headerIn f) (bodyOf f) b y) none
 
     book-is : served p f b y .book ≡ cond (not (holds (bodyOf f) rs)) (over (laidOut p node (insertRecord (bodyOf f) rs)) b) b
     unfolding bookAfter
@@ -223,8 +224,8 @@ module _ {p : Plan} {node : ℕ} {old b : List ℕ} {rs : List (List ℕ)} (i : 
             let kk = order.kept-is rs (bodyOf f) (i .rise) own in
             let sz = laid.sized-insert (recordLength p) (bodyOf f) rs rec-length (i .sizes) in
             let up : rising (insertRecord (bodyOf f) rs) ≡ true = subst (λ (l : List (List ℕ)). rising l ≡ true) k (kk .up) in
-            let rm : 11 + length (insertRecord (bodyOf f) rs) * recordLength p ≤ length old = subst
-            (λ (l : List (List ℕ)). 11 + length l * recordLength p ≤ length old) k room in
+            let rm : bookHead 1 + length (insertRecord (bodyOf f) rs) * recordLength p ≤ length old = subst
+            (λ (l : List (List ℕ)). bookHead 1 + length l * recordLength p ≤ length old) k room in
             let a = laid.length-laid 1 [] p node (insertRecord (bodyOf f) rs) sz in
             let d = laid.length-laid 1 [] p node rs (i .sizes) in
             let ml : length rs * recordLength p ≤ length (insertRecord (bodyOf f) rs) * recordLength p = mul-le-mul-right (recordLength p)

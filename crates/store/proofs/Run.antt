@@ -11,6 +11,7 @@ use lib.Dec.{eqb}
 use Rattle.terms.specs.Terms.{recordLength}
 use Rattle.terms.specs.declared.Plan.{Plan}
 use Rattle.terms.proofs.Rungs.{clash}
+use Rattle.book.specs.Book.{bookHead}
 use Rattle.frame.specs.Frame.{bodyOf}
 use Rattle.book.specs.Records.{holds, kept}
 use Rattle.book.proofs.Lists.{length-insert}
@@ -88,10 +89,10 @@ grows (x ∷ xs) rs = let a = grows xs (kept x rs) in let c = more (holds x rs) 
 -- what the rest of a run, which brings the records xs, leaves of a book that is the records ss
 abbrev Leaves : Plan → ℕ → List ℕ → List Delivery → List (List ℕ) → List ℕ → List (List ℕ) → Type 0
 Leaves p node old ds xs c ss =
-    Agree (Of ss xs) → 11 + length (keptAll xs ss) * recordLength p ≤ length old → one.Laid p node old (through p node ds c) (keptAll xs ss)
+    Agree (Of ss xs) → bookHead 1 + length (keptAll xs ss) * recordLength p ≤ length old → one.Laid p node old (through p node ds c) (keptAll xs ss)
 
 pub run : (p : Plan) (node : ℕ) (old : List ℕ) (ds : List Delivery) (b : List ℕ) (rs : List (List ℕ)) → one.Laid p node old b rs → Roomy p ds
-    → Agree (Of rs (acceptedAt p node (sent node ds))) → 11 + length (keptAll (acceptedAt p node (sent node ds)) rs) * recordLength p ≤ length old
+    → Agree (Of rs (acceptedAt p node (sent node ds))) → bookHead 1 + length (keptAll (acceptedAt p node (sent node ds)) rs) * recordLength p ≤ length old
     → one.Laid p node old (through p node ds b) (keptAll (acceptedAt p node (sent node ds)) rs)
 unfolding through sent acceptedAt keptAll
 run p node old [] b rs i ro g room = i
@@ -108,7 +109,7 @@ run p node old (d ∷ ds) b rs i ro g room = here (eqb node (d .node)) refl g ro
 
     pass : (t : Bool) → passes p node (d .request) ≡ t
         → Agree (Of rs (cond t (bodyOf (d .request) ∷ acceptedAt p node (sent node ds)) (acceptedAt p node (sent node ds))))
-        → 11 + length (keptAll (cond t (bodyOf (d .request) ∷ acceptedAt p node (sent node ds)) (acceptedAt p node (sent node ds))) rs) * recordLength p ≤ length old
+        → bookHead 1 + length (keptAll (cond t (bodyOf (d .request) ∷ acceptedAt p node (sent node ds)) (acceptedAt p node (sent node ds))) rs) * recordLength p ≤ length old
         → ((c : List ℕ) (ss : List (List ℕ)) → one.Laid p node old c ss → Leaves p node old ds (acceptedAt p node (sent node ds)) c ss)
         → one.Laid p node old (through p node ds (served p (d .request) b (d .reply) .book)) (keptAll (cond t (bodyOf (d .request) ∷ acceptedAt p node (sent node ds)) (acceptedAt p node (sent node ds))) rs)
     pass true e ag rm ih =
@@ -126,7 +127,7 @@ run p node old (d ∷ ds) b rs i ro g room = here (eqb node (d .node)) refl g ro
         ih (served p (d .request) b (d .reply) .book) rs (subst (λ (x : List ℕ). one.Laid p node old x rs) (sym st) i) ag rm
 
     here : (t : Bool) → eqb node (d .node) ≡ t → Agree (Of rs (acceptedAt p node (cond t (d .request ∷ sent node ds) (sent node ds))))
-        → 11 + length (keptAll (acceptedAt p node (cond t (d .request ∷ sent node ds) (sent node ds))) rs) * recordLength p ≤ length old
+        → bookHead 1 + length (keptAll (acceptedAt p node (cond t (d .request ∷ sent node ds) (sent node ds))) rs) * recordLength p ≤ length old
         → ((c : List ℕ) (ss : List (List ℕ)) → one.Laid p node old c ss → Leaves p node old ds (acceptedAt p node (sent node ds)) c ss)
         → one.Laid p node old (through p node ds (cond t (served p (d .request) b (d .reply) .book) b)) (keptAll (acceptedAt p node (cond t (d .request ∷ sent node ds) (sent node ds))) rs)
     here true e ag rm ih = pass (passes p node (d .request)) refl ag rm ih

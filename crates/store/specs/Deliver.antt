@@ -22,9 +22,9 @@ use Rattle.terms.specs.Ladder.{_and_}
 use Rattle.terms.specs.Stamp.{stamp}
 use Rattle.terms.specs.Terms.{planOk, recordLength}
 use Rattle.terms.specs.declared.Plan.{Plan}
-use Rattle.frame.specs.Frame.{bodyOf, goodRequest}
+use Rattle.frame.specs.Frame.{bodyOf, goodRequest, headerIn, longest}
 use Rattle.book.specs.Records.{holds, kept, rising}
-use Rattle.book.specs.Book.{goodBook, laidOut, nodeOf, recordsOf, usedOf}
+use Rattle.book.specs.Book.{goodBook, laidOut, nodeOf, recordsOf, usedOf, bookHead}
 use Rattle.node.specs.Node.{timeFails, hashFails, writes, served}
 
 abbrev pub Among : List ℕ → List (List ℕ) → Type 0
@@ -32,7 +32,7 @@ Among z xs = holds z xs ≡ true
 
 -- a write request that the checks 4, 5 and 6 of a node let through
 unfoldable pub passes : Plan → ℕ → List ℕ → Bool
-passes p node f = goodRequest p node f and writes f and not (timeFails f) and not (hashFails p f)
+passes p node f = goodRequest p node f and writes (headerIn f) and not (timeFails (headerIn f) (bodyOf f)) and not (hashFails p (headerIn f) (bodyOf f))
 
 unfoldable pub acceptedAt : Plan → ℕ → List (List ℕ) → List (List ℕ)
 acceptedAt p node [] = []
@@ -73,12 +73,12 @@ pub record Ready (p : Plan) (books : ℕ → List ℕ) (fs : List (List ℕ)) (i
   pub high : length (books i) ≤ 65536
   pub requests : (z w : List ℕ) → Among z (acceptedAt p i fs) → Among w (acceptedAt p i fs) → stamp z ≡ stamp w → z ≡ w
   pub held : (z w : List ℕ) → Among z (acceptedAt p i fs) → Among w (recordsOf p (books i)) → stamp z ≡ stamp w → z ≡ w
-  pub room : 11 + length (gathered p (books i) fs) * recordLength p ≤ length (books i)
+  pub room : bookHead 1 + length (gathered p (books i) fs) * recordLength p ≤ length (books i)
 
 -- every reply buffer has room
 abbrev pub Roomy : Plan → List Delivery → Type 0
 Roomy p [] = Unit {0}
-Roomy p (d ∷ ds) = (recordLength p + 15 ≤ length (d .reply)) × Roomy p ds
+Roomy p (d ∷ ds) = (longest 1 p ≤ length (d .reply)) × Roomy p ds
 
 -- a run brings a node nothing but the set, and each request of the set that passes there at least once, with room for the reply: so it is
 -- where the whole set is brought to every node, and where each request is brought to the node that it is addressed to

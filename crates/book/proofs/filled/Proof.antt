@@ -5,7 +5,6 @@ use Rattle.terms.proofs.Rungs.{clash}
 use Rattle.book.specs.Records.{timed, rising}
 use Rattle.book.proofs.Turns as turns
 use Rattle.book.proofs.Laws as laws
-use borrow.Author.Needs.{needs}
 use Rattle.book.proofs.filled.Statement.{statement}
 use Rattle.book.proofs.filled.Tie as tie
 
@@ -13,36 +12,41 @@ pub filled-spec : {M : Type 1} → statement M
 filled-spec =
     tie.close
     (tie.spec
-    (λ c κs. search needs)
-    (λ c κs. search needs)
     (λ c.
-    let record-length = c .before .record-length in
-    let l = turns.mul-small (c .count .result) (record-length .result) (c .count .ensures .1) (record-length .ensures .1) in
+    let q = c .before .before .pre in
+    let a = c .before .before .args in
+    let l = turns.mul-small (a .k .count) (a .k .each) (q .1) (q .2) in
     omega arith)
     (λ c.
-    let record-length = c .before .record-length in
-    let l = turns.mul-small (c .count .result) (record-length .result) (c .count .ensures .1) (record-length .ensures .1) in
+    let q = c .before .before .before .pre in
+    let a = c .before .before .before .args in
+    let h = laws.head-of (a .p) (a .book .now) (a .k) (q .0) in
+    let l = turns.mul-small (a .k .count) (a .k .each) (q .1) (q .2) in
     omega arith)
     (λ c.
-    let count = c .before .count in
-    let record-length = c .before .before .record-length in
-    laws.fill-no _ _ _ (λ q. let e = turns.times (count .ensures .0) (record-length .ensures .0) in let i = q .inside in let t = c .if1 .taken in omega arith))
-    (λ c κs. search needs)
+    let q = c .before .before .before .before .pre in
+    let a = c .before .before .before .before .args in
+    let u = laws.used-of (a .p) (a .book .now) (a .k) (q .0) in
+    let t = c .if1 .taken in
+    laws.fill-no _ _ _ (λ i. let j = i .inside in omega arith))
+    (λ c κs.
+    let q = c .before .before .before .before .pre in
+    let l = q .3 in
+    (c .if1 .left, omega arith))
     (λ c.
-    let record-length = c .before .before .before .before .record-length in
-    let count = c .before .before .before .count in
-    let rising-call = c .before .rising in
-    laws.fill-no _ _ _ (λ q. clash (sym (q .rise) ∙ sym (ap rising (laws.same-records _ _ _ _ _ (record-length .ensures .0) (count .ensures .0))) ∙ sym (rising-call .ensures) ∙ not-true (rising-call .result) (c .if2 .taken))))
-    (λ c κs. search needs)
+    let z = c .before .before .before .before .before .before in
+    let s = ap rising (laws.records-of _ _ _ (z .pre .0)) in
+    let g = c .before .rising in
+    laws.fill-no _ _ _ (λ i. clash (sym (i .rise) ∙ sym s ∙ sym (g .ensures) ∙ not-true (g .result) (c .if2 .taken))))
+    (λ c κs.
+    let q = c .before .before .before .before .before .before .pre in
+    let l = q .3 in
+    (c .before .before .if1 .left, omega arith))
     (λ c.
-    let count = c .before .before .before .before .count in
-    let record-length = c .before .before .before .before .before .record-length in
-    let args = c .before .before .before .before .before .before .before .args in
-    let if1 = c .before .before .before .if1 in
-    let rising-call = c .before .before .rising in
-    let if2 = c .before .if2 in
-    let e = turns.times (count .ensures .0) (record-length .ensures .0) in
-    let a = args in
-    let s = laws.same-records (a .h) (a .p) (a .book .now) _ _ (record-length .ensures .0) (count .ensures .0) in
-    laws.fill-last _ _ _ _ (omega (arith, if1 .left)) (sym (ap rising s) ∙ sym (rising-call .ensures) ∙ not-false (rising-call .result) (if2 .left))
-    (c .timed .ensures ∙ ap timed s)))
+    let z = c .before .before .before .before .before .before .before in
+    let e = z .pre .0 in
+    let u = laws.used-of (z .args .p) (z .args .book .now) (z .args .k) e in
+    let r = laws.records-of (z .args .p) (z .args .book .now) (z .args .k) e in
+    let g = c .before .before .rising in
+    let t = c .before .before .before .if1 .left in
+    laws.fill-last _ _ _ _ (omega arith) (sym (ap rising r) ∙ sym (g .ensures) ∙ not-false (g .result) (c .before .if2 .left)) (c .timed .ensures ∙ ap timed r)))

@@ -7,6 +7,7 @@ pub fresh-spec : {M : Type 1} → statement M
 fresh-spec =
     tie.close
     (tie.spec
+    (λ c. search needs)
     (λ c κs. search needs)
     (λ c κs. search needs)
     (λ c κs. search needs)
@@ -15,11 +16,11 @@ fresh-spec =
     (λ c κs. search needs)
     (λ c. search needs)
     (λ c.
-    let put-num = c .before .before .before .before .before .before .before .before .before .before .before .before .before .before .before .before .before .before .before .before .before .before .put-num in
-    let put-num2 = c .before .before .before .before .before .before .before .before .before .before .before .before .before .before .before .before .before .before .put-num2 in
-    let put-num3 = c .before .before .before .before .before .before .before .before .before .before .before .before .before .before .put-num3 in
-    let put-num4 = c .before .before .before .before .before .before .before .before .before .before .put-num4 in
-    let put-num5 = c .before .before .before .before .before .before .put-num5 in
-    let put-num6 = c .before .before .put-num6 in
-    laws.fresh-is _ _ _ _ _ _ _ _ _ (put-num .ensures) (put-num2 .ensures) (put-num3 .ensures) (put-num4 .ensures) (put-num5 .ensures)
-    (put-num6 .ensures)))
+    let n6 = c .before .before in
+    let n5 = n6 .before .before .before .before in
+    let n4 = n5 .before .before .before .before in
+    let n3 = n4 .before .before .before .before in
+    let n2 = n3 .before .before .before .before in
+    let n1 = n2 .before .before .before .before in
+    laws.fresh-is _ _ _ _ _ _ _ _ _ (n1 .put-num .ensures) (n2 .put-num2 .ensures) (n3 .put-num3 .ensures) (n4 .put-num4 .ensures) (n5 .put-num5 .ensures)
+    (n6 .put-num6 .ensures)))

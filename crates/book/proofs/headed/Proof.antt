@@ -1,5 +1,5 @@
 use mathlib.Core.Path.{sym, ap, _∙_}
-use Prim.Native.Nat.{ℕ, _+_, _-_}
+use Prim.Native.Nat.{ℕ}
 use native.Mathlib.Omega.{arith}
 use lib.Dec.{eqb}
 use Rattle.book.proofs.Turns as turns
@@ -13,53 +13,38 @@ headed-spec =
     tie.close
     (tie.spec
     (λ c κs. search needs)
-    (λ c κs. search needs)
-    (λ c κs. search needs)
-    (λ c. search needs)
     (λ c.
-    let count = c .before .count in
-    let record-length = c .before .before .record-length in
-    let h = turns.mul-small (count .result) (record-length .result) (count .ensures .1) (record-length .ensures .1) in
+    let z = c .before .before .before in
+    let h = laws.head-of (z .args .p) (z .args .book .now) (z .args .k) (z .pre .1) in
     omega arith)
     (λ c.
-    let count = c .before .count in
-    let record-length = c .before .before .record-length in
-    let h = turns.mul-small (count .result) (record-length .result) (count .ensures .1) (record-length .ensures .1) in
+    let z = c .before .before .before .before in
+    let l = turns.mul-small (z .args .k .count) (z .args .k .each) (z .pre .2) (z .pre .3) in
     omega arith)
     (λ c.
-    let get = c .before .get in
-    let args = c .before .before .before .before .before .args in
-    let count = c .before .before .count in
-    let record-length = c .before .before .before .record-length in
-    laws.head-no _ _ _ _ (λ q. c .if1 .taken (get .ensures .0 ∙ q .used ∙ ap (λ (x : ℕ). args .h - 4 + x) (sym (turns.times (count .ensures .0) (record-length .ensures .0))))))
+    let z = c .before .before .before .before in
+    let h = laws.head-of (z .args .p) (z .args .book .now) (z .args .k) (z .pre .1) in
+    let l = turns.mul-small (z .args .k .count) (z .args .k .each) (z .pre .2) (z .pre .3) in
+    omega arith)
+    (λ c.
+    let z = c .before .before .before .before .before in
+    laws.head-no _ _ _ _ (λ i. c .if1 .taken (c .before .before .before .get .ensures .0 ∙ i .used ∙ sym (laws.length-of _ _ _ (z .pre .1)))))
+    (λ c.
+    let z = c .before .before .before .before .before .before .before in
+    laws.head-no _ _ _ _ (λ i. c .if2 .taken (laws.version-of _ _ _ (z .pre .1) ∙ i .version)))
+    (λ c κs. search needs)
+    (λ c. laws.head-no _ _ _ _ (λ i. c .if3 .taken (c .before .get2 .ensures .0 ∙ i .nodes)))
+    (λ c.
+    let z = c .before .before .before .before .before .before .before .before .before .before .before in
+    let n = laws.node-of (z .args .p) (z .args .book .now) (z .args .k) (z .pre .1) in
+    laws.head-no _ _ _ _ (λ i. let h = i .node in let t = c .if4 .taken in omega arith))
     (λ c κs. search needs)
     (λ c.
-    let get2 = c .before .get2 in
-    laws.head-no _ _ _ _ (λ q. c .if2 .taken (get2 .ensures .0 ∙ q .version)))
-    (λ c κs. search needs)
-    (λ c.
-    let get3 = c .before .get3 in
-    laws.head-no _ _ _ _ (λ q. c .if3 .taken (get3 .ensures .0 ∙ q .nodes)))
-    (λ c κs. search needs)
-    (λ c.
-    let get4 = c .before .get4 in
-    laws.head-no _ _ _ _ (λ q. let e = get4 .ensures .0 in let h = q .node in let k = c .if4 .taken in omega arith))
-    (λ c κs. search needs)
-    (λ c.
-    let count = c .before .before .before .before .before .before .before .before .before .before .count in
-    let record-length = c .before .before .before .before .before .before .before .before .before .before .before .record-length in
-    let if4 = c .before .before .if4 in
-    let args = c .before .before .before .before .before .before .before .before .before .before .before .before .before .args in
-    let get5 = c .before .get5 in
-    let get = c .before .before .before .before .before .before .before .before .before .get in
-    let if1 = c .before .before .before .before .before .before .before .before .if1 in
-    let get2 = c .before .before .before .before .before .before .before .get2 in
-    let if2 = c .before .before .before .before .before .before .if2 in
-    let get3 = c .before .before .before .before .before .get3 in
-    let if3 = c .before .before .before .before .if3 in
-    let get4 = c .before .before .before .get4 in
-    let e = turns.times (count .ensures .0) (record-length .ensures .0) in
-    let k = if4 .left in
-    ap (λ (x : ℕ). eqb x (args .p .f)) (get5 .ensures .0) ∙ laws.head-last _ _ _ _
-    (sym (get .ensures .0) ∙ if1 .left ∙ ap (λ (x : ℕ). args .h - 4 + x) e) (sym (get2 .ensures .0) ∙ if2 .left) (sym (get3 .ensures .0) ∙ if3 .left)
-    (omega (arith, get4 .ensures .0))))
+    let y = c .before .before .before .before .before .before in
+    let z = y .before .before .before .before .before .before .before in
+    let n = laws.node-of (z .args .p) (z .args .book .now) (z .args .k) (z .pre .1) in
+    let t = c .before .before .if4 .left in
+    ap (λ (x : ℕ). eqb x (z .args .p .f)) (c .before .get3 .ensures .0) ∙ laws.head-last _ _ _ _
+    (sym (y .before .before .before .before .before .get .ensures .0) ∙ y .before .before .if1 .left ∙ laws.length-of _ _ _ (z .pre .1))
+    (sym (laws.version-of _ _ _ (z .pre .1)) ∙ y .if2 .left) (sym (c .before .before .before .before .before .get2 .ensures .0) ∙ c .before .before .before .before .if3 .left)
+    (omega arith)))

@@ -8,37 +8,39 @@ pub insert-spec : {M : Type 1} → statement M
 insert-spec =
     tie.close
     (tie.spec
-    (λ c κs. search needs)
-    (λ c κs. search needs)
-    (λ c κs. search needs)
     (λ c.
-    let pre = c .before .before .before .before .before .before .before .before .pre in
-    let record-length = c .before .before .before .before .before .record-length in
-    let used = c .before .used in
-    let q = laws.place-used _ _ _ _ _ _ (pre .place) (record-length .ensures .0) (used .ensures .0) in
-    omega (arith, used .ensures .1))
+    let q = laws.placed-fits _ _ _ _ _ (c .before .before .pre) in
+    omega arith)
     (λ c.
-    let pre = c .before .before .before .before .before .before .before .before .pre in
-    let record-length = c .before .before .before .before .before .record-length in
-    let used = c .before .used in
-    let q = laws.place-used _ _ _ _ _ _ (pre .place) (record-length .ensures .0) (used .ensures .0) in
-    omega (arith, used .ensures .1))
-    (λ c. search needs)
+    let q = laws.placed-fits _ _ _ _ _ (c .before .before .before .pre) in
+    omega arith)
+    (λ c.
+    let q = laws.placed-fits _ _ _ _ _ (c .before .before .before .before .pre) in
+    omega arith)
+    (λ c.
+    let q = laws.placed-fits _ _ _ _ _ (c .before .before .before .before .before .pre) in
+    omega arith)
+    (λ c.
+    let q = laws.placed-fits _ _ _ _ _ (c .before .before .before .before .before .before .pre) in
+    omega arith)
     (λ c κs.
-    let pre = c .before .before .before .before .before .before .before .before .pre in
-    let record-length = c .before .before .before .before .before .record-length in
-    let used = c .before .used in
-    let q = laws.place-used _ _ _ _ _ _ (pre .place) (record-length .ensures .0) (used .ensures .0) in
-    let e = used .ensures .0 in
-    let r = record-length .ensures .0 in
-    let l = pre .room in
-    let s = pre .inside in
-    (omega arith, q, omega arith, omega arith))
+    let q = laws.placed-fits _ _ _ _ _ (c .before .before .before .before .before .before .pre) in
+    omega arith)
+    (λ c κs.
+    let z = c .before .before .before .before .before in
+    let w = z .before .before .before .before .before in
+    let q = laws.placed-fits _ _ _ _ _ (w .pre) in
+    (w .pre .inside, omega arith))
+    (λ c. search needs)
+    (λ c. search needs)
+    (λ c κs. search needs)
+    (λ c. search needs)
+    (λ c κs. search needs)
     (λ c. search needs)
     (λ c.
-    let record-length = c .before .before .before .before .before .before .before .before .record-length in
-    let count = c .before .before .before .before .before .before .count in
-    let used = c .before .before .before .before .used in
-    let pre = c .before .before .before .before .before .before .before .before .before .before .before .pre in
-    let insert-at = c .before .before .insert-at in
-    laws.insert-done _ _ _ _ _ _ _ _ _ pre (record-length .ensures .0) (count .ensures .0) (used .ensures .0) (insert-at .ensures)))
+    let n4 = c .before .before in
+    let n3 = n4 .before .before .before .before .before in
+    let n2 = n3 .before .before .before .before in
+    let n1 = n2 .before .before .before .before in
+    let z = n1 .before .before .before .before .before .before .before in
+    laws.insert-done _ _ _ _ _ _ (z .pre) (laws.steps _ _ _ _ _ _ _ _ _ _ (n1 .up .ensures) (n2 .copy .ensures) (n3 .put-num .ensures) (n4 .put-num2 .ensures))))

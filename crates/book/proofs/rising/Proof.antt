@@ -10,10 +10,10 @@ use Rattle.book.proofs.rising.Statement.{statement}
 use Rattle.book.proofs.rising.Tie as tie
 
 abbrev Inv-loop : tie.InvT-loop
-Inv-loop book at left r p₀ m₀ p m = (p + m * r ≤ length book) × (rising (recordsFrom book r left at) ≡ rising (recordsFrom book r m p))
+Inv-loop book r p₀ m₀ p m = (p + m * r ≤ length book) × (rising (recordsFrom book r m₀ p₀) ≡ rising (recordsFrom book r m p))
 
 abbrev μ-loop : tie.MeasureT-loop
-μ-loop book at left r p₀ m₀ p m = m
+μ-loop book r p₀ m₀ p m = m
 
 pub rising-spec : {M : Type 1} → statement M
 rising-spec =

@@ -1,6 +1,7 @@
-use Prim.Native.Nat.{_+_}
-use lib.Dec.{leb}
-use lib.ListN.{length}
+use native.Mathlib.Omega.{arith}
+use Prim.Native.Nat.{_+_, _*_}
+use borrow.Author.Tests.{le-leb, lt-leb}
+use mathlib.Core.Path.{sym}
 use borrow.Author.Needs.{needs}
 use Rattle.book.proofs.room.Statement.{statement}
 use Rattle.book.proofs.room.Tie as tie
@@ -9,10 +10,14 @@ pub room-spec : {M : Type 1} → statement M
 room-spec =
     tie.close
     (tie.spec
-    (λ c κs. search needs)
-    (λ c κs. search needs)
+    (λ c. search needs)
+    (λ c. search needs)
     (λ c. search needs)
     (λ c.
-    let record-length = c .before .record-length in
-    let args = c .before .before .before .args in
-    λ i. leb (c .used .ensures .0 i + record-length .ensures .0 i) (length (args .book .now))))
+    let a = c .before .before .before .args in
+    let t = c .if1 .taken in
+    sym (lt-leb (a .k .head + a .k .count * a .k .each + a .k .each) (a .n) (omega arith)))
+    (λ c.
+    let a = c .before .before .before .args in
+    let t = c .if1 .left in
+    sym (le-leb (a .k .head + a .k .count * a .k .each + a .k .each) (a .n) (omega arith))))

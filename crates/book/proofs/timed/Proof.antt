@@ -9,10 +9,10 @@ use Rattle.book.proofs.timed.Statement.{statement}
 use Rattle.book.proofs.timed.Tie as tie
 
 abbrev Inv-loop : tie.InvT-loop
-Inv-loop book at left r p₀ m₀ p m = (p + m * r ≤ length book) × (timed (recordsFrom book r left at) ≡ timed (recordsFrom book r m p))
+Inv-loop book r p₀ m₀ p m = (p + m * r ≤ length book) × (timed (recordsFrom book r m₀ p₀) ≡ timed (recordsFrom book r m p))
 
 abbrev μ-loop : tie.MeasureT-loop
-μ-loop book at left r p₀ m₀ p m = m
+μ-loop book r p₀ m₀ p m = m
 
 pub timed-spec : {M : Type 1} → statement M
 timed-spec =

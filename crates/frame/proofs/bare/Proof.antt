@@ -9,4 +9,4 @@ bare-spec =
     (tie.spec
     (λ c κs. search needs)
     (λ c. search needs)
-    (λ c. built.bare-is _ _ _ _ _ (c .before .before .head .ensures)))
+    (λ c. built.bare-is _ _ _ _ (c .before .before .head .ensures .0) (c .before .before .head .ensures .1)))

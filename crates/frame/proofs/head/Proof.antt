@@ -1,3 +1,4 @@
+use native.Mathlib.Omega.{arith}
 use Rattle.frame.proofs.Built as built
 use borrow.Author.Needs.{needs}
 use Rattle.frame.proofs.head.Statement.{statement}
@@ -7,6 +8,8 @@ pub head-spec : {M : Type 1} → statement M
 head-spec =
     tie.close
     (tie.spec
+    (λ c κs. search needs)
+    (λ c. search needs)
     (λ c. search needs)
     (λ c κs. search needs)
     (λ c κs. search needs)
@@ -19,4 +22,7 @@ head-spec =
     let n3 = n4 .before .before .before .before in
     let n2 = n3 .before .before .before .before in
     let n1 = n2 .before .before .before .before in
-    built.head-is _ _ _ _ _ _ _ _ _ _ (n1 .put-num .ensures) (n2 .put-num2 .ensures) (n3 .put-num3 .ensures) (n4 .put-num4 .ensures) (n5 .put-num5 .ensures)))
+    let h = n1 .before .before .before .head-bytes .ensures in (
+      built.head-is _ _ _ _ _ _ _ _ _ (omega (arith, h)) (n1 .put-num .ensures) (n2 .put-num2 .ensures) (n3 .put-num3 .ensures) (n4 .put-num4 .ensures) (n5 .put-num5 .ensures),
+      omega (arith, h),
+    )))

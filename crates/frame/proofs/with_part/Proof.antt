@@ -10,6 +10,9 @@ with-part-spec =
     tie.close
     (tie.spec
     (λ c κs. search needs)
-    (λ c κs. (omega arith, omega arith))
+    (λ c. let e = c .before .before .before .head .ensures .1 in omega arith)
+    (λ c κs. let e = c .before .before .before .head .ensures .1 in (omega arith, omega arith))
     (λ c. search needs)
-    (λ c. built.whole-is _ _ _ _ _ _ _ _ (length-part _ _ _ (omega arith)) (c .before .before .before .before .before .before .head .ensures) (c .before .before .copy .ensures)))
+    (λ c.
+    let h = c .before .before .before .before .before .before .head in
+    built.whole-is _ _ _ _ _ _ _ _ (length-part _ _ _ (omega arith)) (h .ensures .1) (omega (arith, h .ensures .1)) (h .ensures .0) (c .before .before .copy .ensures)))

@@ -1,7 +1,7 @@
 -- `keeper::good` meets what the book's check requires. Assumes nothing.
 use mathlib.Core.Path.{sym, _∙_}
-use native.Mathlib.Omega.{arith}
 use borrow.Author.Tests.{not-false}
+use Rattle.book.proofs.Laws as books
 use borrow.Author.Needs.{needs}
 use Rattle.keeper.proofs.good.Statement.{statement}
 use Rattle.keeper.proofs.good.Tie as tie
@@ -14,8 +14,14 @@ good-spec =
     (λ c κs. search needs)
     (λ c. search needs)
     (λ c κs. search needs)
-    (λ c. search needs)
-    (λ c κs. (sym (c .before .before .plan-ok .ensures) ∙ not-false (c .before .before .plan-ok .result) (c .before .if1 .left), omega arith))
     (λ c κs. search needs)
+    (λ c. search needs)
+    (λ c κs. (
+      sym (c .before .before .before .plan-ok .ensures) ∙ not-false (c .before .before .before .plan-ok .result) (c .before .before .if1 .left),
+      books.lent-is _ (sym (c .before .lent .ensures) ∙ not-false (c .before .lent .result) (c .if2 .left)) .0,
+    ))
+    (λ c. search needs)
+    (λ c κs. search needs)
+    (λ c. search needs)
     (λ c. search needs)
     (λ c. search needs))

@@ -1,6 +1,8 @@
+use mathlib.Core.Path.{ap}
 use native.Mathlib.Omega.{arith}
 use Rattle.terms.proofs.Plans.{plan-is}
 use Rattle.frame.proofs.Frames.{reply-is}
+use Rattle.frame.specs.declared.Header.{Header}
 use Rattle.session.proofs.Readers as laws
 use borrow.Author.Needs.{needs}
 use Rattle.session.proofs.Session.accept.Statement.{statement}
@@ -16,7 +18,7 @@ accept-spec =
     let pre = c .before .before .before .before .before .before .pre in
     let r = reply-is _ _ (pre .1) in
     let q = plan-is _ (pre .0) in
-    omega (arith, c .node-of .ensures .0, r .node-low, q .n-high))
+    omega (arith, ap (λ (h : Header). h .node) (c .header-of .ensures .0), r .node-low, q .n-high))
     (λ c κs. search needs)
     (λ c. search needs)
     (λ c. search needs)
@@ -25,7 +27,7 @@ accept-spec =
     let heard = kept .before .before .before in
     let args = heard .before .before .before .before .before .before .before .args in
     laws.accept-stored (args .p) (args .self) (args .frame .now) (args .desk .now) (args .item .now) _ _ _ _ (heard .before .before .before .storing .ensures) (heard .before .before .if1 .taken)
-    (heard .before .node-of .ensures .0) (heard .marked .ensures) (kept .keep .ensures))
+    (ap (λ (h : Header). h .node) (heard .before .header-of .ensures .0)) (heard .marked .ensures) (kept .keep .ensures))
     (λ c κs. search needs)
     (λ c. search needs)
     (λ c. search needs)

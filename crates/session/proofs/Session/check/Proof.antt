@@ -5,10 +5,12 @@ use native.Mathlib.Omega.{arith}
 use borrow.Author.Tests.{not-true, not-false}
 use Rattle.terms.specs.Ladder.{Rung}
 use Rattle.terms.proofs.Plans.{plan-is}
-use Rattle.frame.proofs.Frames.{reply-is}
-use Rattle.session.specs.Reply.{replyLadder, sameOperation, isHeard}
+use Rattle.frame.specs.declared.Header.{Header}
+use Rattle.frame.specs.Frame.{goodReply}
+use Rattle.frame.proofs.Frames.{reply-is, Opened, was-open, was-shut}
+use Rattle.session.specs.Reply.{replyLadder, sameOperation}
 use Rattle.session.proofs.Rules as rules
-use Rattle.terms.proofs.Down.{Down, top, next, left, stop, end}
+use Rattle.terms.proofs.Down.{Down, top, next, left, stop, goes-on}
 use borrow.Author.Needs.{needs}
 use Rattle.session.proofs.Session.check.Statement.{statement}
 use Rattle.session.proofs.Session.check.Tie as tie
@@ -38,13 +40,13 @@ at-end c =
 abbrev at-frame : tie.Else5 → Down ladder 4
 at-frame c = next 4 (at-end (c .before .before)) refl (sym (c .before .ended .ensures) ∙ c .if5 .left)
 
--- 10
-abbrev at-awaited : tie.Else6 → Down ladder 10
-at-awaited c = next 10 (at-frame (c .before .before)) refl (ap not (sym (c .before .reply-ok .ensures)) ∙ c .if6 .left)
+-- the reply that was read
+opened : (c : tie.After-door) → let a = at-frame (c .before .before .before) .start .args in Opened (goodReply (a .p) (a .frame .now)) (a .frame .now) (c .door .given .0 .0)
+opened c = was-open _ _ _ (sym (c .door .given .1) ∙ c .before .before .reply-at .ensures)
 
--- 11
-abbrev at-heard : tie.Else7 → Down ladder 11
-at-heard c = next 11 (at-awaited (c .before .before)) refl (ap not (sym (c .before .awaits .ensures)) ∙ c .if7 .left)
+-- 10
+abbrev at-awaited : tie.After-door → Down ladder 10
+at-awaited c = next 10 (at-frame (c .before .before .before)) refl (ap not (opened c .good))
 
 pub check-spec : {M : Type 1} → statement M
 check-spec =
@@ -65,27 +67,18 @@ check-spec =
     (λ c κs. search needs)
     (λ c. stop _ _ (at-end (c .before .before)) (sym (c .before .ended .ensures) ∙ c .if5 .taken) refl)
     (λ c κs. not-false _ (left 1 (at-frame c)))
-    (λ c. stop _ _ (at-frame (c .before .before)) (ap not (sym (c .before .reply-ok .ensures)) ∙ c .if6 .taken) refl)
+    (λ c. search needs)
+    (λ c. search needs)
     (λ c κs.
-    let d = at-awaited c in
+    let d = at-awaited (c .before) in
     let a = d .start .args in
     let q = plan-is (a .p) (not-false _ (left 1 d)) in
     let r = reply-is (a .p) (a .frame .now) (not-false _ (left 4 d)) in
+    let h = opened (c .before) .is in
     let st = rules.range-stands (a .p) (a .self) (a .desk .now) (rules.and-second (sameOperation (a .op) (a .self .operation)) _ (not-false _ (left 9 d))) in
-    (st .low, rules.ask-high _ _ st, r .frame-is .low, rules.reply-stamped _ _ r))
-    (λ c. stop _ _ (at-awaited (c .before .before)) (ap not (sym (c .before .awaits .ensures)) ∙ c .if7 .taken) refl)
-    (λ c κs.
-    let d = at-heard c in
-    reply-is (d .start .args .p) (d .start .args .frame .now) (not-false _ (left 4 d)) .frame-is .low)
-    (λ c κs.
-    let d = at-heard (c .before) in
+    (st .low, rules.ask-high _ _ st, h, rules.header-stamped _ _ _ h r, omega (arith, ap (λ (x : Header). x .node) h, r .node-low, q .n-high)))
+    (λ c.
+    let d = at-frame (c .before .before .before) in
     let a = d .start .args in
-    let q = plan-is (a .p) (not-false _ (left 1 d)) in
-    let r = reply-is (a .p) (a .frame .now) (not-false _ (left 4 d)) in
-    omega (arith, c .node-of .ensures .0, r .node-low, q .n-high))
-    (λ c.
-    let d = at-heard (c .before .before .before) in
-    stop _ _ d (sym (c .before .has-heard .ensures ∙ ap (isHeard (d .start .args .self)) (c .before .before .node-of .ensures .0)) ∙ c .if8 .taken) refl)
-    (λ c.
-    let d = at-heard (c .before .before .before) in
-    end _ _ (next 0 d refl (sym (c .before .has-heard .ensures ∙ ap (isHeard (d .start .args .self)) (c .before .before .node-of .ensures .0)) ∙ c .if8 .left)) refl refl))
+    stop _ _ d (ap not (was-shut (goodReply (a .p) (a .frame .now)) (a .frame .now) (sym (c .enum-told .given .1) ∙ c .before .before .reply-at .ensures))) refl)
+    (λ c. goes-on _ _ (at-awaited (c .before .before)) (c .check-awaited .ensures)))

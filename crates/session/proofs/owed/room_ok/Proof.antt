@@ -1,5 +1,5 @@
 use native.Mathlib.Omega.{arith}
-use borrow.Author.Tests.{eq-eqb, ne-eqb}
+use borrow.Author.Tests.{ne-eqb}
 use Rattle.terms.proofs.Plans.{plan-is}
 use Rattle.session.specs.Owed.{roomOk}
 use Rattle.session.proofs.Rules as rules
@@ -10,10 +10,6 @@ use Rattle.session.proofs.owed.room_ok.Tie as tie
 returns : tie.Need-returns
 unfolding roomOk
 returns c = rw (← (c .before .record-length .ensures .0), ne-eqb _ _ (c .if1 .taken))
-
-returns-2 : tie.Need-returns-2
-unfolding roomOk
-returns-2 c = rw (← (c .before .record-length .ensures .0), eq-eqb _ _ (c .if1 .left))
 
 pub room-ok-spec : {M : Type 1} → statement M
 room-ok-spec =
@@ -26,5 +22,5 @@ room-ok-spec =
           (q .n-high) (c .record-length .ensures .1),
     ))
     returns
-    (λ c. search needs)
-    returns-2)
+    (λ c κs. search needs)
+    (λ c. rules.room-last _ _ _ _ _ (c .before .before .record-length .ensures .0) (c .before .if1 .left) (c .holds-any .ensures)))

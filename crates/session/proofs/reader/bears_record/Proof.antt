@@ -1,23 +1,15 @@
-use borrow.Author.Tests.{eq-eqb, ne-eqb}
-use Rattle.session.specs.Reply.{bears}
+use Rattle.session.proofs.Readers as laws
 use borrow.Author.Needs.{needs}
 use Rattle.session.proofs.reader.bears_record.Statement.{statement}
 use Rattle.session.proofs.reader.bears_record.Tie as tie
-
-returns : tie.Need-returns
-unfolding bears
-returns c = rw (← (c .before .kind-of .ensures .0), ne-eqb _ _ (c .if1 .taken))
-
-returns-2 : tie.Need-returns-2
-unfolding bears
-returns-2 c = rw (← (c .before .before .kind-of .ensures .0), eq-eqb _ _ (c .before .if1 .left), ← (c .record-length .ensures .0))
 
 pub bears-record-spec : {M : Type 1} → statement M
 bears-record-spec =
     tie.close
     (tie.spec
     (λ c κs. search needs)
-    returns
+    (λ c. laws.bears-not _ _ _ (c .before .header-of .ensures .0) (c .if1 .taken))
+    (λ c κs. search needs)
     (λ c κs. search needs)
     (λ c. search needs)
-    returns-2)
+    (λ c. laws.bears-last _ _ _ _ _ (c .before .before .before .header-of .ensures .0) (c .before .before .if1 .left) (c .before .head-bytes .ensures) (c .record-length .ensures .0)))

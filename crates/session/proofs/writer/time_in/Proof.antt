@@ -1,15 +1,13 @@
-use Rattle.octets.specs.Bytes.{part}
+use native.Mathlib.Omega.{arith}
 use borrow.Author.Needs.{needs}
+use Rattle.session.proofs.Writers as laws
 use Rattle.session.proofs.writer.time_in.Statement.{statement}
 use Rattle.session.proofs.writer.time_in.Tie as tie
-
-returns : tie.Need-returns
-unfolding part
-returns c = c .get .ensures .0
 
 pub time-in-spec : {M : Type 1} → statement M
 time-in-spec =
     tie.close
     (tie.spec
     (λ c κs. search needs)
-    returns)
+    (λ c κs. (omega (arith, c .head-bytes .ensures), omega arith))
+    (λ c. laws.time-at _ _ _ (c .before .head-bytes .ensures) (c .get .ensures .0)))

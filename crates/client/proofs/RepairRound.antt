@@ -17,7 +17,7 @@ use Rattle.terms.specs.Terms.{planOk, recordLength}
 use Rattle.terms.specs.Stamp.{stampNumber}
 use Rattle.terms.specs.declared.Plan.{Plan}
 use Rattle.terms.proofs.Rungs.{clash}
-use Rattle.frame.specs.Frame.{frameNode, bodyOf}
+use Rattle.frame.specs.Frame.{frameNode, bodyOf, headBytes, versionOf}
 use Rattle.rounds.specs.declared.Heard.the-variants.{Record}
 use Rattle.rounds.specs.declared.Lead.the-variants.{Node}
 use Rattle.session.specs.declared.Session.{Session}
@@ -48,7 +48,7 @@ octets-after : (p : Plan) (d f : List ℕ) → Octets d → Octets f → Octets 
 octets-after p d f h k = go (bears p f)
   where
     go : (b : Bool) → Octets (cond b (put d (frameNode f * recordLength p) (bodyOf f)) d)
-    go true = octets-put d (frameNode f * recordLength p) (bodyOf f) h (octets-drop 15 f k)
+    go true = octets-put d (frameNode f * recordLength p) (bodyOf f) h (octets-drop (headBytes (versionOf f)) f k)
     go false = h
 
 -- ---- the reply that opens it

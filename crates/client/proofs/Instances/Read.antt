@@ -30,7 +30,7 @@ use Rattle.terms.specs.declared.Member.the-variants.{Repairable}
 use Rattle.terms.specs.declared.Clients.the-variants.{Byzantine}
 use Rattle.field.specs.Field.{xtime, mulN, mul, square, sumPow, inv, div}
 use Rattle.fragments.specs.Fragments.{among, from, fragment, laid, tabulate, ratio, weightOf, blend, value, regenerated}
-use Rattle.frame.specs.Frame.{frame, askOf, shaped, bodyFits, oneOf, forParty, goodFrame, goodReply}
+use Rattle.frame.specs.Frame.{frame, askOf, shaped, bodyFits, oneOf, forParty, goodFrame, goodReply, writeReply, readReply as readKind, suits}
 use Rattle.record.specs.Record.{fragmentHash, hashesOk, timeZero, prefixOf}
 use Rattle.record.specs.Desk.{slotOf, row, crossMade, deskOf, stampMade}
 use Rattle.rounds.specs.declared.Bound.the-variants.{Free}
@@ -124,22 +124,22 @@ abbrev pub turn : List ℕ → Answer → Session → List ℕ → List ℕ → 
 turn f a s d i = record { reply = f; item = 0 ∷ []; took = record { answer = a; session = s }; deskLeft = d; itemLeft = i }
 
 unfoldable pub reply-1 : List ℕ
-reply-1 = frame 7 0 5 poor
+reply-1 = frame readKind 0 5 poor
 
 unfoldable pub reply-2 : List ℕ
-reply-2 = frame 7 1 5 []
+reply-2 = frame readKind 1 5 []
 
 unfoldable pub reply-3 : List ℕ
-reply-3 = frame 7 0 6 good
+reply-3 = frame readKind 0 6 good
 
 unfoldable pub reply-4 : List ℕ
-reply-4 = frame 7 1 6 []
+reply-4 = frame readKind 1 6 []
 
 unfoldable pub reply-5 : List ℕ
-reply-5 = frame 4 1 7 stamp-bytes
+reply-5 = frame writeReply 1 7 stamp-bytes
 
 unfoldable pub reply-6 : List ℕ
-reply-6 = frame 4 2 7 stamp-bytes
+reply-6 = frame writeReply 2 7 stamp-bytes
 
 abbrev pub call-1 : Turn
 call-1 = turn reply-1 Open first-heard desk-poor (0 ∷ [])
@@ -168,39 +168,39 @@ opened-so = record { is = refl }
 
 pub met-1 : ReadReplyCall plan (start) reply-1 desk (0 ∷ []) (record { answer = Open; session = first-heard }) desk-poor (0 ∷ [])
 unfolding reply-1 hash poor stamp-bytes good desk desk-poor desk-good desk-full plan readReply first planOk countsOk limitsOk columnOf all recordLength lengthsOk inRange standingRules openRules heardCount every slotsFit slotFits slotStamp underOf num numFrom part
-    goodReply goodFrame shaped forParty oneOf bodyFits awaited askNow awaitsKind isHeard bears be beOnto accepted heard settled
+    goodReply goodFrame suits shaped forParty oneOf bodyFits awaited askNow awaitsKind isHeard bears be beOnto accepted heard settled
     hashesOk timeZero fragmentHash prefixOf alike put stampAt stampNumber then sha256 sha.after compressOf addedOf roundsOf roundOf T1 T2 scheduleOf words padding bigEndian K
 met-1 = record { is = refl }
 
 met-2 : ReadReplyCall plan (first-heard) reply-2 desk-poor (0 ∷ []) (record { answer = Open; session = second-round }) desk-poor (0 ∷ [])
 unfolding reply-2 hash poor stamp-bytes good desk desk-poor desk-good desk-full plan readReply first planOk countsOk limitsOk columnOf all recordLength lengthsOk inRange standingRules openRules heardCount every slotsFit slotFits slotStamp underOf num numFrom part
-    goodReply goodFrame shaped forParty oneOf bodyFits awaited askNow awaitsKind isHeard bears be beOnto accepted heard settled
+    goodReply goodFrame suits shaped forParty oneOf bodyFits awaited askNow awaitsKind isHeard bears be beOnto accepted heard settled
     hashesOk timeZero fragmentHash prefixOf alike put stampAt stampNumber then sha256 sha.after compressOf addedOf roundsOf roundOf T1 T2 scheduleOf words padding bigEndian K actFor actOn sound failing closeWith leadOf stepOf aheadOf setOf joinsOf decided classOf
     validates row crossMade regenerated among tabulate value blend weightOf ratio xtime mulN mul square sumPow inv div
 met-2 = record { is = refl }
 
 met-3 : ReadReplyCall plan (second-round) reply-3 desk-poor (0 ∷ []) (record { answer = Open; session = second-heard }) desk-good (0 ∷ [])
 unfolding reply-3 hash poor stamp-bytes good desk desk-poor desk-good desk-full plan readReply first planOk countsOk limitsOk columnOf all recordLength lengthsOk inRange standingRules openRules heardCount every slotsFit slotFits slotStamp underOf num numFrom part
-    goodReply goodFrame shaped forParty oneOf bodyFits awaited askNow awaitsKind isHeard bears be beOnto accepted heard settled
+    goodReply goodFrame suits shaped forParty oneOf bodyFits awaited askNow awaitsKind isHeard bears be beOnto accepted heard settled
     hashesOk timeZero fragmentHash prefixOf alike put stampAt stampNumber then sha256 sha.after compressOf addedOf roundsOf roundOf T1 T2 scheduleOf words padding bigEndian K
 met-3 = record { is = refl }
 
 met-4 : ReadReplyCall plan (second-heard) reply-4 desk-good (0 ∷ []) (record { answer = Open; session = repair-round }) desk-full (0 ∷ [])
 unfolding reply-4 hash poor stamp-bytes good desk desk-poor desk-good desk-full plan readReply first planOk countsOk limitsOk columnOf all recordLength lengthsOk inRange standingRules openRules heardCount every slotsFit slotFits slotStamp underOf num numFrom part
-    goodReply goodFrame shaped forParty oneOf bodyFits awaited askNow awaitsKind isHeard bears be beOnto accepted heard settled
+    goodReply goodFrame suits shaped forParty oneOf bodyFits awaited askNow awaitsKind isHeard bears be beOnto accepted heard settled
     hashesOk timeZero fragmentHash prefixOf alike put stampAt stampNumber then sha256 sha.after compressOf addedOf roundsOf roundOf T1 T2 scheduleOf words padding bigEndian K actFor actOn sound failing closeWith leadOf stepOf aheadOf setOf joinsOf decided classOf
     validates row crossMade regenerated among tabulate value blend weightOf ratio xtime mulN mul square sumPow inv div repaired refilled slotFilled
 met-4 = record { is = refl }
 
 met-5 : ReadReplyCall plan (repair-round) reply-5 desk-full (0 ∷ []) (record { answer = Open; session = once-stored }) desk-full (0 ∷ [])
 unfolding reply-5 hash poor stamp-bytes good desk desk-poor desk-good desk-full plan readReply first planOk countsOk limitsOk columnOf all recordLength lengthsOk inRange standingRules openRules heardCount every slotsFit slotFits slotStamp underOf num numFrom part
-    goodReply goodFrame shaped forParty oneOf bodyFits awaited askNow awaitsKind isHeard bears be beOnto accepted heard settled
+    goodReply goodFrame suits shaped forParty oneOf bodyFits awaited askNow awaitsKind isHeard bears be beOnto accepted heard settled
     hashesOk timeZero fragmentHash prefixOf alike put stampAt stampNumber then stored
 met-5 = record { is = refl }
 
 met-6 : ReadReplyCall plan (once-stored) reply-6 desk-full (0 ∷ []) (record { answer = Done (stampAt desk-good 0) 2; session = ended }) desk-full (7 ∷ [])
 unfolding reply-6 hash poor stamp-bytes good desk desk-poor desk-good desk-full plan readReply first planOk countsOk limitsOk columnOf all recordLength lengthsOk inRange standingRules openRules heardCount every slotsFit slotFits slotStamp underOf num numFrom part
-    goodReply goodFrame shaped forParty oneOf bodyFits awaited askNow awaitsKind isHeard bears be beOnto accepted heard settled
+    goodReply goodFrame suits shaped forParty oneOf bodyFits awaited askNow awaitsKind isHeard bears be beOnto accepted heard settled
     hashesOk timeZero fragmentHash prefixOf alike put stampAt stampNumber then stored collected laid from regenerated among tabulate value
 met-6 = record { is = refl }
 
@@ -281,11 +281,11 @@ rested-so =
 
 -- ---- node 2 answers round 1 late, when round 2 has heard node 0: refused 10
 unfoldable pub late : List ℕ
-late = frame 7 2 5 []
+late = frame readKind 2 5 []
 
 late-met : ReadReplyCall plan second-heard late desk-good (0 ∷ []) (record { answer = Refused NotAwaited; session = second-heard }) desk-good (0 ∷ [])
 unfolding late hash stamp-bytes good desk-good plan readReply first planOk countsOk limitsOk columnOf all recordLength lengthsOk inRange standingRules openRules heardCount every
-    slotsFit slotFits slotStamp underOf num numFrom part goodReply goodFrame shaped forParty oneOf bodyFits awaited askNow awaitsKind be beOnto stampAt stampNumber then
+    slotsFit slotFits slotStamp underOf num numFrom part goodReply goodFrame suits shaped forParty oneOf bodyFits awaited askNow awaitsKind be beOnto stampAt stampNumber then
     desk-poor poor
 late-met = record { is = refl }
 

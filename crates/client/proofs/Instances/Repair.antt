@@ -19,7 +19,7 @@ use Rattle.terms.specs.declared.Clients.the-variants.{Crash}
 use Rattle.field.specs.Field.{xtime, mulN, mul, square, sumPow, inv, div}
 use Rattle.fragments.specs.Fragments.{among, from, laid, tabulate, ratio, weightOf, blend, value, regenerated}
 use Rattle.recover.specs.Recover.{slotFilled, refilled, sound, repaired, collected}
-use Rattle.frame.specs.Frame.{shaped, bodyFits, oneOf, forParty, goodFrame, goodReply}
+use Rattle.frame.specs.Frame.{shaped, bodyFits, oneOf, forParty, goodFrame, goodReply, suits}
 use Rattle.record.specs.Desk.{fragmentIn}
 use Rattle.rounds.specs.declared.Bound.the-variants.{Free}
 use Rattle.rounds.specs.declared.Heard.the-variants.{First, Record}
@@ -72,7 +72,7 @@ left = repaired plan (closed plan (markedOf session 2 First) desk) 0 desk
 -- the call opens a repair round
 pub opens-so : ReadReplyCall plan session frame desk item took left item
 unfolding plan slot desk session frame item took left readReply first planOk countsOk limitsOk columnOf all recordLength lengthsOk inRange standingRules openRules
-    heardCount every slotsFit slotFits slotStamp underOf num numFrom part alike goodReply goodFrame shaped forParty oneOf bodyFits awaited askNow awaitsKind
+    heardCount every slotsFit slotFits slotStamp underOf num numFrom part alike goodReply goodFrame suits shaped forParty oneOf bodyFits awaited askNow awaitsKind
     isHeard bears accepted heard settled actFor actOn sound closeWith leadOf stepOf aheadOf setOf joinsOf decided classOf
 opens-so = record { is = refl }
 
@@ -126,7 +126,7 @@ last-turn =
 
 turns-so : Calls (ReadTurn plan) (took .session) left (first-turn ∷ second-turn ∷ last-turn ∷ [])
 unfolding first-turn second-turn last-turn turn-open stored-by plan slot desk session item took left readReply first planOk countsOk limitsOk columnOf all recordLength lengthsOk
-    inRange standingRules openRules heardCount every slotsFit slotFits slotStamp underOf num numFrom part alike goodReply goodFrame shaped forParty oneOf bodyFits
+    inRange standingRules openRules heardCount every slotsFit slotFits slotStamp underOf num numFrom part alike goodReply goodFrame suits shaped forParty oneOf bodyFits
     awaited askNow awaitsKind isHeard bears accepted stored collected laid from closeWith leadOf stepOf aheadOf setOf joinsOf repaired refilled slotFilled regenerated
     among tabulate value blend weightOf ratio xtime mulN mul square sumPow inv div put stampAt stampNumber then
 turns-so = (
@@ -158,7 +158,7 @@ heard-one =
 
 heard-so : ReadReplyCall plan (opened .session) frame desk item (heard-one .took) desk item
 unfolding plan slot desk opened heard-one frame item readReply first planOk countsOk limitsOk columnOf all recordLength lengthsOk inRange standingRules openRules
-    heardCount every slotsFit slotFits underOf num numFrom part goodReply goodFrame shaped forParty oneOf bodyFits awaited askNow awaitsKind isHeard bears
+    heardCount every slotsFit slotFits underOf num numFrom part goodReply goodFrame suits shaped forParty oneOf bodyFits awaited askNow awaitsKind isHeard bears
     accepted heard settled
 heard-so = record { is = refl }
 

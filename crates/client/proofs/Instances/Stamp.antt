@@ -17,7 +17,7 @@ use Rattle.terms.specs.Stamp.{then, stampAt, stampNumber}
 use Rattle.terms.specs.Terms.{planOk, countsOk, limitsOk, columnOf, recordLength, classOf, decided}
 use Rattle.field.specs.Field.{xtime, mulN, mul, square, sumPow, inv, div}
 use Rattle.fragments.specs.Fragments.{All, among, fragment, laid, tabulate, ratio, weightOf, blend, value, regenerated}
-use Rattle.frame.specs.Frame.{frame, shaped, bodyFits, oneOf, forParty, goodFrame, goodReply}
+use Rattle.frame.specs.Frame.{frame, shaped, bodyFits, oneOf, forParty, goodFrame, goodReply, readReply as readKind, suits}
 use Rattle.record.specs.Record.{stampOf, crossOf, fragmentOf, fragmentHash, hashesOk, timeZero, prefixOf}
 use Rattle.record.specs.Desk.{slotOf, row, crossMade, stampMade}
 use Rattle.rounds.specs.declared.Heard.the-variants.{Record}
@@ -38,7 +38,7 @@ use Rattle.client.proofs.Instances.Read.{plan, hash, stamp-bytes, good,
 use Rattle.client.specs.SameStamp.{Bears}
 
 unfoldable pub second-reply : List ℕ
-second-reply = frame 7 1 5 good
+second-reply = frame readKind 1 5 good
 
 unfoldable pub desk-two : List ℕ
 desk-two = good ++ (good ++ replicate 137 0)
@@ -58,7 +58,7 @@ call =
 
 pub done-so : ReadReplyCall plan first-heard second-reply desk-good (0 ∷ []) (call .took) desk-two (7 ∷ [])
 unfolding second-reply hash stamp-bytes good desk-good desk-two plan readReply first planOk countsOk limitsOk columnOf all recordLength lengthsOk inRange standingRules openRules heardCount every
-    slotsFit slotFits slotStamp underOf num numFrom part goodReply goodFrame shaped forParty oneOf bodyFits awaited askNow awaitsKind isHeard bears be beOnto accepted heard settled
+    slotsFit slotFits slotStamp underOf num numFrom part goodReply goodFrame suits shaped forParty oneOf bodyFits awaited askNow awaitsKind isHeard bears be beOnto accepted heard settled
     hashesOk timeZero fragmentHash prefixOf alike put stampAt stampNumber then sha256 sha.after compressOf addedOf roundsOf roundOf T1 T2 scheduleOf words padding bigEndian K actFor actOn
     sound closeWith leadOf stepOf aheadOf setOf joinsOf decided classOf validates row crossMade regenerated among tabulate value blend weightOf ratio xtime mulN mul square sumPow inv
     div decoded laid

@@ -17,7 +17,7 @@ use Rattle.terms.specs.Ladder.{first, all}
 use Rattle.terms.specs.Stamp.{then, stampAt, stampNumber}
 use Rattle.terms.specs.Terms.{planOk, countsOk, limitsOk, columnOf, recordLength}
 use Rattle.terms.specs.declared.Refusal.the-variants.{NotAwaited}
-use Rattle.frame.specs.Frame.{frame, askOf, shaped, bodyFits, oneOf, forParty, goodFrame, goodReply}
+use Rattle.frame.specs.Frame.{frame, askOf, shaped, bodyFits, oneOf, forParty, goodFrame, goodReply, timeReply, writeReply as writeKind, suits}
 use Rattle.rounds.specs.declared.Bound.the-variants.{Free}
 use Rattle.rounds.specs.declared.Heard.the-variants.{Record}
 use Rattle.rounds.specs.Rounds.{heardCount, every}
@@ -59,10 +59,10 @@ ended = endedOf (markedOf once-stored 2 Record)
 
 -- ---- the calls, each with the item
 unfoldable pub time-reply : ℕ → List ℕ
-time-reply node = frame 2 node 5 (replicate 8 0)
+time-reply node = frame timeReply node 5 (replicate 8 0)
 
 unfoldable pub write-reply : ℕ → List ℕ
-write-reply node = frame 4 node 6 stamp-bytes
+write-reply node = frame writeKind node 6 stamp-bytes
 
 abbrev pub turn : List ℕ → Answer → Session → List ℕ → Turn
 turn f a s d = record { reply = f; item = 7 ∷ []; took = record { answer = a; session = s }; deskLeft = d; itemLeft = 7 ∷ [] }
@@ -88,12 +88,12 @@ opened-so = record { is = refl }
 
 pub met-1 : WriteReplyCall plan start (time-reply 0) desk (7 ∷ []) (call-1 .took) desk
 unfolding time-reply desk plan writeReply first planOk countsOk limitsOk columnOf all recordLength lengthsOk inRange standingRules openRules heardCount every num numFrom part
-    goodReply goodFrame shaped forParty oneOf bodyFits awaited askNow awaitsKind isHeard be beOnto acceptedWrite timeTurn
+    goodReply goodFrame suits shaped forParty oneOf bodyFits awaited askNow awaitsKind isHeard be beOnto acceptedWrite timeTurn
 met-1 = record { is = refl }
 
 filled : leaves stillOpen (storingOf (timedOf once-timed 1 0) (stampFor plan 1 (7 ∷ []))) (recordsFor plan 1 (7 ∷ [])) ≡ writeReply plan once-timed (time-reply 1) desk (7 ∷ [])
 unfolding time-reply desk plan writeReply first planOk countsOk limitsOk columnOf all recordLength lengthsOk inRange standingRules openRules heardCount every num numFrom part
-    goodReply goodFrame shaped forParty oneOf bodyFits awaited askNow awaitsKind isHeard be beOnto acceptedWrite timeTurn timeEnd
+    goodReply goodFrame suits shaped forParty oneOf bodyFits awaited askNow awaitsKind isHeard be beOnto acceptedWrite timeTurn timeEnd
 filled = refl
 
 pub met-2 : WriteReplyCall plan once-timed (time-reply 1) desk (7 ∷ []) (call-2 .took) desk-full
@@ -101,12 +101,12 @@ met-2 = record { is = (λ j. leaves stillOpen (storingOf (timedOf once-timed 1 0
 
 pub met-3 : WriteReplyCall plan write-round (write-reply 0) desk-full (7 ∷ []) (call-3 .took) desk-full
 unfolding write-reply stamp-bytes hash good desk-full plan writeReply first planOk countsOk limitsOk columnOf all recordLength lengthsOk inRange standingRules openRules heardCount every
-    num numFrom part goodReply goodFrame shaped forParty oneOf bodyFits awaited askNow awaitsKind isHeard be beOnto acceptedWrite writeTurn stampAt stampNumber then
+    num numFrom part goodReply goodFrame suits shaped forParty oneOf bodyFits awaited askNow awaitsKind isHeard be beOnto acceptedWrite writeTurn stampAt stampNumber then
 met-3 = record { is = refl }
 
 pub met-4 : WriteReplyCall plan once-stored (write-reply 2) desk-full (7 ∷ []) (call-4 .took) desk-full
 unfolding write-reply stamp-bytes hash good desk-full plan writeReply first planOk countsOk limitsOk columnOf all recordLength lengthsOk inRange standingRules openRules heardCount every
-    num numFrom part goodReply goodFrame shaped forParty oneOf bodyFits awaited askNow awaitsKind isHeard be beOnto acceptedWrite writeTurn stampAt stampNumber then
+    num numFrom part goodReply goodFrame suits shaped forParty oneOf bodyFits awaited askNow awaitsKind isHeard be beOnto acceptedWrite writeTurn stampAt stampNumber then
 met-4 = record { is = refl }
 
 time-small : (small (time-reply 0) ≡ true) × (small (time-reply 1) ≡ true)
@@ -135,7 +135,7 @@ kept-so = every-session Write plan ask opened opened-so refl desk desk-long (cal
 -- ---- node 2 answers the time round late, when the write round has heard node 0: refused 10
 late-met : WriteReplyCall plan once-stored (time-reply 2) desk-full (7 ∷ []) (record { answer = Refused NotAwaited; session = once-stored }) desk-full
 unfolding time-reply stamp-bytes hash good desk-full plan writeReply first planOk countsOk limitsOk columnOf all recordLength lengthsOk inRange standingRules openRules heardCount every
-    num numFrom part goodReply goodFrame shaped forParty oneOf bodyFits awaited askNow awaitsKind be beOnto stampAt
+    num numFrom part goodReply goodFrame suits shaped forParty oneOf bodyFits awaited askNow awaitsKind be beOnto stampAt
 late-met = record { is = refl }
 
 asked-first : askOf (time-reply 2) ≡ askNow start

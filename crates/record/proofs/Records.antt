@@ -10,21 +10,11 @@ use lib.ListN.{take, drop}
 use Rattle.octets.specs.Bytes.{part, num, alike}
 use Rattle.octets.proofs.Laws.{part-part}
 use Rattle.sha256.specs.Sha256.{sha256}
-use Rattle.terms.specs.Terms.{planOk, recordLength, slotsOf}
+use Rattle.terms.specs.Terms.{recordLength, slotsOf}
 use Rattle.terms.specs.Stamp.{stamp}
 use Rattle.terms.specs.declared.Plan.{Plan}
-use Rattle.terms.proofs.Plans.{plan-is}
 use Rattle.terms.proofs.Places.{record-length}
 use Rattle.record.specs.Record.{verifierOf, crossOf, fragmentOf, entryOf, fragmentHash, hashesOk, timeZero}
-
--- a record of an accepted plan, at a place of l bytes
-pub record Lies (p : Plan) (at l : ℕ) : Type 0 where
-  pub n-high : p .n ≤ 16
-  pub f-high : p .f ≤ 1024
-  pub whole : at + slotsOf p .head + p .f ≤ l
-
-pub lies : (p : Plan) (at l : ℕ) → planOk p ≡ true → at + recordLength p ≤ l → Lies p at l
-lies p at l k h = let q = plan-is p k in record { n-high = q .n-high; f-high = q .f-high; whole = omega (arith, record-length p) }
 
 -- a part that was lent
 pub taken : (s : List ℕ) (at n k : ℕ) → n ≡ k → take n (drop at s) ≡ part s at k

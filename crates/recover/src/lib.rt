@@ -54,12 +54,21 @@ fn write_slot(desk: &mut [u8], slots: Slots, a: usize, k: usize, fragment: &[u8]
     octets::within(desk, a * r, h, at);
 }
 
-// Slot k gets its record of the set of slot a; the slot of a source stays.
-fn fill_slot(desk: &mut [u8], slots: Slots, qs: &[u8], a: usize, k: usize, scratch: &mut [u8])
-    requires { ⌜ (Sources (now desk) slots (now qs)) × (length (now scratch) ≡ slots .fragment) × (slots .size ≡ slots .head + slots .fragment) × (k < 16)
-        × (slotAt slots k + slots .size ≤ length (now desk)) × (slotAt slots a + slots .size ≤ length (now desk)) ⌝ }
-    ensures { λ _. ⌜ now (desk .exit) ≡ slotFilled (now (desk .entry)) slots (now (qs .entry)) a k ⌝ }
+// Where a set lies: the slots of the desk, and the one of its lead.
+pub struct Led {
+    pub slots: Slots,
+    pub lead: usize,
+}
+
+// Slot k gets its record of a set; the slot of a source stays.
+fn fill_slot(desk: &mut [u8], set: Led, qs: &[u8], k: usize, scratch: &mut [u8])
+    requires { ⌜ (Sources (now desk) (set .slots) (now qs)) × (length (now scratch) ≡ set .slots .fragment)
+        × (set .slots .size ≡ set .slots .head + set .slots .fragment) × (k < 16)
+        × (slotAt (set .slots) k + set .slots .size ≤ length (now desk)) × (slotAt (set .slots) (set .lead) + set .slots .size ≤ length (now desk)) ⌝ }
+    ensures { λ _. ⌜ now (desk .exit) ≡ slotFilled (now (desk .entry)) (set .slots) (now (qs .entry)) (set .lead) k ⌝ }
 {
+    let slots = set.slots;
+    let a = set.lead;
     if fragments::is_among(qs, k as u8) {
         return;
     }
@@ -74,9 +83,13 @@ fn refill(desk: &mut [u8], slots: Slots, qs: &[u8], a: usize, scratch: &mut [u8]
     ensures { λ _. ⌜ now (desk .exit) ≡ refilled (now (desk .entry)) slots (now (qs .entry)) a (slots .n) ⌝ }
 {
     let n = slots.n;
+    let set = Led {
+        slots: slots,
+        lead: a,
+    };
     let mut k: usize = 0;
     while k < n {
-        fill_slot(desk, slots, qs, a, k, scratch);
+        fill_slot(desk, set, qs, k, scratch);
         k += 1;
     }
 }

@@ -9,7 +9,7 @@ fill-slot-spec =
     (tie.spec
     (λ c. search needs)
     (λ c κs. search needs)
-    (λ c. let a = c .before .before .before .before .before .args in laws.filled-stays (a .desk .now) (a .slots) (a .qs .now) (a .a) (a .k) _ (c .before .is-among .ensures) (c .if1 .taken))
+    (λ c. let a = c .before .before .before .before .before .before .args in laws.filled-stays (a .desk .now) (a .set .slots) (a .qs .now) (a .set .lead) (a .k) _ (c .before .is-among .ensures) (c .if1 .taken))
     (λ c. search needs)
     (λ c κs. search needs)
     (λ c κs. search needs)
@@ -18,5 +18,5 @@ fill-slot-spec =
     (λ c.
     let g = c .before .before .before .before .before .before .before in
     let t = g .before .before .before in
-    let a = t .before .before .before .before .before .args in
-    laws.filled-writes (a .desk .now) _ _ (a .slots) (a .qs .now) (a .a) (a .k) _ (t .before .is-among .ensures) (t .if1 .left) (g .regenerate .ensures) (c .before .before .write-slot .ensures)))
+    let a = t .before .before .before .before .before .before .args in
+    laws.filled-writes (a .desk .now) _ _ (a .set .slots) (a .qs .now) (a .set .lead) (a .k) _ (t .before .is-among .ensures) (t .if1 .left) (g .regenerate .ensures) (c .before .before .write-slot .ensures)))

@@ -10,11 +10,11 @@ use Rattle.recover.proofs.refill.Statement.{statement}
 use Rattle.recover.proofs.refill.Tie as tie
 
 abbrev Inv-loop : tie.InvT-loop
-Inv-loop desk₀ slots qs a scratch₀ n k₀ desk scratch k =
-    (k ≤ n) × (length scratch ≡ slots .fragment) × (length desk ≡ length desk₀) × (desk ≡ refilled desk₀ slots qs a k)
+Inv-loop desk₀ qs a scratch₀ n set k₀ desk scratch k =
+    (k ≤ n) × (length scratch ≡ set .slots .fragment) × (length desk ≡ length desk₀) × (desk ≡ refilled desk₀ (set .slots) qs (set .lead) k)
 
 abbrev μ-loop : tie.MeasureT-loop
-μ-loop desk₀ slots qs a scratch₀ n k₀ desk scratch k = n - k
+μ-loop desk₀ qs a scratch₀ n set k₀ desk scratch k = n - k
 
 loop-holds : tie.Need-loop-holds Inv-loop μ-loop
 unfolding refilled

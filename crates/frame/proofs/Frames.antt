@@ -17,7 +17,7 @@ use Rattle.terms.specs.declared.Plan.{Plan}
 use Rattle.terms.proofs.Rungs.{both, clash}
 use Rattle.terms.proofs.Plans.{not-ok}
 use Rattle.terms.proofs.Picks.{itself}
-use Rattle.frame.specs.Frame.{timeReply, writeRequest, writeReply, readPrevious, headBytes, framed, restOf, versionOf, kindOf, frameNode, headerIn, shaped, bodyFits, oneOf, kindsFor, forParty, suits, goodFrame, goodRequest, goodReply, door, requestIn, replyIn, cutAt}
+use Rattle.frame.specs.Frame.{timeReplyKind, writeRequestKind, writeReplyKind, readPreviousKind, headBytes, framed, restOf, versionOf, kindOf, frameNode, headerIn, shaped, bodyFits, oneOf, kindsFor, forParty, suits, goodFrame, goodRequest, goodReply, door, requestIn, replyIn, cutAt}
 use Rattle.frame.specs.declared.Header.{Header}
 use Rattle.frame.specs.declared.Door.{Door}
 use Rattle.frame.specs.declared.Door.the-variants.{Bad, Open}
@@ -261,34 +261,34 @@ module _ (p : Plan) (kind m : ℕ) (q : bodyFits p kind m ≡ true) where
   bytes-by : (k n : ℕ) → bodyFits p k m ≡ eqb m n → kind ≡ k → m ≡ n
   bytes-by k n h e = eqb-true m n (sym h ∙ ap (λ (x : ℕ). bodyFits p x m) (sym e) ∙ q)
 
-  pub bytes-2 : kind ≡ timeReply → m ≡ 8
+  pub bytes-2 : kind ≡ timeReplyKind → m ≡ 8
   unfolding bodyFits
-  bytes-2 = bytes-by timeReply 8 refl
+  bytes-2 = bytes-by timeReplyKind 8 refl
 
-  pub bytes-3 : kind ≡ writeRequest → m ≡ recordLength p
+  pub bytes-3 : kind ≡ writeRequestKind → m ≡ recordLength p
   unfolding bodyFits
-  bytes-3 = bytes-by writeRequest (recordLength p) refl
+  bytes-3 = bytes-by writeRequestKind (recordLength p) refl
 
-  pub bytes-4 : kind ≡ writeReply → m ≡ 40
+  pub bytes-4 : kind ≡ writeReplyKind → m ≡ 40
   unfolding bodyFits
-  bytes-4 = bytes-by writeReply 40 refl
+  bytes-4 = bytes-by writeReplyKind 40 refl
 
-  pub bytes-6 : kind ≡ readPrevious → m ≡ 40
+  pub bytes-6 : kind ≡ readPreviousKind → m ≡ 40
   unfolding bodyFits
-  bytes-6 = bytes-by readPrevious 40 refl
+  bytes-6 = bytes-by readPreviousKind 40 refl
 
 -- and of the frame
 module _ {party : Party} {p : Plan} {f : List ℕ} (q : FrameIs party p f) where
   length-by : (n : ℕ) → length f - headBytes 1 ≡ n → length f ≡ framed 1 n
   length-by n e = let low = q .low in omega arith
 
-  pub length-2 : kindOf f ≡ timeReply → length f ≡ framed 1 8
+  pub length-2 : kindOf f ≡ timeReplyKind → length f ≡ framed 1 8
   length-2 e = length-by 8 (bytes-2 p (kindOf f) (length f - headBytes 1) (q .fits) e)
 
-  pub length-3 : kindOf f ≡ writeRequest → length f ≡ framed 1 (recordLength p)
+  pub length-3 : kindOf f ≡ writeRequestKind → length f ≡ framed 1 (recordLength p)
   length-3 e = length-by (recordLength p) (bytes-3 p (kindOf f) (length f - headBytes 1) (q .fits) e)
 
-  pub length-4 : kindOf f ≡ writeReply → length f ≡ framed 1 40
+  pub length-4 : kindOf f ≡ writeReplyKind → length f ≡ framed 1 40
   length-4 e = length-by 40 (bytes-4 p (kindOf f) (length f - headBytes 1) (q .fits) e)
 
 -- ---- a body, after a head of h bytes

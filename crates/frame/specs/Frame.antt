@@ -1,6 +1,6 @@
 -- The frame. Document 01, "Records, books, frames": 4 byte length of the rest, version 1, kind, node, 8 byte ask number, body;
 -- the lent slice is the whole frame. Refusal 4 is its shape, its kind for the party, its body by its kind, and its node.
---   timeRequest ..     the kinds, by name
+--   timeRequestKind ..     the kinds, by name
 --   headBytes framed longest   the bytes before a body; a frame's with a body of n bytes; the most that a frame of a plan has: by the version
 --   restOf versionOf kindOf frameNode askOf bodyOf   the fields of a frame
 --   headerIn           all before the body, as a value
@@ -37,26 +37,26 @@ use Rattle.frame.specs.declared.Cut.{Cut}
 use Rattle.frame.specs.declared.Cut.the-variants.{EndsAt, NoFrame}
 
 -- ---- the kinds
-abbrev pub timeRequest : ℕ
-timeRequest = 1
+abbrev pub timeRequestKind : ℕ
+timeRequestKind = 1
 
-abbrev pub timeReply : ℕ
-timeReply = 2
+abbrev pub timeReplyKind : ℕ
+timeReplyKind = 2
 
-abbrev pub writeRequest : ℕ
-writeRequest = 3
+abbrev pub writeRequestKind : ℕ
+writeRequestKind = 3
 
-abbrev pub writeReply : ℕ
-writeReply = 4
+abbrev pub writeReplyKind : ℕ
+writeReplyKind = 4
 
-abbrev pub readLatest : ℕ
-readLatest = 5
+abbrev pub readLatestKind : ℕ
+readLatestKind = 5
 
-abbrev pub readPrevious : ℕ
-readPrevious = 6
+abbrev pub readPreviousKind : ℕ
+readPreviousKind = 6
 
-abbrev pub readReply : ℕ
-readReply = 7
+abbrev pub readReplyKind : ℕ
+readReplyKind = 7
 
 -- ---- lengths, by the version: there is version 1 alone
 abbrev pub headBytes : ℕ → ℕ
@@ -121,17 +121,17 @@ shaped f = all (leb (headBytes 1) (length f) ∷ eqb (restOf f) (length f - 4) �
 -- read reply: record, or none
 unfoldable pub bodyFits : Plan → ℕ → ℕ → Bool
 bodyFits p kind n =
-    cond (eqb kind timeRequest) (eqb n 0)
-    (cond (eqb kind timeReply) (eqb n 8)
-    (cond (eqb kind writeRequest) (eqb n (recordLength p))
-    (cond (eqb kind writeReply) (eqb n 40)
-    (cond (eqb kind readLatest) (eqb n 0)
-    (cond (eqb kind readPrevious) (eqb n 40)
-    (cond (eqb kind readReply) (eqb n (recordLength p) or eqb n 0) false))))))
+    cond (eqb kind timeRequestKind) (eqb n 0)
+    (cond (eqb kind timeReplyKind) (eqb n 8)
+    (cond (eqb kind writeRequestKind) (eqb n (recordLength p))
+    (cond (eqb kind writeReplyKind) (eqb n 40)
+    (cond (eqb kind readLatestKind) (eqb n 0)
+    (cond (eqb kind readPreviousKind) (eqb n 40)
+    (cond (eqb kind readReplyKind) (eqb n (recordLength p) or eqb n 0) false))))))
 
 abbrev pub kindsFor : Party → List ℕ
-kindsFor Node = timeRequest ∷ writeRequest ∷ readLatest ∷ readPrevious ∷ []
-kindsFor Client = timeReply ∷ writeReply ∷ readReply ∷ []
+kindsFor Node = timeRequestKind ∷ writeRequestKind ∷ readLatestKind ∷ readPreviousKind ∷ []
+kindsFor Client = timeReplyKind ∷ writeReplyKind ∷ readReplyKind ∷ []
 
 unfoldable pub oneOf : ℕ → List ℕ → Bool
 oneOf x [] = false

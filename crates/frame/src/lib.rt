@@ -10,7 +10,7 @@ ghost use lib.Dec.{leb};
 ghost use Rattle.octets.specs.Bytes.{part, over, be};
 ghost use Rattle.terms.specs.Terms.{planOk};
 ghost use Rattle.terms.specs.Stamp.{stampNumber};
-ghost use Rattle.frame.specs.Frame.{readLatest, readPrevious, headBytes, framed, longest, headerIn, headerOf, replying, headOf, shaped, bodyFits, forParty, suits, requestIn, replyIn, answersTo, Wrote, cutAt};
+ghost use Rattle.frame.specs.Frame.{readLatestKind, readPreviousKind, headBytes, framed, longest, headerIn, headerOf, replying, headOf, shaped, bodyFits, forParty, suits, requestIn, replyIn, answersTo, Wrote, cutAt};
 use terms::Ask;
 use terms::Plan;
 use terms::Time;
@@ -306,7 +306,7 @@ pub fn with_stamp(y: &mut [u8], h: Header, t: Timestamp) -> usize
 // A request for the latest record.
 pub fn latest(y: &mut [u8], node: u64, ask: Ask) -> usize
     requires { ⌜ framed 1 0 ≤ length (now y) ⌝ }
-    ensures { λ r. ⌜ Wrote (headerOf readLatest node (ask .0)) [] (now (y .entry)) r (now (y .exit)) ⌝ }
+    ensures { λ r. ⌜ Wrote (headerOf readLatestKind node (ask .0)) [] (now (y .entry)) r (now (y .exit)) ⌝ }
 {
     let h = asking(READ_LATEST, node, ask);
     bare(y, h)
@@ -315,7 +315,7 @@ pub fn latest(y: &mut [u8], node: u64, ask: Ask) -> usize
 // A request for the record before a timestamp.
 pub fn previous(y: &mut [u8], node: u64, ask: Ask, t: Timestamp) -> usize
     requires { ⌜ framed 1 40 ≤ length (now y) ⌝ }
-    ensures { λ r. ⌜ Wrote (headerOf readPrevious node (ask .0)) (be 40 (stampNumber t)) (now (y .entry)) r (now (y .exit)) ⌝ }
+    ensures { λ r. ⌜ Wrote (headerOf readPreviousKind node (ask .0)) (be 40 (stampNumber t)) (now (y .entry)) r (now (y .exit)) ⌝ }
 {
     let h = asking(READ_PREVIOUS, node, ask);
     with_stamp(y, h, t)

@@ -27,7 +27,7 @@ use Rattle.terms.specs.declared.Plan.{Plan}
 use Rattle.terms.specs.declared.Refusal.{Refusal}
 use Rattle.terms.proofs.Down.{clear}
 use Rattle.terms.proofs.Rungs as rungs
-use Rattle.frame.specs.Frame.{writeRequest, headBytes, framed, restOf, kindOf, headerIn, bodyOf, frameOf, replying, cutAt}
+use Rattle.frame.specs.Frame.{writeRequestKind, headBytes, framed, restOf, kindOf, headerIn, bodyOf, frameOf, replying, cutAt}
 use Rattle.frame.specs.declared.Party.the-variants.{Node}
 use Rattle.frame.specs.declared.Header.{Header}
 use Rattle.frame.specs.declared.Cut.{Cut}
@@ -101,14 +101,14 @@ refused-stays p f b y r b₂ y₂ c =
 
 -- ---- no write
 -- what is cut out whole of a request is the request
-is-cut : (p : Plan) (f : List ℕ) → FrameIs Node p f → asksToWrite f ≡ eqb (kindOf f) writeRequest
+is-cut : (p : Plan) (f : List ℕ) → FrameIs Node p f → asksToWrite f ≡ eqb (kindOf f) writeRequestKind
 unfolding asksToWrite
 is-cut p f q =
     let w = q .whole in
     let e = cut-ends f 0 (restOf f) (omega (arith, q .low)) refl (omega (arith, q .low, w)) (omega (arith, q .low, w)) in
     ap (λ (c : Cut). writeCut c f) (sym e)
 
-book-stays : (p : Plan) (f b : List ℕ) → eqb (kindOf f) writeRequest ≡ false → bookAfter p (headerIn f) (bodyOf f) b ≡ b
+book-stays : (p : Plan) (f b : List ℕ) → eqb (kindOf f) writeRequestKind ≡ false → bookAfter p (headerIn f) (bodyOf f) b ≡ b
 unfolding bookAfter
 book-stays p f b e = rw e
 
@@ -119,7 +119,7 @@ look-stays p f b y a b₂ y₂ w c =
     (λ j h. ap (λ (o : ServedOutcome). o .book) h)
     (λ n h.
     let q = request-is p (nodeOf b) f (not-false _ (clear (nodeLadder p f b y) n 4)) in
-    let e : eqb (kindOf f) writeRequest ≡ false = sym (is-cut p f (q .frame-is)) ∙ w in
+    let e : eqb (kindOf f) writeRequestKind ≡ false = sym (is-cut p f (q .frame-is)) ∙ w in
     reply-book (headerIn f) (replyTo (kindOf f) (bodyOf f) (recordsOf p b)) (saidServed a) (bookAfter p (headerIn f) (bodyOf f) b) y b₂ y₂ h ∙ book-stays p f b e)
     (c .is)
 
@@ -162,9 +162,9 @@ pub stores-as : (p : Plan) (f b y : List ℕ) (a : Answer) (k : ℕ) (b₂ y₂ 
 stores-as p f b y a k b₂ y₂ e c = stores-it p f b y k b₂ y₂ (subst (λ (x : Answer). NodeCall p f b y x b₂ y₂) e c)
 
 -- ---- the test for a write
-pub write-told : (f : List ℕ) (c : Cut) (e r : ℕ) → c ≡ cutAt f 0 → c ≡ EndsAt e → r ≡ kindOf f → eqb r writeRequest ≡ asksToWrite f
+pub write-told : (f : List ℕ) (c : Cut) (e r : ℕ) → c ≡ cutAt f 0 → c ≡ EndsAt e → r ≡ kindOf f → eqb r writeRequestKind ≡ asksToWrite f
 unfolding asksToWrite
-write-told f c e r h k m = ap (λ (x : ℕ). eqb x writeRequest) m ∙ ap (λ (x : Cut). writeCut x f) (sym k ∙ h)
+write-told f c e r h k m = ap (λ (x : ℕ). eqb x writeRequestKind) m ∙ ap (λ (x : Cut). writeCut x f) (sym k ∙ h)
 
 pub uncut-told : (f : List ℕ) (c : Cut) → c ≡ cutAt f 0 → c ≡ NoFrame → false ≡ asksToWrite f
 unfolding asksToWrite

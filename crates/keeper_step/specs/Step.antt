@@ -15,7 +15,7 @@ use lib.ListN.{length}
 use lib.Dec.{eqb}
 use Rattle.octets.specs.Bytes.{alike}
 use Rattle.terms.specs.declared.Plan.{Plan}
-use Rattle.frame.specs.Frame.{writeRequest, kindOf, cutAt}
+use Rattle.frame.specs.Frame.{writeRequestKind, kindOf, cutAt}
 use Rattle.frame.specs.declared.Cut.{Cut}
 use Rattle.frame.specs.declared.Cut.the-variants.{EndsAt, NoFrame}
 use Rattle.node.specs.Node.{NodeCall}
@@ -27,7 +27,7 @@ use Rattle.keeper_step.specs.declared.Due.{Due}
 use Rattle.keeper_step.specs.declared.Due.the-variants as due
 
 abbrev pub writeCut : Cut → List ℕ → Bool
-writeCut (EndsAt e) f = eqb (kindOf f) writeRequest
+writeCut (EndsAt e) f = eqb (kindOf f) writeRequestKind
 writeCut NoFrame f = false
 
 unfoldable pub asksToWrite : List ℕ → Bool

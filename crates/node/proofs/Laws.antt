@@ -18,7 +18,7 @@ use Rattle.terms.proofs.Rungs as rungs
 use Rattle.terms.proofs.Rungs.{both}
 use Rattle.frame.specs.declared.Header.{Header}
 use Rattle.frame.specs.declared.Party.the-variants.{Node}
-use Rattle.frame.specs.Frame.{timeRequest, timeReply, writeRequest, writeReply, readLatest, readPrevious, readReply, headBytes, framed, longest, headerIn, bodyOf, replying, suits, bodyFits, forParty, goodRequest, Wrote}
+use Rattle.frame.specs.Frame.{timeRequestKind, timeReplyKind, writeRequestKind, writeReplyKind, readLatestKind, readPreviousKind, readReplyKind, headBytes, framed, longest, headerIn, bodyOf, replying, suits, bodyFits, forParty, goodRequest, Wrote}
 use Rattle.frame.proofs.Frames as frames
 use Rattle.frame.proofs.Built as built
 use Rattle.record.specs.Record.{hashesOk, timeZero, stampOf}
@@ -71,21 +71,21 @@ module _ (p : Plan) (h : Header) (f : List ℕ) (F : Fitting p h f) where
   fit : (forParty Node (h .kind) ≡ true) × (bodyFits p (h .kind) (length f - headBytes (h .version)) ≡ true)
   fit = frames.suits-is Node p h (length f) (F .fit)
 
-  pub write-length : h .kind ≡ writeRequest → length f ≡ framed (h .version) (recordLength p)
+  pub write-length : h .kind ≡ writeRequestKind → length f ≡ framed (h .version) (recordLength p)
   write-length k = let l = F .low in omega (arith, frames.bytes-3 p (h .kind) (length f - headBytes (h .version)) (fit .1) k)
 
-  pub bound-length : h .kind ≡ readPrevious → length f ≡ framed (h .version) 40
+  pub bound-length : h .kind ≡ readPreviousKind → length f ≡ framed (h .version) 40
   bound-length k = let l = F .low in omega (arith, frames.bytes-6 p (h .kind) (length f - headBytes (h .version)) (fit .1) k)
 
-  pub stamped : planOk p ≡ true → (h .kind ≡ writeRequest) ⊎ (h .kind ≡ readPrevious) → framed (h .version) 40 ≤ length f
+  pub stamped : planOk p ≡ true → (h .kind ≡ writeRequestKind) ⊎ (h .kind ≡ readPreviousKind) → framed (h .version) 40 ≤ length f
   stamped pk k = ⊎-elim (λ e. omega (arith, write-length e, long p pk)) (λ e. omega (arith, bound-length e)) k
 
   -- the kinds of a node, told apart by name
-  pub last-kind : (h .kind ≡ writeRequest → ⊥) → (h .kind ≡ timeRequest → ⊥) → (h .kind ≡ readLatest → ⊥) → h .kind ≡ readPrevious
+  pub last-kind : (h .kind ≡ writeRequestKind → ⊥) → (h .kind ≡ timeRequestKind → ⊥) → (h .kind ≡ readLatestKind → ⊥) → h .kind ≡ readPreviousKind
   last-kind a b c = frames.last-request (h .kind) (fit .0) b a c
 
   -- the body, at its place
-  pub body-at : (at n : ℕ) → at ≡ headBytes (h .version) → n ≡ recordLength p → h .kind ≡ writeRequest → part f at n ≡ bodyOf f
+  pub body-at : (at n : ℕ) → at ≡ headBytes (h .version) → n ≡ recordLength p → h .kind ≡ writeRequestKind → part f at n ≡ bodyOf f
   body-at at n e en k = (λ i. part f (e i) (en i)) ∙ sym (frames.body-is (headBytes (h .version)) f (recordLength p) (write-length k))
 
 -- a part of a body
@@ -99,8 +99,8 @@ wrote-is h x z y {n} {y₂} e q = subst (λ (l : List ℕ). Wrote h l y n y₂) 
 pub wrote-time : (h : Header) (t x : ℕ) (y : List ℕ) {n : ℕ} {y₂ : List ℕ} → t ≡ x → Wrote h (be 8 t) y n y₂ → Wrote h (be 8 x) y n y₂
 wrote-time h t x y e q = wrote-is h (be 8 t) (be 8 x) y (ap (be 8) e) q
 
-pub acknowledged : (h g : Header) (f y : List ℕ) (at : ℕ) {n : ℕ} {y₂ : List ℕ} → at ≡ headBytes (h .version) → g ≡ replying h writeReply
-    → Wrote g (part f at 40) y n y₂ → Wrote (replying h writeReply) (stampOf (bodyOf f)) y n y₂
+pub acknowledged : (h g : Header) (f y : List ℕ) (at : ℕ) {n : ℕ} {y₂ : List ℕ} → at ≡ headBytes (h .version) → g ≡ replying h writeReplyKind
+    → Wrote g (part f at 40) y n y₂ → Wrote (replying h writeReplyKind) (stampOf (bodyOf f)) y n y₂
 acknowledged h g f y at e eg q = wrote-is _ _ _ y (body-stamp f at 40 (h .version) e) (built.wrote-of eg q)
 
 pub wrote-below : (h : Header) (f y x : List ℕ) (rs : List (List ℕ)) (at version : ℕ) {n : ℕ} {y₂ : List ℕ} → at ≡ headBytes version
@@ -108,29 +108,29 @@ pub wrote-below : (h : Header) (f y x : List ℕ) (rs : List (List ℕ)) (at ver
 wrote-below h f y x rs at version e ex q = wrote-is h x _ y (ex ∙ ap (λ (l : List ℕ). lastBelow (num l) rs) (body-stamp f at 40 version e)) q
 
 -- ---- 5 and 6
-pub zero-yes : (h : Header) (body : List ℕ) (r : Bool) → (h .kind ≡ writeRequest) ⊎ (h .kind ≡ readPrevious) → r ≡ timeZero body → r ≡ timeFails h body
+pub zero-yes : (h : Header) (body : List ℕ) (r : Bool) → (h .kind ≡ writeRequestKind) ⊎ (h .kind ≡ readPreviousKind) → r ≡ timeZero body → r ≡ timeFails h body
 unfolding timeFails
 zero-yes h body r k e =
-    ⊎-elim (λ k. rw (eq-eqb (h .kind) writeRequest k) e)
-    (λ k. rw (ne-eqb (h .kind) writeRequest (λ z. omega arith), eq-eqb (h .kind) readPrevious k) e) k
+    ⊎-elim (λ k. rw (eq-eqb (h .kind) writeRequestKind k) e)
+    (λ k. rw (ne-eqb (h .kind) writeRequestKind (λ z. omega arith), eq-eqb (h .kind) readPreviousKind k) e) k
 
-pub zero-no : (h : Header) (body : List ℕ) → (h .kind ≡ writeRequest → ⊥) → (h .kind ≡ readPrevious → ⊥) → false ≡ timeFails h body
+pub zero-no : (h : Header) (body : List ℕ) → (h .kind ≡ writeRequestKind → ⊥) → (h .kind ≡ readPreviousKind → ⊥) → false ≡ timeFails h body
 unfolding timeFails
-zero-no h body a b = rw (ne-eqb (h .kind) writeRequest a, ne-eqb (h .kind) readPrevious b)
+zero-no h body a b = rw (ne-eqb (h .kind) writeRequestKind a, ne-eqb (h .kind) readPreviousKind b)
 
-pub fails-no : (p : Plan) (h : Header) (body : List ℕ) → (h .kind ≡ writeRequest → ⊥) → false ≡ hashFails p h body
+pub fails-no : (p : Plan) (h : Header) (body : List ℕ) → (h .kind ≡ writeRequestKind → ⊥) → false ≡ hashFails p h body
 unfolding hashFails
-fails-no p h body k = rw (ne-eqb (h .kind) writeRequest k)
+fails-no p h body k = rw (ne-eqb (h .kind) writeRequestKind k)
 
-pub fails-last : (p : Plan) (h : Header) (body : List ℕ) (r : Bool) → h .kind ≡ writeRequest → r ≡ hashesOk p (h .node) body → not r ≡ hashFails p h body
+pub fails-last : (p : Plan) (h : Header) (body : List ℕ) (r : Bool) → h .kind ≡ writeRequestKind → r ≡ hashesOk p (h .node) body → not r ≡ hashFails p h body
 unfolding hashFails
-fails-last p h body r k e = rw (eq-eqb (h .kind) writeRequest k) (ap not e)
+fails-last p h body r k e = rw (eq-eqb (h .kind) writeRequestKind k) (ap not e)
 
 -- ---- what is answered, by kind
 module _ (p : Plan) (h : Header) (body b y : List ℕ) where
-  after-not : (h .kind ≡ writeRequest → ⊥) → b ≡ bookAfter p h body b
+  after-not : (h .kind ≡ writeRequestKind → ⊥) → b ≡ bookAfter p h body b
   unfolding bookAfter
-  after-not k = rw (ne-eqb (h .kind) writeRequest k)
+  after-not k = rw (ne-eqb (h .kind) writeRequestKind k)
 
   sent-out : (kind : ℕ) (x : List ℕ) (n : ℕ) (b₂ y₂ : List ℕ) → replyTo (h .kind) body (recordsOf p b) ≡ replyOf kind x
       → b₂ ≡ bookAfter p h body b → Wrote (replying h kind) x y n y₂
@@ -139,78 +139,78 @@ module _ (p : Plan) (h : Header) (body b y : List ℕ) where
   sent-out kind x n b₂ y₂ r e q =
       (λ i. servedOutcome (replied (q .told i)) (e i) (q .bytes i)) ∙ ap (λ (z : Reply). sends h z (bookAfter p h body b) y) (sym r)
 
-  reply-1 : h .kind ≡ timeRequest → replyTo (h .kind) body (recordsOf p b) ≡ replyOf timeReply (be 8 (time (lastOf (recordsOf p b))))
+  reply-1 : h .kind ≡ timeRequestKind → replyTo (h .kind) body (recordsOf p b) ≡ replyOf timeReplyKind (be 8 (time (lastOf (recordsOf p b))))
   unfolding replyTo
-  reply-1 k = rw (eq-eqb (h .kind) timeRequest k)
+  reply-1 k = rw (eq-eqb (h .kind) timeRequestKind k)
 
-  reply-3 : h .kind ≡ writeRequest → replyTo (h .kind) body (recordsOf p b) ≡ replyOf writeReply (stampOf body)
+  reply-3 : h .kind ≡ writeRequestKind → replyTo (h .kind) body (recordsOf p b) ≡ replyOf writeReplyKind (stampOf body)
   unfolding replyTo
-  reply-3 k = rw (ne-eqb (h .kind) timeRequest (λ z. omega arith), eq-eqb (h .kind) writeRequest k)
+  reply-3 k = rw (ne-eqb (h .kind) timeRequestKind (λ z. omega arith), eq-eqb (h .kind) writeRequestKind k)
 
-  reply-5 : h .kind ≡ readLatest → replyTo (h .kind) body (recordsOf p b) ≡ replyOf readReply (lastOf (recordsOf p b))
+  reply-5 : h .kind ≡ readLatestKind → replyTo (h .kind) body (recordsOf p b) ≡ replyOf readReplyKind (lastOf (recordsOf p b))
   unfolding replyTo
-  reply-5 k = rw (ne-eqb (h .kind) timeRequest (λ z. omega arith), ne-eqb (h .kind) writeRequest (λ z. omega arith), eq-eqb (h .kind) readLatest k)
+  reply-5 k = rw (ne-eqb (h .kind) timeRequestKind (λ z. omega arith), ne-eqb (h .kind) writeRequestKind (λ z. omega arith), eq-eqb (h .kind) readLatestKind k)
 
-  reply-6 : h .kind ≡ readPrevious → replyTo (h .kind) body (recordsOf p b) ≡ replyOf readReply (lastBelow (stamp body) (recordsOf p b))
+  reply-6 : h .kind ≡ readPreviousKind → replyTo (h .kind) body (recordsOf p b) ≡ replyOf readReplyKind (lastBelow (stamp body) (recordsOf p b))
   unfolding replyTo
   reply-6 k =
       rw (
-        ne-eqb (h .kind) timeRequest (λ z. omega arith),
-        ne-eqb (h .kind) writeRequest (λ z. omega arith),
-        ne-eqb (h .kind) readLatest (λ z. omega arith),
-        eq-eqb (h .kind) readPrevious k,
+        ne-eqb (h .kind) timeRequestKind (λ z. omega arith),
+        ne-eqb (h .kind) writeRequestKind (λ z. omega arith),
+        ne-eqb (h .kind) readLatestKind (λ z. omega arith),
+        eq-eqb (h .kind) readPreviousKind k,
       )
 
   -- ---- down the ladder: 7 and 8 are of writes
-  not-write : {z : ServedOutcome} → (h .kind ≡ writeRequest → ⊥) → z ≡ answered p h body b y → z ≡ finished p h body b y
+  not-write : {z : ServedOutcome} → (h .kind ≡ writeRequestKind → ⊥) → z ≡ answered p h body b y → z ≡ finished p h body b y
   unfolding finished otherHeld noRoom
-  not-write k e = rungs.go-on 7 _ _ _ (rw (ne-eqb (h .kind) writeRequest k)) (rungs.go-on 8 _ _ _ (rw (ne-eqb (h .kind) writeRequest k)) (rungs.passed _ _ e))
+  not-write k e = rungs.go-on 7 _ _ _ (rw (ne-eqb (h .kind) writeRequestKind k)) (rungs.go-on 8 _ _ _ (rw (ne-eqb (h .kind) writeRequestKind k)) (rungs.passed _ _ e))
 
   module _ (k : Book) (S : Sound p k b) where
-    pub tells : (n : ℕ) (y₂ : List ℕ) → h .kind ≡ timeRequest → Wrote (replying h timeReply) (be 8 (time (lastOf (recordsIn k b)))) y n y₂
+    pub tells : (n : ℕ) (y₂ : List ℕ) → h .kind ≡ timeRequestKind → Wrote (replying h timeReplyKind) (be 8 (time (lastOf (recordsIn k b)))) y n y₂
         → servedOutcome (replied n) b y₂ ≡ finished p h body b y
     tells n y₂ e q =
         not-write (λ z. omega arith)
-        (sent-out timeReply _ n b y₂ (reply-1 e ∙ ap (λ (rs : List (List ℕ)). replyOf timeReply (be 8 (time (lastOf rs)))) (sym (books.records-of p b k (S .is)))) (after-not (λ z. omega arith)) q)
+        (sent-out timeReplyKind _ n b y₂ (reply-1 e ∙ ap (λ (rs : List (List ℕ)). replyOf timeReplyKind (be 8 (time (lastOf rs)))) (sym (books.records-of p b k (S .is)))) (after-not (λ z. omega arith)) q)
 
-    pub reads-last : (n : ℕ) (y₂ : List ℕ) → h .kind ≡ readLatest → Wrote (replying h readReply) (lastOf (recordsIn k b)) y n y₂
+    pub reads-last : (n : ℕ) (y₂ : List ℕ) → h .kind ≡ readLatestKind → Wrote (replying h readReplyKind) (lastOf (recordsIn k b)) y n y₂
         → servedOutcome (replied n) b y₂ ≡ finished p h body b y
     reads-last n y₂ e q =
         not-write (λ z. omega arith)
-        (sent-out readReply _ n b y₂ (reply-5 e ∙ ap (λ (rs : List (List ℕ)). replyOf readReply (lastOf rs)) (sym (books.records-of p b k (S .is)))) (after-not (λ z. omega arith)) q)
+        (sent-out readReplyKind _ n b y₂ (reply-5 e ∙ ap (λ (rs : List (List ℕ)). replyOf readReplyKind (lastOf rs)) (sym (books.records-of p b k (S .is)))) (after-not (λ z. omega arith)) q)
 
-    pub reads-below : (n : ℕ) (y₂ : List ℕ) → h .kind ≡ readPrevious → Wrote (replying h readReply) (lastBelow (stamp body) (recordsIn k b)) y n y₂
+    pub reads-below : (n : ℕ) (y₂ : List ℕ) → h .kind ≡ readPreviousKind → Wrote (replying h readReplyKind) (lastBelow (stamp body) (recordsIn k b)) y n y₂
         → servedOutcome (replied n) b y₂ ≡ finished p h body b y
     reads-below n y₂ e q =
         not-write (λ z. omega arith)
-        (sent-out readReply _ n b y₂ (reply-6 e ∙ ap (λ (rs : List (List ℕ)). replyOf readReply (lastBelow (stamp body) rs)) (sym (books.records-of p b k (S .is))))
+        (sent-out readReplyKind _ n b y₂ (reply-6 e ∙ ap (λ (rs : List (List ℕ)). replyOf readReplyKind (lastBelow (stamp body) rs)) (sym (books.records-of p b k (S .is))))
         (after-not (λ z. omega arith)) q)
 
-  module _ (k : h .kind ≡ writeRequest) where
+  module _ (k : h .kind ≡ writeRequestKind) where
     no-other : holdsOther body (recordsOf p b) ≡ false → otherHeld p h body b ≡ false
     unfolding otherHeld
-    no-other e = rw (eq-eqb (h .kind) writeRequest k) e
+    no-other e = rw (eq-eqb (h .kind) writeRequestKind k) e
 
     after-held : holds body (recordsOf p b) ≡ true → b ≡ bookAfter p h body b
     unfolding bookAfter
-    after-held e = rw (eq-eqb (h .kind) writeRequest k, e)
+    after-held e = rw (eq-eqb (h .kind) writeRequestKind k, e)
 
     after-new : holds body (recordsOf p b) ≡ false → grown p body b ≡ bookAfter p h body b
     unfolding bookAfter
-    after-new e = rw (eq-eqb (h .kind) writeRequest k, e)
+    after-new e = rw (eq-eqb (h .kind) writeRequestKind k, e)
 
     pub write-held : (n : ℕ) (y₂ : List ℕ) → rising (recordsOf p b) ≡ true → fates.Held ≡ fateOf body (recordsOf p b)
-        → Wrote (replying h writeReply) (stampOf body) y n y₂ → servedOutcome (replied n) b y₂ ≡ finished p h body b y
+        → Wrote (replying h writeReplyKind) (stampOf body) y n y₂ → servedOutcome (replied n) b y₂ ≡ finished p h body b y
     unfolding finished noRoom
     write-held n y₂ up e q =
         let g = lists.fate-held body (recordsOf p b) e in
         let o = lists.held-alone body (recordsOf p b) up g in
         rungs.go-on 7 _ _ _ (no-other o)
-        (rungs.go-on 8 _ _ _ (rw (eq-eqb (h .kind) writeRequest k, g)) (rungs.passed _ _ (sent-out writeReply _ n b y₂ (reply-3 k) (after-held g) q)))
+        (rungs.go-on 8 _ _ _ (rw (eq-eqb (h .kind) writeRequestKind k, g)) (rungs.passed _ _ (sent-out writeReplyKind _ n b y₂ (reply-3 k) (after-held g) q)))
 
     pub write-other : fates.Other ≡ fateOf body (recordsOf p b) → servedOutcome (saidServed (Refused OtherBytes)) b y ≡ finished p h body b y
     unfolding finished otherHeld
-    write-other e = rungs.stop 7 _ _ _ (rw (eq-eqb (h .kind) writeRequest k) (lists.fate-other body (recordsOf p b) e)) refl
+    write-other e = rungs.stop 7 _ _ _ (rw (eq-eqb (h .kind) writeRequestKind k) (lists.fate-other body (recordsOf p b) e)) refl
 
     pub write-full : (i : ℕ) → fates.Free i ≡ fateOf body (recordsOf p b) → leb (usedOf p b + recordLength p) (length b) ≡ false
         → servedOutcome (saidServed (Refused NoRoom)) b y ≡ finished p h body b y
@@ -218,16 +218,16 @@ module _ (p : Plan) (h : Header) (body b y : List ℕ) where
     write-full i e full =
         let q = lists.fate-free body (recordsOf p b) i e in
         rungs.go-on 7 _ _ _ (no-other (q .other))
-        (rungs.stop 8 _ _ _ (rw (eq-eqb (h .kind) writeRequest k, q .held) (lt-ltb (length b) (usedOf p b + recordLength p) (leb-false (usedOf p b + recordLength p) (length b) full))) refl)
+        (rungs.stop 8 _ _ _ (rw (eq-eqb (h .kind) writeRequestKind k, q .held) (lt-ltb (length b) (usedOf p b + recordLength p) (leb-false (usedOf p b + recordLength p) (length b) full))) refl)
 
     pub write-new : (i n : ℕ) (b₂ y₂ : List ℕ) → fates.Free i ≡ fateOf body (recordsOf p b) → leb (usedOf p b + recordLength p) (length b) ≡ true
-        → b₂ ≡ grown p body b → Wrote (replying h writeReply) (stampOf body) y n y₂ → servedOutcome (replied n) b₂ y₂ ≡ finished p h body b y
+        → b₂ ≡ grown p body b → Wrote (replying h writeReplyKind) (stampOf body) y n y₂ → servedOutcome (replied n) b₂ y₂ ≡ finished p h body b y
     unfolding finished noRoom
     write-new i n b₂ y₂ e room eb q =
         let r = lists.fate-free body (recordsOf p b) i e in
         rungs.go-on 7 _ _ _ (no-other (r .other))
-        (rungs.go-on 8 _ _ _ (rw (eq-eqb (h .kind) writeRequest k, r .held) (le-ltb (length b) (usedOf p b + recordLength p) (leb-true (usedOf p b + recordLength p) (length b) room)))
-        (rungs.passed _ _ (sent-out writeReply _ n b₂ y₂ (reply-3 k) (eb ∙ after-new (r .held)) q)))
+        (rungs.go-on 8 _ _ _ (rw (eq-eqb (h .kind) writeRequestKind k, r .held) (le-ltb (length b) (usedOf p b + recordLength p) (leb-true (usedOf p b + recordLength p) (length b) room)))
+        (rungs.passed _ _ (sent-out writeReplyKind _ n b₂ y₂ (reply-3 k) (eb ∙ after-new (r .held)) q)))
 
 -- ---- what the door leaves
 module _ (p : Plan) (a : Asked) (f b y : List ℕ) (A : Admitted p a f b y) where
@@ -246,7 +246,7 @@ module _ (p : Plan) (a : Asked) (f b y : List ℕ) (A : Admitted p a f b y) wher
   rises = books.good-is p b (A .book .good) .fill .rise
 
 -- ---- what the code of a write says, in these words
-module _ (p : Plan) (a : Asked) (f b y : List ℕ) (A : Admitted p a f b y) (k : a .frame .kind ≡ writeRequest) where
+module _ (p : Plan) (a : Asked) (f b y : List ℕ) (A : Admitted p a f b y) (k : a .frame .kind ≡ writeRequestKind) where
   each : a .book .each ≡ recordLength p
   each = ap (λ (x : Book). x .each) (A .book .is)
 

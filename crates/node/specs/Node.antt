@@ -23,7 +23,7 @@ use Rattle.terms.specs.Terms.{planOk, recordLength, refusalNumber}
 use Rattle.terms.specs.declared.Plan.{Plan}
 use Rattle.frame.specs.declared.Header.{Header}
 use Rattle.frame.specs.declared.Party.the-variants.{Node}
-use Rattle.frame.specs.Frame.{timeRequest, timeReply, writeRequest, writeReply, readLatest, readPrevious, readReply, headBytes, framed, longest, headerIn, bodyOf, frameOf, replying, suits, goodRequest}
+use Rattle.frame.specs.Frame.{timeRequestKind, timeReplyKind, writeRequestKind, writeReplyKind, readLatestKind, readPreviousKind, readReplyKind, headBytes, framed, longest, headerIn, bodyOf, frameOf, replying, suits, goodRequest}
 use Rattle.record.specs.Record.{hashesOk, timeZero, stampOf}
 use Rattle.book.specs.Records.{lastOf, lastBelow, holds, holdsOther}
 use Rattle.book.specs.Book.{goodBook, nodeOf, recordsOf, usedOf, grown, bookLent, Sound}
@@ -37,11 +37,11 @@ unfoldable pub bookReplyOk : Plan → ℕ → ℕ → Bool
 bookReplyOk p book reply = bookLent book and leb (longest 1 p) reply
 
 abbrev pub writes : Header → Bool
-writes h = eqb (h .kind) writeRequest
+writes h = eqb (h .kind) writeRequestKind
 
 -- 5: "time 0 in a record or a bound"
 unfoldable pub timeFails : Header → List ℕ → Bool
-timeFails h body = (writes h or eqb (h .kind) readPrevious) and timeZero body
+timeFails h body = (writes h or eqb (h .kind) readPreviousKind) and timeZero body
 
 -- 6: "a hash check fails"
 unfoldable pub hashFails : Plan → Header → List ℕ → Bool
@@ -106,10 +106,10 @@ noReply = replyOf 0 []
 -- last record strictly below the bound"; "where there is none, both give the first triple"
 unfoldable pub replyTo : ℕ → List ℕ → List (List ℕ) → Reply
 replyTo kind body rs =
-    cond (eqb kind timeRequest) (replyOf timeReply (be 8 (time (lastOf rs))))
-    (cond (eqb kind writeRequest) (replyOf writeReply (stampOf body))
-    (cond (eqb kind readLatest) (replyOf readReply (lastOf rs))
-    (cond (eqb kind readPrevious) (replyOf readReply (lastBelow (stamp body) rs)) noReply)))
+    cond (eqb kind timeRequestKind) (replyOf timeReplyKind (be 8 (time (lastOf rs))))
+    (cond (eqb kind writeRequestKind) (replyOf writeReplyKind (stampOf body))
+    (cond (eqb kind readLatestKind) (replyOf readReplyKind (lastOf rs))
+    (cond (eqb kind readPreviousKind) (replyOf readReplyKind (lastBelow (stamp body) rs)) noReply)))
 
 -- "If a record with this timestamp and the same bytes is held, acknowledge and store nothing. Otherwise put it in its place; later records
 -- move up by R, count and length follow, and bytes after the new end stay."

@@ -7,7 +7,7 @@ ghost use lib.ListN.{length};
 ghost use Rattle.octets.specs.Bytes.{part, be};
 ghost use Rattle.terms.specs.Terms.{planOk};
 ghost use Rattle.terms.specs.Stamp.{stamp, time};
-ghost use Rattle.frame.specs.Frame.{timeReply, writeRequest, writeReply, readReply, framed, replying, bodyOf, Wrote};
+ghost use Rattle.frame.specs.Frame.{timeReplyKind, writeRequestKind, writeReplyKind, readReplyKind, framed, replying, bodyOf, Wrote};
 ghost use Rattle.record.specs.Record.{stampOf};
 ghost use Rattle.book.specs.Records.{lastOf, lastBelow};
 ghost use Rattle.book.specs.Book.{recordsIn, Holds};
@@ -80,7 +80,7 @@ fn hash_fails(p: Plan, h: Header, request: &[u8]) -> bool
 // The reply to a write: its timestamp. Each reply tells the length of its frame.
 fn acknowledge(h: Header, request: &[u8], reply: &mut [u8]) -> usize
     requires { ⌜ (framed (h .version) 40 ≤ length (now request)) × (framed (h .version) 40 ≤ length (now reply)) ⌝ }
-    ensures { λ r. ⌜ Wrote (replying h writeReply) (stampOf (bodyOf (now (request .entry)))) (now (reply .entry)) r (now (reply .exit)) ⌝ }
+    ensures { λ r. ⌜ Wrote (replying h writeReplyKind) (stampOf (bodyOf (now (request .entry)))) (now (reply .entry)) r (now (reply .exit)) ⌝ }
 {
     let g = frame::replying(h, frame::WRITE_REPLY);
     let at = frame::head_bytes(h.version);
@@ -90,7 +90,7 @@ fn acknowledge(h: Header, request: &[u8], reply: &mut [u8]) -> usize
 // The reply to a read: the record at a span of the book, or none.
 fn send(h: Header, book: &[u8], s: Span, reply: &mut [u8]) -> usize
     requires { ⌜ (s .at + s .len ≤ length (now book)) × (framed (h .version) (s .len) ≤ length (now reply)) ⌝ }
-    ensures { λ r. ⌜ Wrote (replying h readReply) (part (now (book .entry)) (s .at) (s .len)) (now (reply .entry)) r (now (reply .exit)) ⌝ }
+    ensures { λ r. ⌜ Wrote (replying h readReplyKind) (part (now (book .entry)) (s .at) (s .len)) (now (reply .entry)) r (now (reply .exit)) ⌝ }
 {
     let g = frame::replying(h, frame::READ_REPLY);
     frame::with_part(reply, g, book, s.at, s.len)
@@ -99,7 +99,7 @@ fn send(h: Header, book: &[u8], s: Span, reply: &mut [u8]) -> usize
 // The reply to a time request: the time of the last record.
 fn tell_time(a: Asked, book: &[u8], reply: &mut [u8]) -> usize
     requires { ⌜ Holds (a .book) (now book) × (framed (a .frame .version) 8 ≤ length (now reply)) ⌝ }
-    ensures { λ r. ⌜ Wrote (replying (a .frame) timeReply) (be 8 (time (lastOf (recordsIn (a .book) (now (book .entry)))))) (now (reply .entry)) r (now (reply .exit)) ⌝ }
+    ensures { λ r. ⌜ Wrote (replying (a .frame) timeReplyKind) (be 8 (time (lastOf (recordsIn (a .book) (now (book .entry)))))) (now (reply .entry)) r (now (reply .exit)) ⌝ }
 {
     let g = frame::replying(a.frame, frame::TIME_REPLY);
     let t = book::last_time(a.book, book);
@@ -109,7 +109,7 @@ fn tell_time(a: Asked, book: &[u8], reply: &mut [u8]) -> usize
 // The reply to a read of the latest record: the last one.
 fn latest(a: Asked, book: &[u8], reply: &mut [u8]) -> usize
     requires { ⌜ Holds (a .book) (now book) × (framed (a .frame .version) (a .book .each) ≤ length (now reply)) ⌝ }
-    ensures { λ r. ⌜ Wrote (replying (a .frame) readReply) (lastOf (recordsIn (a .book) (now (book .entry)))) (now (reply .entry)) r (now (reply .exit)) ⌝ }
+    ensures { λ r. ⌜ Wrote (replying (a .frame) readReplyKind) (lastOf (recordsIn (a .book) (now (book .entry)))) (now (reply .entry)) r (now (reply .exit)) ⌝ }
 {
     let s = book::last(a.book, book);
     send(a.frame, book, s, reply)
@@ -118,7 +118,7 @@ fn latest(a: Asked, book: &[u8], reply: &mut [u8]) -> usize
 // The reply to a read of the record before a bound: the last one strictly below it.
 fn previous(a: Asked, request: &[u8], book: &[u8], reply: &mut [u8]) -> usize
     requires { ⌜ Holds (a .book) (now book) × (framed (a .frame .version) (a .book .each) ≤ length (now reply)) × (framed (a .frame .version) 40 ≤ length (now request)) ⌝ }
-    ensures { λ r. ⌜ Wrote (replying (a .frame) readReply) (lastBelow (stamp (bodyOf (now (request .entry)))) (recordsIn (a .book) (now (book .entry)))) (now (reply .entry)) r (now (reply .exit)) ⌝ }
+    ensures { λ r. ⌜ Wrote (replying (a .frame) readReplyKind) (lastBelow (stamp (bodyOf (now (request .entry)))) (recordsIn (a .book) (now (book .entry)))) (now (reply .entry)) r (now (reply .exit)) ⌝ }
 {
     let h = a.frame;
     let at = frame::head_bytes(h.version);
@@ -128,7 +128,7 @@ fn previous(a: Asked, request: &[u8], book: &[u8], reply: &mut [u8]) -> usize
 
 // A write. The record finds its place once: refusals 7 and 8, the acknowledgement and the insertion go by that one fate.
 fn write(p: Plan, a: Asked, request: &[u8], book: &mut [u8], reply: &mut [u8]) -> Answer
-    requires { ⌜ Admitted p a (now request) (now book) (now reply) × (a .frame .kind ≡ writeRequest) ⌝ }
+    requires { ⌜ Admitted p a (now request) (now book) (now reply) × (a .frame .kind ≡ writeRequestKind) ⌝ }
     ensures { λ r. ⌜ servedOutcome (saidServed r) (now (book .exit)) (now (reply .exit)) ≡ finished p (a .frame) (bodyOf (now (request .entry))) (now (book .entry)) (now (reply .entry)) ⌝ }
 {
     let h = a.frame;

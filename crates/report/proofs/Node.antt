@@ -25,12 +25,12 @@ use Rattle.terms.specs.Terms.{recordLength}
 use Rattle.terms.specs.declared.Plan.{Plan}
 use Rattle.terms.specs.declared.Refusal.{Refusal}
 use Rattle.terms.proofs.Small.{strict}
-use Rattle.frame.specs.Frame.{kindOf, frameNode, askOf, bodyOf, frame, goodRequest}
+use Rattle.frame.specs.Frame.{timeRequestKind, timeReplyKind, writeRequestKind, readLatestKind, readPreviousKind, headBytes, versionOf, headerIn, kindOf, frameNode, bodyOf, frameOf, replying, goodRequest}
 use Rattle.frame.proofs.Frames.{request-is}
 use Rattle.record.specs.Record.{hashesOk, timeZero}
 use Rattle.terms.proofs.Places.{record-length}
 use Rattle.book.specs.Records.{lastOf, lastBelow, holds, kept, timed, rising}
-use Rattle.book.specs.Book.{goodBook, nodeOf, recordsFrom, recordsOf, countOf, laidOut}
+use Rattle.book.specs.Book.{bookHead, goodBook, nodeOf, recordsFrom, recordsOf, countOf, laidOut}
 use Rattle.book.proofs.Laid as laid
 use Rattle.book.proofs.Laws as books
 use Rattle.node.specs.declared.Answer.the-variants.{Refused, Replied}
@@ -114,61 +114,61 @@ module _ (p : Plan) where
 -- ---- the call
 module _ (p : Plan) (f b y : List ℕ) (ob : Octets b) (of : Octets f) where
   -- a request to write: VALIDATE is the condition of refusal 6
-  write-body : goodRequest p (nodeOf b) f ≡ true → kindOf f ≡ 3 → 40 ≤ length (bodyOf f)
+  write-body : goodRequest p (nodeOf b) f ≡ true → kindOf f ≡ writeRequestKind → 40 ≤ length (bodyOf f)
   write-body r k = let l = nodes.write-length p (nodeOf b) f r k in simp length-drop (omega (arith, record-length p))
 
-  validates : goodRequest p (nodeOf b) f ≡ true → kindOf f ≡ 3 → not (VALIDATE (family p) (nodeOf b) (tripleOf p (bodyOf f))) ≡ hashFails p f
+  validates : goodRequest p (nodeOf b) f ≡ true → kindOf f ≡ writeRequestKind → not (VALIDATE (family p) (nodeOf b) (tripleOf p (bodyOf f))) ≡ hashFails p (headerIn f) (bodyOf f)
   unfolding hashFails
   validates r k =
       let n : frameNode f ≡ nodeOf b = request-is p (nodeOf b) f r .node-is in
-      ap not (validate-is p (nodeOf b) (bodyOf f) (write-body r k) (octets-drop 15 f of) ∙ ap (λ (S : ℕ). hashesOk p S (bodyOf f)) (sym n))
-      ∙ rw (eq-eqb (kindOf f) 3 k)
+      ap not (validate-is p (nodeOf b) (bodyOf f) (write-body r k) (octets-drop (headBytes (versionOf f)) f of) ∙ ap (λ (S : ℕ). hashesOk p S (bodyOf f)) (sym n))
+      ∙ rw (eq-eqb (kindOf f) writeRequestKind k)
 
   module _ (n : ℕ) (b₂ y₂ : List ℕ) (c : NodeCall p f b y (Replied n) b₂ y₂) where
-    told : None (nodeLadder p f b y) × (servedOutcome (replied n) b₂ y₂ ≡ answered p f b y)
+    told : None (nodeLadder p f b y) × (servedOutcome (replied n) b₂ y₂ ≡ answered p (headerIn f) (bodyOf f) b y)
     told = calls.replied-is p f b y n b₂ y₂ c
 
     clear : calls.Clear p f b y
     clear = calls.clear p f b y (told .0)
 
-    good : laid.BookIs 1 11 p b
+    good : laid.BookIs 1 (bookHead 1) p b
     good = books.good-is p b (clear .good)
 
-    bytes : y₂ ≡ over (frame (replyTo (kindOf f) (bodyOf f) (recordsOf p b) .kind) (frameNode f) (askOf f) (replyTo (kindOf f) (bodyOf f) (recordsOf p b) .body)) y
+    bytes : y₂ ≡ over (frameOf (replying (headerIn f) (replyTo (kindOf f) (bodyOf f) (recordsOf p b) .kind)) (replyTo (kindOf f) (bodyOf f) (recordsOf p b) .body)) y
     unfolding answered sends
     bytes = ap (λ (o : ServedOutcome). o .reply) (told .1)
 
-    left : writes f ≡ false → b₂ ≡ b
-    left w = ap (λ (o : ServedOutcome). o .book) (told .1) ∙ one.answered-book p f b y ∙ nodes.after-other p f b w
+    left : writes (headerIn f) ≡ false → b₂ ≡ b
+    left w = ap (λ (o : ServedOutcome). o .book) (told .1) ∙ one.answered-book p f b y ∙ nodes.after-other p (headerIn f) (bodyOf f) b w
 
-    read-only : (k : ℕ) → kindOf f ≡ k → eqb k 3 ≡ false → b₂ ≡ b
-    read-only k e h = left (ap (λ (j : ℕ). eqb j 3) e ∙ h)
+    read-only : (k : ℕ) → kindOf f ≡ k → eqb k writeRequestKind ≡ false → b₂ ≡ b
+    read-only k e h = left (ap (λ (j : ℕ). eqb j writeRequestKind) e ∙ h)
 
     -- RECEIVE_TIME_REQUEST; of the timestamp the reply bears the time only
-    pub time-acts : kindOf f ≡ 1 → (y₂ ≡ over (frame 2 (frameNode f) (askOf f) (be 8 (family p .Time (RECEIVE-TIME-REQUEST (history p b))))) y) × (b₂ ≡ b)
+    pub time-acts : kindOf f ≡ timeRequestKind → (y₂ ≡ over (frameOf (replying (headerIn f) timeReplyKind) (be 8 (family p .Time (RECEIVE-TIME-REQUEST (history p b))))) y) × (b₂ ≡ b)
     unfolding replyTo
     time-acts k = (
-      rw k at bytes ∙ ap (λ (t : ℕ). over (frame 2 (frameNode f) (askOf f) (be 8 t)) y)
+      rw k at bytes ∙ ap (λ (t : ℕ). over (frameOf (replying (headerIn f) timeReplyKind) (be 8 t)) y)
           (sym (ap timeIn (time-of p (recordsOf p b) (good .fill .rise) (good .fill .times)) ∙ last-time)),
-      read-only 1 k refl,
+      read-only timeRequestKind k refl,
     )
       where
         last-time : timeIn (stamp (lastOf (recordsOf p b))) ≡ time (lastOf (recordsOf p b))
         last-time =
             last-all (λ (x : List ℕ). timeIn (stamp x) ≡ time x) b (recordLength p)
             (λ at l. time-in (part b at (recordLength p)) (omega (arith, length-part b at (recordLength p) l, record-length p)) (octets-part b at (recordLength p) ob))
-            time-none (countOf b) 11 (good .fill .inside)
+            time-none (countOf b) (bookHead 1) (good .fill .inside)
 
     -- RECEIVE_READ_LATEST
-    pub latest-acts : kindOf f ≡ 5 → Sends p f y y₂ (RECEIVE-READ-LATEST (history p b)) × (b₂ ≡ b)
+    pub latest-acts : kindOf f ≡ readLatestKind → Sends p f y y₂ (RECEIVE-READ-LATEST (history p b)) × (b₂ ≡ b)
     unfolding replyTo
     latest-acts k = (
       record { body = lastOf (recordsOf p b); sent = rw k at bytes; is = latest-of p (recordsOf p b) (good .fill .rise) (good .fill .times) },
-      read-only 5 k refl,
+      read-only readLatestKind k refl,
     )
 
     -- RECEIVE_READ_PREVIOUS
-    pub previous-acts : kindOf f ≡ 6 → Sends p f y y₂ (RECEIVE-READ-PREVIOUS (history p b) (stamp (bodyOf f))) × (b₂ ≡ b)
+    pub previous-acts : kindOf f ≡ readPreviousKind → Sends p f y y₂ (RECEIVE-READ-PREVIOUS (history p b) (stamp (bodyOf f))) × (b₂ ≡ b)
     unfolding replyTo timeFails timeZero
     previous-acts k = (
       record {
@@ -176,7 +176,7 @@ module _ (p : Plan) (f b y : List ℕ) (ob : Octets b) (of : Octets f) where
         sent = rw k at bytes;
         is = previous-of p (recordsOf p b) (good .fill .rise) (good .fill .times) (stamp (bodyOf f)) (stamp-low (bodyOf f) low);
       },
-      read-only 6 k refl,
+      read-only readPreviousKind k refl,
     )
       where
         low : 1 ≤ time (bodyOf f)
@@ -185,10 +185,10 @@ module _ (p : Plan) (f b y : List ℕ) (ob : Octets b) (of : Octets f) where
             strict 0 (time (bodyOf f)) (omega arith) (λ e. eqb-false (time (bodyOf f)) 0 z (sym e))
 
     -- RECEIVE_WRITE_REQUEST
-    pub write-acts : kindOf f ≡ 3 → Executes p f b y b₂ y₂
+    pub write-acts : kindOf f ≡ writeRequestKind → Executes p f b y b₂ y₂
     unfolding replyTo RECEIVE-WRITE-REQUEST
     write-acts k =
-        let w : writes f ≡ true = eq-eqb (kindOf f) 3 k in
+        let w : writes (headerIn f) ≡ true = eq-eqb (kindOf f) writeRequestKind k in
         let v : VALIDATE (family p) (nodeOf b) (tripleOf p (bodyOf f)) ≡ true = not-false _ (validates (clear .request) k ∙ clear .hash) in
         let e : recordsOf p b₂ ≡ kept (bodyOf f) (recordsOf p b) =
         ap (λ (x : List ℕ). recordsOf p x) (ap (λ (o : ServedOutcome). o .book) (c .is)) ∙ one.is-records (keeps.executed p f b y (clear .good) ob clear w) in
@@ -208,19 +208,19 @@ module _ (p : Plan) (f b y : List ℕ) (ob : Octets b) (of : Octets f) where
       (ap (history p) (q .1), q .2)
 
   -- a write request that VALIDATE turns away: the same
-  pub invalid-acts : goodRequest p (nodeOf b) f ≡ true → kindOf f ≡ 3 → VALIDATE (family p) (nodeOf b) (tripleOf p (bodyOf f)) ≡ false
+  pub invalid-acts : goodRequest p (nodeOf b) f ≡ true → kindOf f ≡ writeRequestKind → VALIDATE (family p) (nodeOf b) (tripleOf p (bodyOf f)) ≡ false
       → (a : Answer) (b₂ y₂ : List ℕ) → NodeCall p f b y a b₂ y₂ → (history p b₂ ≡ history p b) × (y₂ ≡ y)
   invalid-acts r k v (Refused e) b₂ y₂ c = refused-acts e b₂ y₂ c
   invalid-acts r k v (Replied n) b₂ y₂ c =
       let q = calls.clear p f b y (calls.replied-is p f b y n b₂ y₂ c .0) in
       absurd (clash (sym (ap not v) ∙ validates r k ∙ q .hash))
 
-  pub valid-acts : Added p f b y → kindOf f ≡ 3 → VALIDATE (family p) (nodeOf b) (tripleOf p (bodyOf f)) ≡ true
-      → (a : Answer) (b₂ y₂ : List ℕ) → NodeCall p f b y a b₂ y₂ → servedOutcome (saidServed a) b₂ y₂ ≡ answered p f b y
+  pub valid-acts : Added p f b y → kindOf f ≡ writeRequestKind → VALIDATE (family p) (nodeOf b) (tripleOf p (bodyOf f)) ≡ true
+      → (a : Answer) (b₂ y₂ : List ℕ) → NodeCall p f b y a b₂ y₂ → servedOutcome (saidServed a) b₂ y₂ ≡ answered p (headerIn f) (bodyOf f) b y
   unfolding served
   valid-acts h k v a b₂ y₂ c =
       c .is
-      ∙ ladders.is-passed (nodeLadder p f b y) (λ (j : ℕ). servedOutcome (refused j) b y) (answered p f b y)
+      ∙ ladders.is-passed (nodeLadder p f b y) (λ (j : ℕ). servedOutcome (refused j) b y) (answered p (headerIn f) (bodyOf f) b y)
       (ap not (h .plan), (ap not (h .lengths), (ap not (h .book), (ap not (h .request), (h .time, (sym (validates (h .request) k) ∙ ap not v, (h .other, (h .room, tt))))))))
 
 -- ---- a fresh book is INITIALIZE
@@ -287,11 +287,11 @@ module _ (p : Plan) (f b y : List ℕ) (ob : Octets b) (of : Octets f) (g : good
   abbrev fed : Bool → List Triple
   fed t = cond t (RECEIVE-WRITE-REQUEST (family p) (nodeOf b) H (tripleOf p (bodyOf f)) .History) H
 
-  call-follows : (a : Answer) (b₂ y₂ : List ℕ) → NodeCall p f b y a b₂ y₂ → Follows p b b₂ (fed (replies-to a and writes f))
+  call-follows : (a : Answer) (b₂ y₂ : List ℕ) → NodeCall p f b y a b₂ y₂ → Follows p b b₂ (fed (replies-to a and writes (headerIn f)))
   call-follows (Refused r) b₂ y₂ c = follows-still p b b₂ H g (calls.refused-is p f b y r b₂ y₂ c .1) same
-  call-follows (Replied n) b₂ y₂ c = go (writes f) refl
+  call-follows (Replied n) b₂ y₂ c = go (writes (headerIn f)) refl
     where
-      go : (t : Bool) → writes f ≡ t → Follows p b b₂ (fed t)
+      go : (t : Bool) → writes (headerIn f) ≡ t → Follows p b b₂ (fed t)
       go true w =
           let e = write-acts p f b y ob of n b₂ y₂ c (eqb-true (kindOf f) 3 w) in
           let q = keeps.executed p f b y g ob (calls.clear p f b y (calls.replied-is p f b y n b₂ y₂ c .0)) w in
@@ -304,7 +304,7 @@ module _ (p : Plan) (f b y : List ℕ) (ob : Octets b) (of : Octets f) (g : good
           }
       go false w =
           follows-still p b b₂ H g
-          (ap (λ (o : ServedOutcome). o .book) (calls.replied-is p f b y n b₂ y₂ c .1) ∙ one.answered-book p f b y ∙ nodes.after-other p f b w) same
+          (ap (λ (o : ServedOutcome). o .book) (calls.replied-is p f b y n b₂ y₂ c .1) ∙ one.answered-book p f b y ∙ nodes.after-other p (headerIn f) (bodyOf f) b w) same
 
 -- OVER ANY CALLS A NODE'S HISTORY IS THE ONE THAT FIGURE 1 HOLDS after the write requests that were answered
 pub node-run : (p : Plan) (b : List ℕ) (H : List Triple) (cs : List Call) → goodBook p b ≡ true → Same (history p b) H → History b cs → OfPlan p cs
@@ -315,7 +315,7 @@ node-run p b H (c ∷ cs) g s h o =
     subst (λ (x : Plan). NodeCall x (c .request) b (c .reply) (c .answer) (c .bookLeft) (c .replyLeft)) (o .0) (h .1) in
     let q = call-follows p (c .request) b (c .reply) (h .0) (o .1) g H s (c .answer) (c .bookLeft) (c .replyLeft) k in
     subst
-    (λ (S : ℕ). Same (history p (lastBook (c .bookLeft) cs)) (received p S (fed p (c .request) b (c .reply) (h .0) (o .1) g H s (replies-to (c .answer) and writes (c .request))) cs))
+    (λ (S : ℕ). Same (history p (lastBook (c .bookLeft) cs)) (received p S (fed p (c .request) b (c .reply) (h .0) (o .1) g H s (replies-to (c .answer) and writes (headerIn (c .request)))) cs))
     (q .node) (node-run p (c .bookLeft) _ cs (q .good) (q .set) (h .2) (o .2))
 
 -- and from a fresh book, the one that it holds from INITIALIZE on

@@ -27,7 +27,7 @@ use Rattle.terms.proofs.Plans.{plan-is}
 use Rattle.terms.proofs.Facts.{facts}
 use Rattle.fragments.specs.Fragments.{from, regenerated, Sources}
 use Rattle.fragments.proofs.Laws.{among-from, length-from, getD-from, itself, length-regenerated}
-use Rattle.frame.specs.Frame.{kindOf, frameNode, askOf, bodyOf, goodReply}
+use Rattle.frame.specs.Frame.{writeReplyKind, readReplyKind, headBytes, versionOf, kindOf, frameNode, askOf, bodyOf, goodReply}
 use Rattle.frame.proofs.Frames.{reply-is}
 use Rattle.record.specs.Record.{hashesOk, timeZero}
 use Rattle.record.specs.Desk.{slotOf, fragmentIn}
@@ -499,7 +499,7 @@ module _ (p : Plan) (s : Session) (f d i : List ℕ) (w : Polled) where
         valid-is : VALIDATE (family p) (messageOf p f) ≡ hashesOk p node (bodyOf f)
         valid-is =
             ap (VALIDATE (family p)) says-record
-            ∙ valid-record p node (bodyOf f) (omega (arith, long-body p f b, record-length p)) (octets-drop 15 f of) timed
+            ∙ valid-record p node (bodyOf f) (omega (arith, long-body p f b, record-length p)) (octets-drop (headBytes (versionOf f)) f of) timed
 
         timely-is : in-time (commandOf (s .round .bound)) (messageOf p f .Response .ts) ≡ underOf (s .round .bound) (stamp (bodyOf f))
         timely-is = ap (λ (x : Message). in-time (commandOf (s .round .bound)) (x .Response .ts)) says-record ∙ in-time-is (s .round .bound) (stamp (bodyOf f))
@@ -533,7 +533,7 @@ module _ (p : Plan) (s : Session) (f d i : List ℕ) (w : Polled) where
               (record-after p (s .marks) d node node-low inside unmarked (bodyOf f) (k .desk) (long-body p f b) ∙ ap (λ (x : Message). with-it x before) (sym says-record))
               (valid-is ∙ v) (timely-is ∙ u)
               (length-put d (node * recordLength p) (bodyOf f) (omega (arith, long-body p f b, slot-fits node (p .n) (recordLength p) node-low, k .desk)) ∙ k .desk)
-              (octets-put d (node * recordLength p) (bodyOf f) (k .octets) (octets-drop 15 f of)) (λ j l z. go j l z (ℕ-discrete j node)) a))
+              (octets-put d (node * recordLength p) (bodyOf f) (k .octets) (octets-drop (headBytes (versionOf f)) f of)) (λ j l z. go j l z (ℕ-discrete j node)) a))
             where
               go : (j : ℕ) → j < p .n → markOf (set (s .marks) node (record { is = Record })) j ≡ Record → Dec (j ≡ node) → Passed p j (slotOf p desk-after j)
               go j l z (yes q) =
@@ -574,9 +574,9 @@ module _ (p : Plan) (s : Session) (f d i : List ℕ) (w : Polled) where
     no-record : isStoring (s .round .stage) ≡ true → awaited s f ≡ true → bears p f ≡ false
     unfolding awaited awaitsKind bears
     no-record t a =
-        let k : eqb (kindOf f) 4 ≡ true = rw t at (both (awaitsKind s (kindOf f)) _ (both (eqb (askOf f) (askNow s)) _ a .1) .0) in
-        let e : kindOf f ≡ 4 = eqb-true (kindOf f) 4 k in
-        rw (ne-eqb (kindOf f) 7 (λ z. omega (arith, e, z)))
+        let k : eqb (kindOf f) writeReplyKind ≡ true = rw t at (both (awaitsKind s (kindOf f)) _ (both (eqb (askOf f) (askNow s)) _ a .1) .0) in
+        let e : kindOf f ≡ writeReplyKind = eqb-true (kindOf f) writeReplyKind k in
+        rw (ne-eqb (kindOf f) readReplyKind (λ z. omega (arith, e, z)))
 
     at-storing : (x : Stage) → isStoring x ≡ true → x ≡ Storing
     at-storing Asking e = absurd (clash (sym e))

@@ -27,7 +27,7 @@ use Rattle.rounds.specs.declared.Bound.{Bound}
 use Rattle.rounds.specs.declared.Bound.the-variants.{Free, Under}
 use Rattle.rounds.specs.Rounds.{bitOf, markOf, heardAt}
 use Rattle.record.specs.Desk.{slotOf}
-use Rattle.frame.specs.Frame.{frame}
+use Rattle.frame.specs.Frame.{timeRequestKind, writeRequestKind, frame}
 use Rattle.session.specs.declared.Session.{Session}
 use Rattle.session.specs.declared.Stage.{Stage}
 use Rattle.session.specs.declared.Stage.the-variants.{Asking, Storing, Ended}
@@ -89,7 +89,7 @@ in-upto f (suc n) k h = go (ℕ-discrete k n) (in-upto f n k)
     go (yes e) more = in-append (f k) (upTo f n) (f n ∷ []) (inr (inl (ap f e)))
     go (no e) more = in-append (f k) (upTo f n) (f n ∷ []) (inl (more (strict k n (omega arith) e)))
 
-own : (p : Plan) (d : List ℕ) (sent : List Message) (S ask : ℕ) → S < p .n → sending p d ≡ sent → SendsOwn p sent S ask (frame 3 S ask (slotOf p d S))
+own : (p : Plan) (d : List ℕ) (sent : List Message) (S ask : ℕ) → S < p .n → sending p d ≡ sent → SendsOwn p sent S ask (frame writeRequestKind S ask (slotOf p d S))
 own p d sent S ask h e = record { rec = slotOf p d S; is = refl; own = subst (In (bearing p d S)) e (in-upto (bearing p d) (p .n) S h) }
 
 -- ---- a read
@@ -106,14 +106,14 @@ module _ (p : Plan) (s : Session) (d : List ℕ) (w : Polled) (keep : reads.Keep
       by-bound (Under u) = refl
 
       go : (x : Stage) → s .round .stage ≡ x → Commands p (READ (family p) (w .rounds)) S (askNow s)
-          (cond (isStoring x) (frame 3 S (askNow s) (slotOf p d S)) (cond (isRead (s .operation)) (readRequest (s .round .bound) S (askNow s)) (frame 1 S (askNow s) [])))
+          (cond (isStoring x) (frame writeRequestKind S (askNow s) (slotOf p d S)) (cond (isRead (s .operation)) (readRequest (s .round .bound) S (askNow s)) (frame timeRequestKind S (askNow s) [])))
       go Asking st =
           let k : reads.Asks p s d w = subst (λ (x : Stage). reads.KeepsAt x p s d w) st keep in
-          subst (λ (x : Decision). Commands p x S (askNow s) (cond (isRead (s .operation)) (readRequest (s .round .bound) S (askNow s)) (frame 1 S (askNow s) []))) (sym (k .decision))
+          subst (λ (x : Decision). Commands p x S (askNow s) (cond (isRead (s .operation)) (readRequest (s .round .bound) S (askNow s)) (frame timeRequestKind S (askNow s) []))) (sym (k .decision))
           (rw (k .reads) (by-bound (s .round .bound)))
       go Storing st =
           let k : reads.Stores p s d w = subst (λ (x : Stage). reads.KeepsAt x p s d w) st keep in
-          subst (λ (x : Decision). Commands p x S (askNow s) (frame 3 S (askNow s) (slotOf p d S))) (sym (k .decision)) (own p d (k .sent) S (askNow s) low (k .sends))
+          subst (λ (x : Decision). Commands p x S (askNow s) (frame writeRequestKind S (askNow s) (slotOf p d S))) (sym (k .decision)) (own p d (k .sent) S (askNow s) low (k .sends))
       go Ended st = absurd (clash (sym (ap isEnded st) ∙ clear (owedLadder p s S d (length q)) n 14))
 
   in-set-is : None (upto 11 (owedLadder p s S d (length q))) → isHeard s S ≡ inResponseSet p (s .round .stage) w S
@@ -160,7 +160,7 @@ module _ (p : Plan) (s : Session) (d : List ℕ) (w : Responses) (keep : writes.
       low = ltb-true S (p .n) (not-false (ltb S (p .n)) (clear (owedLadder p s S d (length q)) n 4))
 
       go : (x : Stage) → s .round .stage ≡ x → WriteCommands p x w S (askNow s)
-          (cond (isStoring x) (frame 3 S (askNow s) (slotOf p d S)) (cond (isRead (s .operation)) (readRequest (s .round .bound) S (askNow s)) (frame 1 S (askNow s) [])))
+          (cond (isStoring x) (frame writeRequestKind S (askNow s) (slotOf p d S)) (cond (isRead (s .operation)) (readRequest (s .round .bound) S (askNow s)) (frame timeRequestKind S (askNow s) [])))
       go Asking st =
           let k : writes.Asks p s w = subst (λ (x : Stage). writes.KeepsAt x p s d w) st keep in
           rw (k .writes)

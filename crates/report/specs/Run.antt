@@ -20,7 +20,7 @@ use Rattle.sha256.specs.Sha256.{sha256}
 use Rattle.terms.specs.Ladder.{_and_}
 use Rattle.terms.specs.Stamp.{stampNumber}
 use Rattle.terms.specs.declared.Plan.{Plan}
-use Rattle.frame.specs.Frame.{frameNode, bodyOf}
+use Rattle.frame.specs.Frame.{headerIn, frameNode, bodyOf}
 use Rattle.session.specs.declared.Session.{Session}
 use Rattle.session.specs.declared.Stage.the-variants.{Storing}
 use Rattle.session.specs.Session.{isAsking, isStoring, Said, refused, stillOpen, done, neverWritten, aborted, roundsSpent, clockSpent, saidOf}
@@ -51,7 +51,7 @@ abbrev pub received : Plan → ℕ → List Triple → List Call → List Triple
 received p S History [] = History
 received p S History (c ∷ cs) =
     received p S
-    (cond (replies-to (c .answer) and writes (c .request)) (RECEIVE-WRITE-REQUEST (family p) S History (tripleOf p (bodyOf (c .request))) .History) History)
+    (cond (replies-to (c .answer) and writes (headerIn (c .request))) (RECEIVE-WRITE-REQUEST (family p) S History (tripleOf p (bodyOf (c .request))) .History) History)
     cs
 
 -- ---- reading

@@ -14,7 +14,7 @@ use mathlib.Core.List.{List, []}
 use Rattle.octets.specs.Bytes.{be, over}
 use Rattle.terms.specs.Ladder.{Rung, None, rung, upto}
 use Rattle.terms.specs.declared.Plan.{Plan}
-use Rattle.frame.specs.Frame.{frame}
+use Rattle.frame.specs.Frame.{timeRequestKind, writeRequestKind, readLatestKind, readPreviousKind, frame}
 use Rattle.session.specs.declared.Stage.{Stage}
 use Rattle.session.specs.declared.Stage.the-variants.{Asking, Storing, Ended}
 use Rattle.session.specs.Owed.{Due, written}
@@ -27,13 +27,13 @@ use Rattle.report.specs.WriteRun.{Responses}
 
 -- SEND(S, READ_COMMAND, ts)
 abbrev pub readFrame : Command → (S ask : ℕ) → List ℕ
-readFrame READ-LATEST S ask = frame 5 S ask []
-readFrame (READ-PREVIOUS ts) S ask = frame 6 S ask (be 40 ts)
+readFrame READ-LATEST S ask = frame readLatestKind S ask []
+readFrame (READ-PREVIOUS ts) S ask = frame readPreviousKind S ask (be 40 ts)
 
 -- SEND(S, WRITE_REQUEST, ts, D, CC): the record is S's own member of the set that is sent
 pub record SendsOwn (p : Plan) (sent : List Message) (S ask : ℕ) (f : List ℕ) : Type 0 where
   pub rec : List ℕ
-  pub is : f ≡ frame 3 S ask rec
+  pub is : f ≡ frame writeRequestKind S ask rec
   pub own : In (record { S = S; Response = tripleOf p rec }) sent
 
 abbrev pub Commands : Plan → Decision → (S ask : ℕ) → List ℕ → Type 0
@@ -44,7 +44,7 @@ Commands p ABORT S ask f = ⊥
 
 -- SEND(S, TIME_REQUEST), and then what DO_WRITE sends
 abbrev pub WriteCommands : Plan → Stage → Responses → (S ask : ℕ) → List ℕ → Type 0
-WriteCommands p Asking w S ask f = f ≡ frame 1 S ask []
+WriteCommands p Asking w S ask f = f ≡ frame timeRequestKind S ask []
 WriteCommands p Storing w S ask f = SendsOwn p (WRITE (family p) (w .Data) (w .times)) S ask f
 WriteCommands p Ended w S ask f = ⊥
 

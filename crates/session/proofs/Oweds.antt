@@ -16,7 +16,7 @@ use Rattle.terms.specs.declared.Refusal.{Refusal}
 use Rattle.terms.specs.declared.Timestamp.{Timestamp}
 use Rattle.terms.proofs.Rungs.{refusal-one}
 use Rattle.frame.specs.declared.Header.{Header}
-use Rattle.frame.specs.Frame.{frame, longest, readLatest, readPrevious, writeRequest, timeRequest, frameOf, Wrote}
+use Rattle.frame.specs.Frame.{frame, longest, readLatestKind, readPreviousKind, writeRequestKind, timeRequestKind, frameOf, Wrote}
 use Rattle.frame.proofs.Built.{length-frame}
 use Rattle.rounds.specs.declared.Bound.{Bound}
 use Rattle.rounds.specs.declared.Bound.the-variants.{Free, Under}
@@ -49,16 +49,16 @@ pub sent : (want : List ℕ) (h : Header) (body old : List ℕ) (n : ℕ) (new :
 sent want h body old n new w q = the-same want (frameOf h body) old new n w (q .bytes, q .told ∙ sym (length-frame h body))
 
 module _ (b : Bound) (node ask : ℕ) where
-  pub read-latest : b ≡ Free → readRequest b node ask ≡ frame readLatest node ask []
+  pub read-latest : b ≡ Free → readRequest b node ask ≡ frame readLatestKind node ask []
   unfolding readRequest
   read-latest e = rw e
 
-  pub read-previous : (u : Timestamp) → b ≡ Under u → readRequest b node ask ≡ frame readPrevious node ask (be 40 (stampNumber u))
+  pub read-previous : (u : Timestamp) → b ≡ Under u → readRequest b node ask ≡ frame readPreviousKind node ask (be 40 (stampNumber u))
   unfolding readRequest
   read-previous u e = rw e
 
 module _ (p : Plan) (s : Session) (node : ℕ) (d : List ℕ) (ask : ℕ) (a : ask ≡ askNow s) (x : Bool) (g : x ≡ isStoring (s .round .stage)) where
-  pub stores : x ≡ true → (r : ℕ) → r ≡ recordLength p → requestOf p s node d ≡ frame writeRequest node ask (part d (node * r) r)
+  pub stores : x ≡ true → (r : ℕ) → r ≡ recordLength p → requestOf p s node d ≡ frame writeRequestKind node ask (part d (node * r) r)
   unfolding requestOf
   stores t r e = rw (← g, t, a, e)
 
@@ -67,7 +67,7 @@ module _ (p : Plan) (s : Session) (node : ℕ) (d : List ℕ) (ask : ℕ) (a : a
     unfolding requestOf
     asks-record t = rw (← g, f, ← h, t, a)
 
-    pub asks-time : y ≡ false → requestOf p s node d ≡ frame timeRequest node ask []
+    pub asks-time : y ≡ false → requestOf p s node d ≡ frame timeRequestKind node ask []
     unfolding requestOf
     asks-time t = rw (← g, f, ← h, t, a)
 

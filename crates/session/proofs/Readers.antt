@@ -27,7 +27,7 @@ use Rattle.session.proofs.Rules.{body-stamp}
 use Rattle.rounds.specs.declared.Bound.{Bound}
 use Rattle.frame.specs.declared.Header.{Header}
 use Rattle.frame.specs.Frame.{kindOf, frameNode, bodyOf, goodReply, framed, headBytes, versionOf, headerIn}
-use Rattle.frame.specs.Frame.{readReply as readKind}
+use Rattle.frame.specs.Frame.{readReplyKind}
 use Rattle.frame.proofs.Frames.{reply-is, body-is}
 use Rattle.rounds.specs.declared.Heard.the-variants.{First, Record}
 use Rattle.rounds.specs.declared.Lead.the-variants.{Nobody, Node}
@@ -159,21 +159,21 @@ module _ (p : Plan) (s : Session) (f d i : List ℕ) (x : Bool) (b : x ≡ bears
   heard-record k m d₂ o t e g w q = q ∙ rw (← b, t, g, w, e)
 
 -- the test for a record, one after the other
-pub bears-not : (p : Plan) (f : List ℕ) (h : Header) → h ≡ headerIn f → (h .kind ≡ readKind → ⊥) → false ≡ bears p f
+pub bears-not : (p : Plan) (f : List ℕ) (h : Header) → h ≡ headerIn f → (h .kind ≡ readReplyKind → ⊥) → false ≡ bears p f
 unfolding bears
-bears-not p f h i n = rw (ne-eqb (kindOf f) readKind (λ e. n (ap (λ (g : Header). g .kind) i ∙ e)))
+bears-not p f h i n = rw (ne-eqb (kindOf f) readReplyKind (λ e. n (ap (λ (g : Header). g .kind) i ∙ e)))
 
-pub bears-last : (p : Plan) (f : List ℕ) (h : Header) (at r : ℕ) → h ≡ headerIn f → h .kind ≡ readKind → at ≡ headBytes (h .version) → r ≡ recordLength p
+pub bears-last : (p : Plan) (f : List ℕ) (h : Header) (at r : ℕ) → h ≡ headerIn f → h .kind ≡ readReplyKind → at ≡ headBytes (h .version) → r ≡ recordLength p
     → eqb (length f) (at + r) ≡ bears p f
 unfolding bears
-bears-last p f h at r i k ea er = rw (eq-eqb (kindOf f) readKind (sym (ap (λ (g : Header). g .kind) i) ∙ k)) (λ j. eqb (length f) (ea j + er j))
+bears-last p f h at r i k ea er = rw (eq-eqb (kindOf f) readReplyKind (sym (ap (λ (g : Header). g .kind) i) ∙ k)) (λ j. eqb (length f) (ea j + er j))
 
 -- what a reply that bears a record is
-pub bears-is : (p : Plan) (f : List ℕ) (x : Bool) → x ≡ bears p f → x ≡ true → (kindOf f ≡ readKind) × (length f ≡ framed (versionOf f) (recordLength p))
+pub bears-is : (p : Plan) (f : List ℕ) (x : Bool) → x ≡ bears p f → x ≡ true → (kindOf f ≡ readReplyKind) × (length f ≡ framed (versionOf f) (recordLength p))
 unfolding bears
 bears-is p f x e t =
-    let q = both (eqb (kindOf f) readKind) _ (sym e ∙ t) in
-    (eqb-true (kindOf f) readKind (q .0), eqb-true (length f) (framed (versionOf f) (recordLength p)) (q .1))
+    let q = both (eqb (kindOf f) readReplyKind) _ (sym e ∙ t) in
+    (eqb-true (kindOf f) readReplyKind (q .0), eqb-true (length f) (framed (versionOf f) (recordLength p)) (q .1))
 
 pub body-at : (p : Plan) (f : List ℕ) (at r : ℕ) → at ≡ headBytes (versionOf f) → r ≡ recordLength p → length f ≡ framed (versionOf f) (recordLength p) → part f at r ≡ bodyOf f
 body-at p f at r ea e l = (λ i. part f (ea i) (e i)) ∙ sym (body-is (headBytes (versionOf f)) f (recordLength p) l)

@@ -16,7 +16,7 @@ use Rattle.terms.proofs.Stamps.{stamp-at-number}
 use Rattle.terms.proofs.Rungs.{both}
 use Rattle.terms.proofs.Picks.{itself}
 use Rattle.octets.specs.Bytes.{part, num}
-use Rattle.frame.specs.Frame.{kindOf, askOf, bodyOf, writeReply, timeReply, framed, headBytes, headerIn, answersTo, versionOf, longest}
+use Rattle.frame.specs.Frame.{kindOf, askOf, bodyOf, writeReplyKind, timeReplyKind, framed, headBytes, headerIn, answersTo, versionOf, longest}
 use Rattle.frame.proofs.Frames.{ReplyIs, length-4}
 use Rattle.rounds.specs.Rounds.{restUnheard, heardCount}
 use Rattle.session.specs.declared.Session.{Session}
@@ -95,10 +95,10 @@ pub ask-high : (p : Plan) (s : Session) → StandingIs p s → s .opening .0 + s
 ask-high p s q = omega (arith, q .high, q .opening)
 
 -- a write reply bears a timestamp
-pub reply-stamped : (p : Plan) (f : List ℕ) → ReplyIs p f → kindOf f ≡ writeReply → framed 1 40 ≤ length f
+pub reply-stamped : (p : Plan) (f : List ℕ) → ReplyIs p f → kindOf f ≡ writeReplyKind → framed 1 40 ≤ length f
 reply-stamped p f r k = omega (arith, length-4 (r .frame-is) k)
 
-pub header-stamped : (p : Plan) (f : List ℕ) (h : Header) → h ≡ headerIn f → ReplyIs p f → h .kind ≡ writeReply → framed (h .version) 40 ≤ length f
+pub header-stamped : (p : Plan) (f : List ℕ) (h : Header) → h ≡ headerIn f → ReplyIs p f → h .kind ≡ writeReplyKind → framed (h .version) 40 ≤ length f
 header-stamped p f h i r k = reply-stamped p f r (sym (ap (λ (x : Header). x .kind) i) ∙ k)
 
 -- the timestamp that a body starts with
@@ -122,13 +122,13 @@ module _ (p : Plan) (s : Session) where
 
 -- ---- the kinds that a round awaits
 module _ (s : Session) (k : ℕ) (e : awaitsKind s k ≡ true) where
-  pub kind-stored : isStoring (s .round .stage) ≡ true → k ≡ writeReply
+  pub kind-stored : isStoring (s .round .stage) ≡ true → k ≡ writeReplyKind
   unfolding awaitsKind
-  kind-stored g = eqb-true k writeReply (rw g at e)
+  kind-stored g = eqb-true k writeReplyKind (rw g at e)
 
-  pub kind-timed : isStoring (s .round .stage) ≡ false → isRead (s .operation) ≡ false → k ≡ timeReply
+  pub kind-timed : isStoring (s .round .stage) ≡ false → isRead (s .operation) ≡ false → k ≡ timeReplyKind
   unfolding awaitsKind
-  kind-timed g h = eqb-true k timeReply (rw (g, h) at e)
+  kind-timed g h = eqb-true k timeReplyKind (rw (g, h) at e)
 
 -- ---- what a round awaits, tested one after the other
 module _ (s : Session) (f : List ℕ) (h : Header) (i : h ≡ headerIn f) (ask : ℕ) (a : ask ≡ askNow s) (w : Bool) (q : w ≡ answersTo h ask) where
@@ -156,7 +156,7 @@ module _ (s : Session) (f : List ℕ) (h : Header) (i : h ≡ headerIn f) (ask :
       no-stamp e = and-last asked (and-last (sym fits ∙ t) (or-holds _ (ap not (sym g ∙ e))))
 
       -- a write reply bears a timestamp, which is compared
-      pub stamp-there : y ≡ true → (h .kind ≡ writeReply → framed (h .version) 40 ≤ length f) → framed (h .version) 40 ≤ length f
+      pub stamp-there : y ≡ true → (h .kind ≡ writeReplyKind → framed (h .version) 40 ≤ length f) → framed (h .version) 40 ≤ length f
       stamp-there e l = l (kind-stored s (h .kind) (sym k ∙ t) (sym g ∙ e))
 
       pub stamp-told : y ≡ true → (at : ℕ) (u : Timestamp) (o : Bool) → at ≡ headBytes (h .version) → u ≡ stampAt f at → framed (h .version) 40 ≤ length f

@@ -20,7 +20,7 @@ use Rattle.terms.specs.Ladder.{Rung, on, first, _and_}
 use Rattle.terms.specs.Terms.{planOk, recordLength, refusalNumber}
 use Rattle.terms.specs.Stamp.{stampNumber}
 use Rattle.terms.specs.declared.Plan.{Plan}
-use Rattle.frame.specs.Frame.{frame, longest, readLatest, readPrevious, writeRequest, timeRequest}
+use Rattle.frame.specs.Frame.{frame, longest, readLatestKind, readPreviousKind, writeRequestKind, timeRequestKind}
 use Rattle.record.specs.Desk.{slotOf}
 use Rattle.rounds.specs.declared.Bound.{Bound}
 use Rattle.rounds.specs.declared.Bound.the-variants.{Free, Under}
@@ -45,14 +45,14 @@ owedLadder p s node d request =
 
 -- "round 1 asks kind 5, later rounds kind 6 with the last candidate's timestamp as bound": it is the bound that tells
 unfoldable pub readRequest : Bound → ℕ → ℕ → List ℕ
-readRequest Free node ask = frame readLatest node ask []
-readRequest (Under u) node ask = frame readPrevious node ask (be 40 (stampNumber u))
+readRequest Free node ask = frame readLatestKind node ask []
+readRequest (Under u) node ask = frame readPreviousKind node ask (be 40 (stampNumber u))
 
 -- a write or repair round sends the node's record, slot number node of the desk; a time round asks kind 1
 unfoldable pub requestOf : Plan → Session → ℕ → List ℕ → List ℕ
 requestOf p s node d =
-    cond (isStoring (s .round .stage)) (frame writeRequest node (askNow s) (slotOf p d node))
-    (cond (isRead (s .operation)) (readRequest (s .round .bound) node (askNow s)) (frame timeRequest node (askNow s) []))
+    cond (isStoring (s .round .stage)) (frame writeRequestKind node (askNow s) (slotOf p d node))
+    (cond (isRead (s .operation)) (readRequest (s .round .bound) node (askNow s)) (frame timeRequestKind node (askNow s) []))
 
 pub data Due : Type 0 where
   refused : ℕ → Due

@@ -17,7 +17,7 @@ use Rattle.terms.specs.Ladder.{Rung, on, _and_, _or_}
 use Rattle.terms.specs.Terms.{planOk, recordLength, refusalNumber}
 use Rattle.terms.specs.Stamp.{stamp, stampNumber}
 use Rattle.terms.specs.declared.Plan.{Plan}
-use Rattle.frame.specs.Frame.{kindOf, frameNode, askOf, bodyOf, goodReply, readReply, framed, versionOf, answersTo, headerIn}
+use Rattle.frame.specs.Frame.{kindOf, frameNode, askOf, bodyOf, goodReply, readReplyKind, framed, versionOf, answersTo, headerIn}
 use Rattle.record.specs.Record.{hashesOk, timeZero}
 use Rattle.rounds.specs.Rounds.{heardAt, underOf}
 use Rattle.session.specs.declared.Session.{Session}
@@ -56,7 +56,7 @@ replyLadder op p s f d item =
 
 -- a read reply with a record, and not the first triple
 unfoldable pub bears : Plan → List ℕ → Bool
-bears p f = eqb (kindOf f) readReply and eqb (length f) (framed (versionOf f) (recordLength p))
+bears p f = eqb (kindOf f) readReplyKind and eqb (length f) (framed (versionOf f) (recordLength p))
 
 abbrev pub recordLadder : Plan → Session → List ℕ → List Rung
 recordLadder p s f =

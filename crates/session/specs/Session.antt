@@ -22,7 +22,7 @@ use Rattle.terms.specs.declared.Ask.{Ask}
 use Rattle.terms.specs.declared.Plan.{Plan}
 use Rattle.terms.specs.declared.Time.{Time}
 use Rattle.terms.specs.declared.Timestamp.{Timestamp}
-use Rattle.frame.specs.Frame.{writeReply, readReply, timeReply}
+use Rattle.frame.specs.Frame.{writeReplyKind, readReplyKind, timeReplyKind}
 use Rattle.rounds.specs.declared.Heard.{Heard}
 use Rattle.rounds.specs.declared.Mark.{Mark}
 use Rattle.rounds.specs.declared.Bound.the-variants.{Under}
@@ -67,7 +67,7 @@ askNow s = cond (isStoring (s .round .stage)) (s .opening .0 + s .round .number)
 
 -- 2 in a time round, 7 in a read round, 4 in a write or repair round
 unfoldable pub awaitsKind : Session → ℕ → Bool
-awaitsKind s k = cond (isStoring (s .round .stage)) (eqb k writeReply) (cond (isRead (s .operation)) (eqb k readReply) (eqb k timeReply))
+awaitsKind s k = cond (isStoring (s .round .stage)) (eqb k writeReplyKind) (cond (isRead (s .operation)) (eqb k readReplyKind) (eqb k timeReplyKind))
 
 -- a round of any kind "ends at N-t replies": it is open while fewer nodes are heard, and else it is over
 abbrev pub roundOpen : Plan → Session → Bool

@@ -23,7 +23,7 @@ ghost use lib.ListN.{length};
 ghost use Rattle.terms.specs.Terms.{planOk, recordLength, slotsOf};
 ghost use lib.Dec.{eqb, leb};
 ghost use Rattle.terms.specs.Ladder.{first, _or_};
-ghost use Rattle.frame.specs.Frame.{writeReply, framed, headerIn};
+ghost use Rattle.frame.specs.Frame.{writeReplyKind, framed, headerIn};
 ghost use Rattle.rounds.specs.Rounds.{noneFirst, slotsFit};
 ghost use Rattle.session.specs.Session.{isRead, isAsking, isStoring, isEnded, readRound, askNow, awaitsKind, roundOpen, markedOf, endedOf, nextOf, storingOf};
 ghost use Rattle.session.specs.Ranges.{boundOk, standingRules, openRules, inRange};
@@ -391,7 +391,7 @@ impl Session {
     // Refusal 10: whether ask number, kind and write timestamp are the ones awaited.
     fn awaits(self, h: Header, frame: &[u8]) -> bool
         requires { ⌜ (1 ≤ self .round .number) × (self .opening .0 + self .round .number ≤ 18446744073709551615) × (h ≡ headerIn (now frame))
-            × (h .kind ≡ writeReply → framed (h .version) 40 ≤ length (now frame)) ⌝ }
+            × (h .kind ≡ writeReplyKind → framed (h .version) 40 ≤ length (now frame)) ⌝ }
         ensures { λ r. ⌜ r ≡ awaited self (now (frame .entry)) ⌝ }
     {
         let ask = self.asked();
@@ -422,7 +422,7 @@ impl Session {
     // What a good reply is refused for: 10, 11.
     fn check_awaited(self, h: Header, frame: &[u8]) -> Check
         requires { ⌜ (1 ≤ self .round .number) × (self .opening .0 + self .round .number ≤ 18446744073709551615) × (h ≡ headerIn (now frame))
-            × (h .kind ≡ writeReply → framed (h .version) 40 ≤ length (now frame)) × (h .node < 16) ⌝ }
+            × (h .kind ≡ writeReplyKind → framed (h .version) 40 ≤ length (now frame)) × (h .node < 16) ⌝ }
         ensures { λ r. ⌜ checkNumber r ≡ first (awaitedLadder self (now (frame .entry))) (λ k. k) 0 ⌝ }
     {
         if !self.awaits(h, frame) {

@@ -23,7 +23,7 @@ use Rattle.terms.specs.declared.Member.the-variants.{Repairable}
 use Rattle.terms.specs.declared.Clients.the-variants.{Byzantine}
 use Rattle.terms.proofs.Rungs.{both}
 use Rattle.terms.proofs.Small.{small, small-octets}
-use Rattle.frame.specs.Frame.{kindOf, frameNode, bodyOf, frame, goodRequest, bodyFits, forParty, oneOf, headerIn, longest, writeRequest, timeRequest, headerOf, framed}
+use Rattle.frame.specs.Frame.{kindOf, frameNode, bodyOf, frame, goodRequest, bodyFits, forParty, oneOf, headerIn, longest, writeRequestKind, timeRequestKind, headerOf, framed}
 use Rattle.frame.specs.declared.Party.the-variants.{Node}
 use Rattle.frame.proofs.Frames as frames
 use Rattle.frame.proofs.Built as built
@@ -101,7 +101,7 @@ pub record-of : ℕ → List ℕ
 record-of t = be 8 t ++ (sha256 cross ++ (cross ++ fragment))
 
 pub request : ℕ → List ℕ
-request t = frame writeRequest 0 5 (record-of t)
+request t = frame writeRequestKind 0 5 (record-of t)
 
 length-record : (t : ℕ) → length (record-of t) ≡ 73
 unfolding record-of cross fragment
@@ -137,17 +137,17 @@ module _ (t : ℕ) (low : 0 < t) (high : t < 256) where
   unfolding hashesOk fragmentHash prefixOf plan
   hashes = rw (cross-is, verifier-is, fragment-is, entry-is, alike-refl (sha256 cross)) (alike-refl (sha256 fragment))
 
-  kind-is : kindOf (request t) ≡ writeRequest
+  kind-is : kindOf (request t) ≡ writeRequestKind
   unfolding request
-  kind-is = built.kind-frame (headerOf writeRequest 0 5) (record-of t) (omega arith)
+  kind-is = built.kind-frame (headerOf writeRequestKind 0 5) (record-of t) (omega arith)
 
   node-is : frameNode (request t) ≡ 0
   unfolding request
-  node-is = built.node-frame (headerOf writeRequest 0 5) (record-of t) (omega arith)
+  node-is = built.node-frame (headerOf writeRequestKind 0 5) (record-of t) (omega arith)
 
   pub body-is : bodyOf (request t) ≡ record-of t
   unfolding request
-  body-is = built.body-frame (headerOf writeRequest 0 5) (record-of t)
+  body-is = built.body-frame (headerOf writeRequestKind 0 5) (record-of t)
 
   good : goodRequest plan 0 (request t) ≡ true
   unfolding request forParty oneOf bodyFits
@@ -155,19 +155,19 @@ module _ (t : ℕ) (low : 0 < t) (high : t < 256) where
       let l = length-record t in
       let fits : bodyFits plan 3 (length (record-of t)) ≡ true = eq-eqb _ _ (l ∙ sym r-is) in
       frames.request-back plan 0 (request t)
-      (record { frame-is = built.built-good (headerOf writeRequest 0 5) (record-of t) Node plan refl (omega arith) (omega arith) refl fits; node-is = node-is })
+      (record { frame-is = built.built-good (headerOf writeRequestKind 0 5) (record-of t) Node plan refl (omega arith) (omega arith) refl fits; node-is = node-is })
 
   timed-so : timeFails (headerIn (request t)) (bodyOf (request t)) ≡ false
   unfolding timeFails timeZero
-  timed-so = rw (eq-eqb (kindOf (request t)) writeRequest kind-is, body-is, time-is) (ne-eqb t 0 (λ z. omega arith))
+  timed-so = rw (eq-eqb (kindOf (request t)) writeRequestKind kind-is, body-is, time-is) (ne-eqb t 0 (λ z. omega arith))
 
   hashed-so : hashFails plan (headerIn (request t)) (bodyOf (request t)) ≡ false
   unfolding hashFails
-  hashed-so = rw (eq-eqb (kindOf (request t)) writeRequest kind-is, node-is, body-is) (ap not hashes)
+  hashed-so = rw (eq-eqb (kindOf (request t)) writeRequestKind kind-is, node-is, body-is) (ap not hashes)
 
   pub passing : passes plan 0 (request t) ≡ true
   passing =
-      one.pass-back plan 0 (request t) (record { frame = good; kind = eq-eqb (kindOf (request t)) writeRequest kind-is; time = timed-so; hash = hashed-so })
+      one.pass-back plan 0 (request t) (record { frame = good; kind = eq-eqb (kindOf (request t)) writeRequestKind kind-is; time = timed-so; hash = hashed-so })
 
   stamp-is : stamp (record-of t) ≡ t * 256 ^ 32 + num (sha256 cross)
   unfolding record-of
@@ -297,9 +297,9 @@ alone x = let a = kept-most (x ∷ []) [] in omega arith
 reply-length : answered plan (headerIn (request 1)) (bodyOf (request 1)) book (zeros 88) .answer ≡ replied (framed 1 40)
 unfolding answered sends replyTo
 reply-length =
-    let k : kindOf (request 1) ≡ writeRequest = kind-is 1 (omega arith) (omega arith) in
+    let k : kindOf (request 1) ≡ writeRequestKind = kind-is 1 (omega arith) (omega arith) in
     let l : length (bodyOf (request 1)) ≡ 73 = ap length (body-is 1 (omega arith) (omega arith)) ∙ length-record 1 in
-    rw (ne-eqb (kindOf (request 1)) timeRequest (λ z. omega arith), eq-eqb (kindOf (request 1)) writeRequest k)
+    rw (ne-eqb (kindOf (request 1)) timeRequestKind (λ z. omega arith), eq-eqb (kindOf (request 1)) writeRequestKind k)
     (ap (λ (n : ℕ). replied (framed 1 n)) (length-part (bodyOf (request 1)) 0 40 (omega arith)))
 
 pub left : ServedOutcome
@@ -325,7 +325,7 @@ pub stored : Among (bodyOf (request 1)) (recordsOf plan (left .book))
 stored =
     keeps.stored-for-good plan (request 1) book (zeros 88) (framed 1 40) (left .book) (left .reply) [] (one.is-good fresh)
     (small-octets book book-small) acknowledged
-    (eq-eqb (kindOf (request 1)) writeRequest (kind-is 1 (omega arith) (omega arith))) tt
+    (eq-eqb (kindOf (request 1)) writeRequestKind (kind-is 1 (omega arith) (omega arith))) tt
 
 -- ---- a call that is refused
 pub off-plan : Plan

@@ -19,7 +19,7 @@ use Rattle.terms.specs.declared.Plan.{Plan}
 use Rattle.terms.proofs.Rungs as rungs
 use Rattle.terms.proofs.Rungs.{both, clash}
 use Rattle.terms.proofs.Small.{strict}
-use Rattle.frame.specs.Frame.{kindOf, bodyOf, goodRequest, headerIn, longest, writeRequest}
+use Rattle.frame.specs.Frame.{kindOf, bodyOf, goodRequest, headerIn, longest, writeRequestKind}
 use Rattle.frame.proofs.Frames as frames
 use Rattle.record.specs.Record.{timeZero}
 use Rattle.book.specs.Records.{rising, some, holds, holdsOther, insertRecord, timed, kept}
@@ -174,7 +174,7 @@ module _ {p : Plan} {node : ℕ} {old b : List ℕ} {rs : List (List ℕ)} (i : 
     q : PassIs p node f
     q = pass-is p node f e
 
-    k3 : kindOf f ≡ writeRequest
+    k3 : kindOf f ≡ writeRequestKind
     k3 = eqb-true _ _ (q .kind)
 
     rec-length : length (bodyOf f) ≡ recordLength p

@@ -30,7 +30,7 @@ use Rattle.terms.specs.declared.Member.the-variants.{Repairable}
 use Rattle.terms.specs.declared.Clients.the-variants.{Byzantine}
 use Rattle.field.specs.Field.{xtime, mulN, mul, square, sumPow, inv, div}
 use Rattle.fragments.specs.Fragments.{among, from, fragment, laid, tabulate, ratio, weightOf, blend, value, regenerated}
-use Rattle.frame.specs.Frame.{frame, askOf, shaped, bodyFits, oneOf, forParty, goodFrame, goodReply, writeReply, readReply as readKind, suits}
+use Rattle.frame.specs.Frame.{frame, askOf, shaped, bodyFits, oneOf, forParty, goodFrame, goodReply, writeReplyKind, readReplyKind, suits}
 use Rattle.record.specs.Record.{fragmentHash, hashesOk, timeZero, prefixOf}
 use Rattle.record.specs.Desk.{slotOf, row, crossMade, deskOf, stampMade}
 use Rattle.rounds.specs.declared.Bound.the-variants.{Free}
@@ -124,22 +124,22 @@ abbrev pub turn : List ℕ → Answer → Session → List ℕ → List ℕ → 
 turn f a s d i = record { reply = f; item = 0 ∷ []; took = record { answer = a; session = s }; deskLeft = d; itemLeft = i }
 
 unfoldable pub reply-1 : List ℕ
-reply-1 = frame readKind 0 5 poor
+reply-1 = frame readReplyKind 0 5 poor
 
 unfoldable pub reply-2 : List ℕ
-reply-2 = frame readKind 1 5 []
+reply-2 = frame readReplyKind 1 5 []
 
 unfoldable pub reply-3 : List ℕ
-reply-3 = frame readKind 0 6 good
+reply-3 = frame readReplyKind 0 6 good
 
 unfoldable pub reply-4 : List ℕ
-reply-4 = frame readKind 1 6 []
+reply-4 = frame readReplyKind 1 6 []
 
 unfoldable pub reply-5 : List ℕ
-reply-5 = frame writeReply 1 7 stamp-bytes
+reply-5 = frame writeReplyKind 1 7 stamp-bytes
 
 unfoldable pub reply-6 : List ℕ
-reply-6 = frame writeReply 2 7 stamp-bytes
+reply-6 = frame writeReplyKind 2 7 stamp-bytes
 
 abbrev pub call-1 : Turn
 call-1 = turn reply-1 Open first-heard desk-poor (0 ∷ [])
@@ -281,7 +281,7 @@ rested-so =
 
 -- ---- node 2 answers round 1 late, when round 2 has heard node 0: refused 10
 unfoldable pub late : List ℕ
-late = frame readKind 2 5 []
+late = frame readReplyKind 2 5 []
 
 late-met : ReadReplyCall plan second-heard late desk-good (0 ∷ []) (record { answer = Refused NotAwaited; session = second-heard }) desk-good (0 ∷ [])
 unfolding late hash stamp-bytes good desk-good plan readReply first planOk countsOk limitsOk columnOf all recordLength lengthsOk inRange standingRules openRules heardCount every

@@ -23,7 +23,7 @@ use Rattle.terms.specs.declared.Member.the-variants.{Repairable}
 use Rattle.terms.specs.declared.Clients.the-variants.{Byzantine}
 use Rattle.terms.proofs.Picks.{neither}
 use Rattle.fragments.specs.Fragments.{fragment}
-use Rattle.frame.specs.Frame.{kindOf, frameNode, askOf, bodyOf, frame, goodReply, bodyFits, forParty, oneOf, headerOf, readReply}
+use Rattle.frame.specs.Frame.{kindOf, frameNode, askOf, bodyOf, frame, goodReply, bodyFits, forParty, oneOf, headerOf, readReplyKind}
 use Rattle.frame.specs.declared.Party.the-variants.{Client}
 use Rattle.frame.proofs.Frames.{reply-back}
 use Rattle.frame.proofs.Built as built
@@ -91,29 +91,29 @@ ready =
 
 -- ---- a reply of a node: the first triple, or a record
 pub reply : ℕ → List ℕ → List ℕ
-reply node body = frame readReply node 5 body
+reply node body = frame readReplyKind node 5 body
 
 module _ (node : ℕ) (body : List ℕ) (low : node < 2) (fits : bodyFits plan 7 (length body) ≡ true) (short : length body ≤ 105) where
   node-is : frameNode (reply node body) ≡ node
   unfolding reply
-  node-is = built.node-frame (headerOf readReply node 5) body (omega arith)
+  node-is = built.node-frame (headerOf readReplyKind node 5) body (omega arith)
 
   body-is : bodyOf (reply node body) ≡ body
   unfolding reply
-  body-is = built.body-frame (headerOf readReply node 5) body
+  body-is = built.body-frame (headerOf readReplyKind node 5) body
 
   good : goodReply plan (reply node body) ≡ true
   unfolding reply forParty oneOf plan
   good =
       reply-back plan (reply node body)
-      (record { frame-is = built.built-good (headerOf readReply node 5) body Client plan refl (omega arith) (omega arith) refl fits; node-low = rw node-is low })
+      (record { frame-is = built.built-good (headerOf readReplyKind node 5) body Client plan refl (omega arith) (omega arith) refl fits; node-low = rw node-is low })
 
   awaits : awaited session (reply node body) ≡ true
   unfolding reply session ask awaited askNow awaitsKind
   awaits =
       rw (
-        eq-eqb (askOf (reply node body)) 5 (built.ask-frame (headerOf readReply node 5) body (omega arith)),
-        eq-eqb (kindOf (reply node body)) readReply (built.kind-frame (headerOf readReply node 5) body (omega arith)),
+        eq-eqb (askOf (reply node body)) 5 (built.ask-frame (headerOf readReplyKind node 5) body (omega arith)),
+        eq-eqb (kindOf (reply node body)) readReplyKind (built.kind-frame (headerOf readReplyKind node 5) body (omega arith)),
       )
 
   below : (t : Bool) → (t and not (underOf (session .round .bound) (stamp (bodyOf (reply node body))))) ≡ false

@@ -17,7 +17,7 @@ use Rattle.terms.specs.Stamp.{then, stampAt, stampNumber}
 use Rattle.terms.specs.Terms.{planOk, countsOk, limitsOk, columnOf, recordLength, classOf, decided}
 use Rattle.field.specs.Field.{xtime, mulN, mul, square, sumPow, inv, div}
 use Rattle.fragments.specs.Fragments.{All, among, fragment, laid, tabulate, ratio, weightOf, blend, value, regenerated}
-use Rattle.frame.specs.Frame.{frame, shaped, bodyFits, oneOf, forParty, goodFrame, goodReply, readReply as readKind, suits}
+use Rattle.frame.specs.Frame.{frame, shaped, bodyFits, oneOf, forParty, goodFrame, goodReply, readReplyKind, suits}
 use Rattle.record.specs.Record.{stampOf, crossOf, fragmentOf, fragmentHash, hashesOk, timeZero, prefixOf}
 use Rattle.record.specs.Desk.{slotOf, row, crossMade, stampMade}
 use Rattle.rounds.specs.declared.Heard.the-variants.{Record}
@@ -38,7 +38,7 @@ use Rattle.client.proofs.Instances.Read.{plan, hash, stamp-bytes, good,
 use Rattle.client.specs.SameStamp.{Bears}
 
 unfoldable pub second-reply : List ℕ
-second-reply = frame readKind 1 5 good
+second-reply = frame readReplyKind 1 5 good
 
 unfoldable pub desk-two : List ℕ
 desk-two = good ++ (good ++ replicate 137 0)

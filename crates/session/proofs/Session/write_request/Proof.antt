@@ -6,7 +6,7 @@ use native.Mathlib.Omega.{arith}
 use Rattle.octets.specs.Bytes.{part}
 use Rattle.octets.proofs.Laws.{slot-fits}
 use Rattle.terms.proofs.Plans.{plan-is}
-use Rattle.frame.specs.Frame.{writeRequest, timeRequest, headerOf}
+use Rattle.frame.specs.Frame.{writeRequestKind, timeRequestKind, headerOf}
 use Rattle.frame.proofs.Built as built
 use Rattle.session.proofs.Known.{known-owed}
 use Rattle.session.proofs.Oweds as laws
@@ -59,7 +59,7 @@ write-request-spec =
     let o = known-owed (args .p) (args .self) (args .node) (args .desk .now) (length (args .request .now)) pre in
     let r = record-length .result in
     let e = record-length .ensures .0 in
-    laws.sent _ (headerOf writeRequest (args .node) (asked .result .0)) (part (args .desk .now) (args .node * r) r) _ _ _
+    laws.sent _ (headerOf writeRequestKind (args .node) (asked .result .0)) (part (args .desk .now) (args .node * r) r) _ _ _
     (laws.stores _ _ _ _ _ (asked .ensures) _ (storing .ensures) (if1 .taken) _ e) with-part)
     (λ c κs. search needs)
     (λ c κs.
@@ -99,5 +99,5 @@ write-request-spec =
     let storing = c .before .before .before .before .before .before .before .before .storing in
     let asked = c .before .before .before .before .before .before .before .before .before .before .asked in
     let args = c .before .before .before .before .before .before .before .before .before .before .before .before .before .args in
-    laws.sent _ (headerOf timeRequest (args .node) (asked .result .0)) [] _ _ _
+    laws.sent _ (headerOf timeRequestKind (args .node) (asked .result .0)) [] _ _ _
     (laws.asks-time (args .p) (args .self) _ _ _ (asked .ensures) _ (storing .ensures) (if1 .left) _ (reads .ensures) (if2 .left)) bare))

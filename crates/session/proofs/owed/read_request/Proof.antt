@@ -1,7 +1,7 @@
 use mathlib.Core.List.{[]}
 use Rattle.octets.specs.Bytes.{be}
 use Rattle.terms.specs.Stamp.{stampNumber}
-use Rattle.frame.specs.Frame.{readLatest, readPrevious, headerOf}
+use Rattle.frame.specs.Frame.{readLatestKind, readPreviousKind, headerOf}
 use Rattle.session.proofs.Oweds as laws
 use borrow.Author.Needs.{needs}
 use Rattle.session.proofs.owed.read_request.Statement.{statement}
@@ -23,11 +23,11 @@ read-request-spec =
     let latest = c .before .before .latest in
     let enum-told = c .before .before .before .before .enum-told in
     let args = c .before .before .before .before .before .before .before .args in
-    laws.sent _ (headerOf readLatest (args .node) (args .ask .0)) [] _ _ _ (laws.read-latest _ _ _ (enum-told .given .1)) (latest .ensures))
+    laws.sent _ (headerOf readLatestKind (args .node) (args .ask .0)) [] _ _ _ (laws.read-latest _ _ _ (enum-told .given .1)) (latest .ensures))
     (λ c. search needs)
     (λ c.
     let previous = c .before .before .previous in
     let b = c .before .before .before .before .before .b in
     let args = c .before .before .before .before .before .before .before .before .args in
-    laws.sent _ (headerOf readPrevious (args .node) (args .ask .0)) (be 40 (stampNumber (b .given .0 .0))) _ _ _ (laws.read-previous _ _ _ _ (b .given .1))
+    laws.sent _ (headerOf readPreviousKind (args .node) (args .ask .0)) (be 40 (stampNumber (b .given .0 .0))) _ _ _ (laws.read-previous _ _ _ _ (b .given .1))
     (previous .ensures)))

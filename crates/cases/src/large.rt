@@ -44,7 +44,8 @@ fn request(time: u8) -> [u8; 1591]
     let mut cross = [0u8; 512];
     let mut request = [0u8; 1591];
     records(packing::plan_of(&plan), time as u64, &mut desk, &mut cross);
-    frame::with_part(&mut request, 3, 3, Ask(9), &desk, 4728, 1576);
+    let h = frame::asking(frame::WRITE_REQUEST, 3, Ask(9));
+    frame::with_part(&mut request, h, &desk, 4728, 1576);
     request
 }
 

@@ -177,7 +177,8 @@ pub fn previous(w: World, ask: u64) -> World {
     };
     let mut request = [0u8; 55];
     let reply = [BLANK; 219];
-    frame::with_stamp(&mut request, 6, 3, Ask(ask), bound);
+    let h = frame::asking(frame::READ_PREVIOUS, 3, Ask(ask));
+    frame::with_stamp(&mut request, h, bound);
     laid(laid(w, REQUEST, &request), REPLY, &reply)
 }
 
@@ -187,7 +188,8 @@ pub fn time_reply(w: World, time: u64) -> World {
     let node = heard(s);
     let ask = number_at(s, OPENING, 8);
     let mut reply = [0u8; 23];
-    frame::with_time(&mut reply, 2, node, Ask(ask), Time(time));
+    let h = frame::asking(frame::TIME_REPLY, node, Ask(ask));
+    frame::with_time(&mut reply, h, Time(time));
     laid(w, REPLY, &reply)
 }
 

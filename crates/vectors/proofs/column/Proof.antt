@@ -8,6 +8,9 @@ use borrow.Author.Needs.{needs}
 use Rattle.vectors.proofs.column.Statement.{statement}
 use Rattle.vectors.proofs.column.Tie as tie
 
+slots-fit : (n : ℕ) → n ≡ 5 → (k : ℕ) → k < 5 → 0 + k * 1 + 1 ≤ n
+slots-fit n l k h = omega arith
+
 sources-fit : (n : ℕ) → n ≡ 5 → (k : ℕ) → k < 2 → 0 + getD (3 ∷ 4 ∷ []) k 0 * 1 + 1 ≤ n
 sources-fit n l zero h = omega arith
 sources-fit n l (suc zero) h = omega arith
@@ -17,23 +20,13 @@ pub column-spec : {M : Type 1} → statement M
 column-spec =
     tie.close
     (tie.spec
-    (λ c. search needs)
-    (λ c. search needs)
-    (λ c κs. search needs)
-    (λ c. search needs)
-    (λ c. search needs)
-    (λ c. search needs)
-    (λ c κs. (λ k h. sources-fit _ (search needs) k h, search needs, search needs))
-    (λ c. search needs)
-    (λ c κs. search needs)
-    (λ c. search needs)
-    (λ c κs. search needs)
-    (λ c κs. search needs)
-    (λ c. search needs)
-    (λ c κs. search needs)
-    (λ c. search needs)
-    (λ c κs. search needs)
-    (λ c κs. search needs)
-    (λ c. search needs)
-    (λ c κs. search needs)
+    (λ c κs. search needs) (λ c. search needs) (λ c. search needs)
+    (λ c κs. rw (c .before .before .runs-of .ensures) (search needs, omega arith, omega arith, λ k h. slots-fit _ (search needs) k h))
+    (λ c. search needs) (λ c. search needs) (λ c. search needs)
+    (λ c κs. rw (c .before .before .before .before .before .before .before .runs-of .ensures) (λ k h. sources-fit _ (search needs) k h, omega arith, search needs))
+    (λ c. search needs) (λ c κs. search needs)
+    (λ c. search needs) (λ c κs. search needs) (λ c κs. search needs)
+    (λ c. search needs) (λ c κs. search needs)
+    (λ c. search needs) (λ c κs. search needs) (λ c κs. search needs)
+    (λ c. search needs) (λ c κs. search needs)
     (λ c. search needs))

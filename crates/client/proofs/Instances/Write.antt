@@ -17,7 +17,7 @@ use Rattle.terms.specs.Ladder.{first, all}
 use Rattle.terms.specs.Stamp.{then, stampAt, stampNumber}
 use Rattle.terms.specs.Terms.{planOk, countsOk, limitsOk, columnOf, recordLength}
 use Rattle.terms.specs.declared.Refusal.the-variants.{NotAwaited}
-use Rattle.frame.specs.Frame.{frame, askOf, shaped, bodyFits, oneOf, forParty, goodFrame, goodReply, timeReplyKind, writeReply as writeKind, suits}
+use Rattle.frame.specs.Frame.{frame, askOf, shaped, bodyFits, oneOf, forParty, goodFrame, goodReply, timeReplyKind, writeReplyKind, suits}
 use Rattle.rounds.specs.declared.Bound.the-variants.{Free}
 use Rattle.rounds.specs.declared.Heard.the-variants.{Record}
 use Rattle.rounds.specs.Rounds.{heardCount, every}
@@ -62,7 +62,7 @@ unfoldable pub time-reply : ℕ → List ℕ
 time-reply node = frame timeReplyKind node 5 (replicate 8 0)
 
 unfoldable pub write-reply : ℕ → List ℕ
-write-reply node = frame writeKind node 6 stamp-bytes
+write-reply node = frame writeReplyKind node 6 stamp-bytes
 
 abbrev pub turn : List ℕ → Answer → Session → List ℕ → Turn
 turn f a s d = record { reply = f; item = 7 ∷ []; took = record { answer = a; session = s }; deskLeft = d; itemLeft = 7 ∷ [] }

@@ -19,7 +19,7 @@ use Rattle.terms.specs.declared.Plan.{Plan}
 use Rattle.terms.specs.declared.Member.the-variants.{Repairable}
 use Rattle.terms.specs.declared.Clients.the-variants.{Byzantine}
 use Rattle.fragments.specs.Fragments.{among, regenerated}
-use Rattle.frame.specs.Frame.{kindOf, frame, goodRequest, shaped, bodyFits, forParty, oneOf, goodFrame, goodReply}
+use Rattle.frame.specs.Frame.{timeReplyKind, writeRequestKind, readReplyKind, kindOf, frame, goodRequest, shaped, bodyFits, forParty, oneOf, suits, goodFrame, goodReply}
 use Rattle.record.specs.Record.{fragmentHash, hashesOk, timeZero, prefixOf}
 use Rattle.record.specs.Desk.{row, crossMade}
 use Rattle.rounds.specs.declared.Bound.the-variants.{Free}
@@ -87,7 +87,7 @@ unfolding opened openWith first planOk countsOk limitsOk columnOf all
 opens = record { is = refl }
 
 reply : List ℕ
-reply = frame 7 0 5 rec
+reply = frame readReplyKind 0 5 rec
 
 reply-small : small reply ≡ true
 unfolding reply rec small be beOnto
@@ -104,7 +104,7 @@ left : Outcome
 left = readReply plan start reply desk (0 ∷ [])
 
 said-is : left .said ≡ done (stampNumber (stampAt rec 0)) 1
-unfolding left reply desk rec readReply first planOk countsOk limitsOk columnOf all recordLength lengthsOk inRange standingRules openRules every heardCount slotsFit slotFits goodReply goodFrame shaped forParty oneOf bodyFits awaited askNow awaitsKind isHeard bears accepted heard settled closeWith leadOf stepOf aheadOf slotStamp joinsOf setOf actFor actOn sound validates decided classOf among regenerated fragmentHash prefixOf row crossMade hashesOk underOf num numFrom part put be beOnto alike timeZero stampAt stampNumber then sha256 after compressOf addedOf roundsOf roundOf T1 T2 scheduleOf words padding bigEndian K
+unfolding left reply desk rec readReply first planOk countsOk limitsOk columnOf all recordLength lengthsOk inRange standingRules openRules every heardCount slotsFit slotFits goodReply goodFrame suits shaped forParty oneOf bodyFits awaited askNow awaitsKind isHeard bears accepted heard settled closeWith leadOf stepOf aheadOf slotStamp joinsOf setOf actFor actOn sound validates decided classOf among regenerated fragmentHash prefixOf row crossMade hashesOk underOf num numFrom part put be beOnto alike timeZero stampAt stampNumber then sha256 after compressOf addedOf roundsOf roundOf T1 T2 scheduleOf words padding bigEndian K
 said-is = refl
 
 pub call : turns.Turn
@@ -127,7 +127,7 @@ unfolding heard-one READ DO-READ receives VALIDATE figure1.VALIDATE in-time has 
 gathered-one = refl
 
 closed-one : polls plan start reply desk 1 unpolled ≡ record { rounds = (heard-one ∷ []) ∷ []; now = []; stored = [] }
-unfolding polls noneOf heard-one reply desk rec planOk countsOk limitsOk columnOf all recordLength lengthsOk inRange standingRules openRules every heardCount slotsFit slotFits goodReply goodFrame shaped forParty oneOf bodyFits awaited askNow awaitsKind isHeard bears timeZero num numFrom part put be beOnto
+unfolding polls noneOf heard-one reply desk rec planOk countsOk limitsOk columnOf all recordLength lengthsOk inRange standingRules openRules every heardCount slotsFit slotFits goodReply goodFrame suits shaped forParty oneOf bodyFits awaited askNow awaitsKind isHeard bears timeZero num numFrom part put be beOnto
 closed-one = ap (λ (l : List Message). cond (ltb (length l) 1) (record { rounds = []; now = heard-one ∷ []; stored = [] }) (record { rounds = (heard-one ∷ []) ∷ []; now = []; stored = [] })) gathered-one
 
 one-apart : (m : Message) → Apart (m ∷ [])
@@ -153,7 +153,7 @@ unfolding opened-to-write openWith first planOk countsOk limitsOk columnOf all
 opens-to-write = record { is = refl }
 
 time-reply : List ℕ
-time-reply = frame 2 0 5 (be 8 3)
+time-reply = frame timeReplyKind 0 5 (be 8 3)
 
 time-small : small time-reply ≡ true
 unfolding time-reply small be beOnto
@@ -163,7 +163,7 @@ pub after-time : Leaves
 after-time = writeReply plan start-to-write time-reply desk (7 ∷ [])
 
 still-is : after-time .said ≡ stillOpen
-unfolding after-time time-reply desk writeReply acceptedWrite timeTurn timeEnd first planOk countsOk limitsOk columnOf all recordLength lengthsOk inRange standingRules openRules every heardCount slotsFit slotFits goodReply goodFrame shaped forParty oneOf bodyFits awaited askNow awaitsKind isHeard num numFrom part be beOnto
+unfolding after-time time-reply desk writeReply acceptedWrite timeTurn timeEnd first planOk countsOk limitsOk columnOf all recordLength lengthsOk inRange standingRules openRules every heardCount slotsFit slotFits goodReply goodFrame suits shaped forParty oneOf bodyFits awaited askNow awaitsKind isHeard num numFrom part be beOnto
 still-is = refl
 
 pub write-call : turns.Turn
@@ -185,7 +185,7 @@ write-so = opened-write plan ask opened-to-write desk (write-call ∷ []) opens-
 
 -- and its write round is open
 storing-is : after-time .session .round .stage ≡ Storing
-unfolding after-time time-reply desk writeReply acceptedWrite timeTurn timeEnd first planOk countsOk limitsOk columnOf all recordLength lengthsOk inRange standingRules openRules every heardCount slotsFit slotFits goodReply goodFrame shaped forParty oneOf bodyFits awaited askNow awaitsKind isHeard num numFrom part be beOnto
+unfolding after-time time-reply desk writeReply acceptedWrite timeTurn timeEnd first planOk countsOk limitsOk columnOf all recordLength lengthsOk inRange standingRules openRules every heardCount slotsFit slotFits goodReply goodFrame suits shaped forParty oneOf bodyFits awaited askNow awaitsKind isHeard num numFrom part be beOnto
 storing-is = refl
 
 -- ---- a node
@@ -197,7 +197,7 @@ unfolding book small over laidAs header joined recordLength be beOnto
 book-small = refl
 
 pub request : List ℕ
-request = frame 3 0 5 rec
+request = frame writeRequestKind 0 5 rec
 
 request-small : small request ≡ true
 unfolding request rec small be beOnto
@@ -207,7 +207,7 @@ pub taken : node.ServedOutcome
 taken = served plan request book (replicate 88 0)
 
 replied-is : taken .answer ≡ replied 55
-unfolding taken request book rec served first planOk countsOk limitsOk columnOf all recordLength node.bookReplyOk goodBook headed filled rising timed recordsFrom goodRequest goodFrame shaped forParty oneOf bodyFits timeFails hashFails otherHeld noRoom some fragmentHash prefixOf hashesOk timeZero answered sends replyTo over laidAs header joined num numFrom part be beOnto alike sha256 after compressOf addedOf roundsOf roundOf T1 T2 scheduleOf words padding bigEndian K
+unfolding taken request book rec served first planOk countsOk limitsOk columnOf all recordLength node.bookReplyOk goodBook headed filled rising timed recordsFrom goodRequest goodFrame suits shaped forParty oneOf bodyFits timeFails hashFails otherHeld noRoom some fragmentHash prefixOf hashesOk timeZero answered sends replyTo over laidAs header joined num numFrom part be beOnto alike sha256 after compressOf addedOf roundsOf roundOf T1 T2 scheduleOf words padding bigEndian K
 replied-is = refl
 
 node-met : NodeCall plan request book (replicate 88 0) (Replied 55) (taken .book) (taken .reply)

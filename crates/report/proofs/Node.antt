@@ -3,7 +3,7 @@
 -- nothing (refused-acts), and so does one that VALIDATE turns away (invalid-acts); one that it lets through is executed unless one of the
 -- conditions that document 01 adds stands against it (valid-acts). Over any calls the History is the one that Figure 1 holds (node-run,
 -- fresh-run). Assumes nothing.
-use Prim.Native.Nat.{ℕ, zero, suc, _+_, _*_, _≤_}
+use Prim.Native.Nat.{_-_, ℕ, zero, suc, _+_, _*_, _≤_}
 use Prim.{tt}
 use mathlib.Core.Path.{_≡_, refl, sym, ap, _∙_, subst}
 use mathlib.Core.Bool.{Bool, true, false, cond, not}
@@ -26,7 +26,7 @@ use Rattle.terms.specs.declared.Plan.{Plan}
 use Rattle.terms.specs.declared.Refusal.{Refusal}
 use Rattle.terms.proofs.Small.{strict}
 use Rattle.frame.specs.Frame.{timeRequestKind, timeReplyKind, writeRequestKind, readLatestKind, readPreviousKind, headBytes, versionOf, headerIn, kindOf, frameNode, bodyOf, frameOf, replying, goodRequest}
-use Rattle.frame.proofs.Frames.{request-is}
+use Rattle.frame.proofs.Frames.{request-is, bytes-3}
 use Rattle.record.specs.Record.{hashesOk, timeZero}
 use Rattle.terms.proofs.Places.{record-length}
 use Rattle.book.specs.Records.{lastOf, lastBelow, holds, kept, timed, rising}
@@ -115,7 +115,10 @@ module _ (p : Plan) where
 module _ (p : Plan) (f b y : List ℕ) (ob : Octets b) (of : Octets f) where
   -- a request to write: VALIDATE is the condition of refusal 6
   write-body : goodRequest p (nodeOf b) f ≡ true → kindOf f ≡ writeRequestKind → 40 ≤ length (bodyOf f)
-  write-body r k = let l = nodes.write-length p (nodeOf b) f r k in simp length-drop (omega (arith, record-length p))
+  write-body r k =
+      let q = request-is p (nodeOf b) f r .frame-is in
+      let l = bytes-3 p (kindOf f) (length f - headBytes (versionOf f)) (q .fits) k in
+      simp length-drop (omega (arith, l, record-length p))
 
   validates : goodRequest p (nodeOf b) f ≡ true → kindOf f ≡ writeRequestKind → not (VALIDATE (family p) (nodeOf b) (tripleOf p (bodyOf f))) ≡ hashFails p (headerIn f) (bodyOf f)
   unfolding hashFails

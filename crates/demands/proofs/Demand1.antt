@@ -14,7 +14,7 @@ use Rattle.octets.specs.Bytes.{over}
 use Rattle.terms.specs.declared.Ask.{Ask}
 use Rattle.terms.specs.declared.Plan.{Plan}
 use Rattle.book.specs.Book.{laidOut}
-use Rattle.frame.specs.Frame.{frameNode}
+use Rattle.frame.specs.Frame.{headerIn, frameNode, bodyOf}
 use Rattle.rounds.specs.declared.Heard.the-variants.{Record}
 use Rattle.rounds.specs.declared.Bound.the-variants.{Free}
 use Rattle.node.specs.declared.Answer.{Answer}
@@ -46,13 +46,13 @@ use Rattle.demands.specs.Ends.{Ends, refuses, accepts}
 -- ---- the node: order 1 to 8; a reply frame of some length, or nothing but the refusal
 pub node-ends : (p : Plan) (f b y : List ℕ) (a : Answer) (b₂ y₂ : List ℕ) → NodeCall p f b y a b₂ y₂
     → Ends (nodeLadder p f b y) (λ (k : ℕ). (node.saidServed a ≡ node.refused k) × (b₂ ≡ b) × (y₂ ≡ y))
-    (node.servedOutcome (node.saidServed a) b₂ y₂ ≡ answered p f b y)
+    (node.servedOutcome (node.saidServed a) b₂ y₂ ≡ answered p (headerIn f) (bodyOf f) b y)
 unfolding served
 node-ends p f b y a b₂ y₂ c =
     ladders.by-ladder
     (λ (o : node.ServedOutcome). node.servedOutcome (node.saidServed a) b₂ y₂ ≡ o
-    → Ends (nodeLadder p f b y) (λ (k : ℕ). (node.saidServed a ≡ node.refused k) × (b₂ ≡ b) × (y₂ ≡ y)) (node.servedOutcome (node.saidServed a) b₂ y₂ ≡ answered p f b y))
-    (nodeLadder p f b y) (λ (k : ℕ). node.servedOutcome (node.refused k) b y) (answered p f b y)
+    → Ends (nodeLadder p f b y) (λ (k : ℕ). (node.saidServed a ≡ node.refused k) × (b₂ ≡ b) × (y₂ ≡ y)) (node.servedOutcome (node.saidServed a) b₂ y₂ ≡ answered p (headerIn f) (bodyOf f) b y))
+    (nodeLadder p f b y) (λ (k : ℕ). node.servedOutcome (node.refused k) b y) (answered p (headerIn f) (bodyOf f) b y)
     (λ k g h. refuses k g (ap (λ (o : node.ServedOutcome). o .answer) h, ap (λ (o : node.ServedOutcome). o .book) h, ap (λ (o : node.ServedOutcome). o .reply) h))
     (λ n h. accepts n h)
     (c .is)

@@ -9,20 +9,18 @@
 -- The figures are in report/specs, with (01) beside what document 01 adds or closes. That the hash and the field are those of the papers is
 -- said by the contracts of `digest`, `product` and `quotient`, over sha256/specs and field/specs. Each refusal exactly: Demand1, with
 -- is-refused, fresh-is-refused, opening-refuses, owed-refuses, so-write and so-read of client. Assumes nothing.
-use Prim.Native.Nat.{ℕ, _+_, _*_, _≤_, _<_}
+use Prim.Native.Nat.{ℕ, _*_, _≤_, _<_}
 use mathlib.Core.Path.{_≡_}
 use mathlib.Core.Bool.{true}
-use mathlib.Core.List.{List, []}
+use mathlib.Core.List.{List}
 use lib.ListN.{length}
-use Rattle.octets.specs.Bytes.{Octets, over, be}
+use Rattle.octets.specs.Bytes.{Octets}
 use Rattle.fragments.specs.Fragments.{All, Distinct, Room, laid, encoded}
 use Rattle.fragments.proofs.Theorems.{any-m-of-n}
-use Rattle.terms.specs.Stamp.{stamp}
 use Rattle.terms.specs.Terms.{planOk, recordLength, slotsOf, runsOf}
 use Rattle.terms.specs.declared.Ask.{Ask}
 use Rattle.terms.specs.declared.Plan.{Plan}
 use Rattle.terms.specs.declared.Slots.{Slots}
-use Rattle.frame.specs.Frame.{kindOf, frameNode, askOf, bodyOf, frame}
 use Rattle.node.specs.declared.Answer.the-variants.{Replied}
 use Rattle.node.specs.declared.Made.the-variants.{Fresh}
 use Rattle.node.specs.Node.{NodeCall}
@@ -36,8 +34,8 @@ use Rattle.store.specs.History.{Call, History, lastBook}
 use Rattle.client.specs.Turns.{Turn, ReadTurn, WriteTurn, Calls}
 use Rattle.report.specs.Triple.{Same}
 use Rattle.client.proofs.ComesBack.{block-comes-back}
-use Rattle.report.specs.Figure1.{INITIALIZE, RECEIVE-TIME-REQUEST, RECEIVE-READ-LATEST, RECEIVE-READ-PREVIOUS}
-use Rattle.report.specs.Ours.{history, timeIn, family}
+use Rattle.report.specs.Figure1.{INITIALIZE}
+use Rattle.report.specs.Ours.{history, family}
 use Rattle.report.specs.Run.{OfPlan, received, unpolled, polledOver, AllApart, AllFull, EachTells}
 use Rattle.report.specs.WriteRun.{untimed, EachWrites, timedOver}
 use Rattle.report.proofs.Plans.{accepted-is, accepted-back}

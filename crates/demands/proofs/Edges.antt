@@ -3,7 +3,7 @@ use Prim.{tt}
 use Prim.Native.Nat.{ℕ}
 use mathlib.Core.Path.{_≡_, refl, sym, _∙_}
 use mathlib.Core.Bool.{Bool, true, false}
-use mathlib.Core.List.{List, [], _∷_}
+use mathlib.Core.List.{List, _∷_}
 use lib.Dec.{leb}
 use borrow.Author.Tests.{le-leb}
 use Rattle.fragments.proofs.Examples.{product-57-83, product-57-13, column-00-80, column-57-57}

@@ -1,9 +1,9 @@
 -- What the node's functions ensure, each need a law. Assumes nothing.
 use mathlib.Core.Path.{_≡_, refl, sym, ap, subst, _∙_}
 use mathlib.Core.Bool.{Bool, true, false, not}
-use mathlib.Core.List.{List, [], _∷_}
+use mathlib.Core.List.{List, []}
 use mathlib.Core.Logic.{_⊎_, ⊎-elim}
-use Prim.Native.Nat.{ℕ, _+_, _-_, _≤_, _<_}
+use Prim.Native.Nat.{ℕ, _+_, _-_, _≤_}
 use native.Mathlib.Omega.{arith}
 use borrow.Author.Tests.{not-false, leb-true, leb-false, eq-eqb, ne-eqb, lt-ltb, le-ltb}
 use lib.ListN.{length}
@@ -32,7 +32,7 @@ use Rattle.book.proofs.Laws as books
 use Rattle.book.proofs.Back.{long}
 use Rattle.node.specs.declared.Asked.{Asked}
 use Rattle.node.specs.declared.Answer.{Answer}
-use Rattle.node.specs.declared.Answer.the-variants.{Refused, Replied}
+use Rattle.node.specs.declared.Answer.the-variants.{Refused}
 use Rattle.node.specs.declared.Made.{Made}
 use Rattle.node.specs.Fresh.{freshLadder, freshOutcome, freshened, saidMade, made, FreshCall}
 use Rattle.node.specs.Fresh.{refused as notMade}

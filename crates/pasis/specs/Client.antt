@@ -11,16 +11,15 @@
 use Prim.Native.Nat.{ℕ}
 use mathlib.Core.Path.{_≡_}
 use mathlib.Core.Bool.{Bool, cond}
-use mathlib.Core.List.{List, [], _∷_, _++_}
+use mathlib.Core.List.{List}
 use lib.ListN.{length}
 use lib.Dec.{eqb}
-use Rattle.terms.specs.Ladder.{first, _and_}
+use Rattle.terms.specs.Ladder.{first}
 use Rattle.rounds.specs.declared.Bound.the-variants.{Free}
 use Rattle.session.specs.declared.Operation.{Operation}
 use Rattle.session.specs.declared.Session.{Session}
 use Rattle.session.specs.Session.{Said, isRefused}
 use Rattle.session.specs.Opening.{Opens, openWith}
-use Rattle.session.specs.Owed as owed
 use Rattle.session.specs.Owed.{Dues, owedTo}
 use Rattle.session.specs.Writer.{Leaves, writeReply}
 use Rattle.session.specs.Reader.{Outcome, outcome, readReply}

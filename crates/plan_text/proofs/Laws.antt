@@ -4,16 +4,15 @@
 --   low high big         a byte that is no digit, or a digit too many, ends it
 --   on done              a digit goes on; the end gives the number
 -- Assumes nothing.
-use mathlib.Core.Path.{_≡_, refl, sym, ap, _∙_}
+use mathlib.Core.Path.{_≡_, sym, ap, _∙_}
 use mathlib.Core.List.{List, _∷_}
 use Prim.Native.Nat.{ℕ, suc, _+_, _-_, _*_, _≤_, _<_}
 use native.Mathlib.Numerals.{add-one}
 use native.Mathlib.Omega.{arith}
 use borrow.Author.Tests.{lt-ltb, le-ltb}
-use lib.ListN.{length, getD, take}
+use lib.ListN.{length, getD}
 use Rattle.octets.specs.Bytes.{part}
 use Rattle.octets.proofs.Laws.{part-cons}
-use Rattle.plan_text.specs.declared.Numeral.{Numeral}
 use Rattle.plan_text.specs.declared.Numeral.the-variants.{Is, Not}
 use Rattle.plan_text.specs.Text.{numeralFrom, numeralOf}
 

@@ -7,10 +7,10 @@
 --   none-.. full-.. right-.. left-..   what a line gives: nothing, one too many, a value, none to be had
 --   turn-.. end-..           a line more of a text; its end
 -- Assumes nothing.
-use mathlib.Core.Path.{_≡_, refl, sym, ap, _∙_, subst}
+use mathlib.Core.Path.{_≡_, refl, sym, ap, _∙_}
 use mathlib.Core.Bool.{Bool, true, false}
 use mathlib.Core.List.{List, [], _∷_, _++_, append-nil}
-use Prim.Native.Nat.{ℕ, zero, suc, _+_, _-_, _≤_, _<_}
+use Prim.Native.Nat.{ℕ, zero, _+_, _-_, _≤_, _<_}
 use native.Mathlib.Nat.{add-zero}
 use native.Mathlib.Numerals.{add-one}
 use native.Mathlib.Omega.{arith}
@@ -24,7 +24,6 @@ use Rattle.octets.proofs.Meaning.{not-alike}
 use Rattle.terms.specs.declared.Plan.{Plan}
 use Rattle.plan_text.specs.declared.Numeral.{Numeral}
 use Rattle.plan_text.specs.declared.Numeral.the-variants.{Is, Not}
-use Rattle.plan_text.specs.declared.Reading.{Reading}
 use Rattle.plan_text.specs.declared.Reading.the-variants.{Good, Wrong}
 use Rattle.plan_text.specs.Lines.{blank, until, past, linesOf, wordsOf, afterName, chosen, written, valueOf, isNot, listOf, wrongIn, givenBy, planFrom, readLines, planText}
 use Rattle.plan_text.proofs.Words.{from-none, rest-is}

@@ -3,9 +3,9 @@
 --   numeralOf l       the number that the bytes l write: one digit or more, and at most 999,999,999
 -- Assumes nothing.
 use Prim.Native.Nat.{ℕ, _+_, _-_, _*_}
-use mathlib.Core.Bool.{Bool, true, false, cond}
+use mathlib.Core.Bool.{Bool, true, false}
 use mathlib.Core.List.{List, [], _∷_}
-use lib.Dec.{ltb, leb}
+use lib.Dec.{ltb}
 use Rattle.plan_text.specs.declared.Numeral.{Numeral}
 use Rattle.plan_text.specs.declared.Numeral.the-variants.{Is, Not}
 

@@ -1,6 +1,6 @@
 -- The loop of READ_TIMESTAMP and of DO_WRITE: a response of a storage-node that is in the set is left out (kept-out), another is put in
 -- (put-in); and the nodes of the set are those that a session has marked (Marked). Which refusals do not apply, by number (off). Assumes nothing.
-use Prim.Native.Nat.{ℕ, zero, suc, _≤_, _<_}
+use Prim.Native.Nat.{ℕ, suc, _<_}
 use mathlib.Core.Path.{_≡_, refl, sym, ap, _∙_}
 use mathlib.Core.Bool.{Bool, true, false, cond, not}
 use mathlib.Core.List.{List, [], _∷_}
@@ -13,7 +13,7 @@ use Rattle.terms.proofs.Down.{clear}
 use Rattle.terms.proofs.Rungs.{both, clash}
 use Rattle.rounds.specs.declared.Heard.the-variants.{Unheard, Record}
 use Rattle.rounds.specs.declared.Mark.{Mark}
-use Rattle.rounds.specs.Rounds.{bitOf, markOf, heardAt, heardCount, unheards}
+use Rattle.rounds.specs.Rounds.{markOf, heardAt, heardCount, unheards}
 use Rattle.rounds.proofs.Laws.{mark-set, mark-other, count-set}
 use Rattle.report.specs.Figure2.{in-set, GATHERED}
 use Rattle.report.specs.WriteRun.{noneOf}

@@ -2,9 +2,9 @@
 -- and an open one that it has not returned (read-run, opened-read). Each frame that is a message of the round is a turn of DO_READ's loop, whether
 -- the call accepts it or refuses it 6, 11 or 12 (message-right). Assumes nothing.
 use Prim.{Unit, tt}
-use Prim.Native.Nat.{ℕ, zero, suc, _+_, _*_, _≤_, _<_}
+use Prim.Native.Nat.{ℕ, zero, suc, _*_, _≤_, _<_}
 use mathlib.Core.Path.{_≡_, refl, sym, ap, _∙_, subst}
-use mathlib.Core.Bool.{Bool, true, false, cond, not}
+use mathlib.Core.Bool.{Bool, true, false, cond}
 use mathlib.Core.List.{List, [], _∷_}
 use mathlib.Core.Logic.{inl, inr}
 use native.Mathlib.Decide.{ℕ-discrete}
@@ -15,7 +15,7 @@ use lib.ListN.{length, set, length-set}
 use Rattle.octets.specs.Bytes.{put, Octets}
 use Rattle.octets.proofs.Laws.{length-put, slot-fits}
 use Rattle.octets.proofs.Meaning.{octets-drop, octets-put}
-use Rattle.terms.specs.Ladder.{Rung, all, _and_, None, rung, upto}
+use Rattle.terms.specs.Ladder.{Rung, _and_, None, rung, upto}
 use Rattle.terms.specs.Stamp.{stamp, time, stampNumber}
 use Rattle.terms.specs.Terms.{planOk, recordLength, slotsOf}
 use Rattle.terms.specs.declared.Plan.{Plan}
@@ -54,7 +54,7 @@ use Rattle.session.specs.declared.opening.Opened.{Opened}
 use Rattle.session.specs.declared.opening.Opening.the-variants.{Accepted}
 use Rattle.session.specs.Opening.{OpenCall, freshOf}
 use Rattle.session.proofs.Slots.{long-body}
-use Rattle.report.specs.Triple.{Message, each, strung}
+use Rattle.report.specs.Triple.{Message, strung}
 use Rattle.report.specs.Figure2.{enough, acknowledged}
 use Rattle.report.specs.Figure3.{Command, READ-LATEST, READ-PREVIOUS, Decision, returned, repaired, ABORT, reading, VALIDATE, in-time, with-it, receives, DO-READ, LOOP, READ, goes-on, gathered, ResponseSet}
 use Rattle.report.specs.Ours.{family, responses, sending, commandOf}

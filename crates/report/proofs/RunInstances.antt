@@ -27,7 +27,7 @@ use Rattle.terms.proofs.Small.{small, small-octets}
 use Rattle.client.proofs.Instances.Read as reads
 use Rattle.client.proofs.Instances.Read.{plan, ask, hash, poor, stamp-bytes, good, desk, desk-poor, desk-good, desk-full, desk-long}
 use Rattle.client.proofs.Instances.Write as writes
-use Rattle.report.specs.Triple.{Message, each}
+use Rattle.report.specs.Triple.{Message}
 use Rattle.report.specs.Ours.{family, verifierIn}
 use Rattle.report.specs.Run.{Polled, unpolled, messageOf, polls, polledOver, EachTells, AllFull, Apart, AllApart}
 use Rattle.report.specs.WriteRun.{noneOf, isResponse, untimed, EachWrites}

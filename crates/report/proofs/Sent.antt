@@ -1,44 +1,41 @@
 -- WHAT THE CLIENT SENDS IS WHAT THE FIGURES SEND. In every state that calls of a read, or of a write, reach from an opening, an accepted request owed
 -- to node S is the frame of what READ or WRITE has to send to S then, and it is refused 11 exactly where S is in the response set (read-owes,
 -- write-owes). Assumes nothing.
-use Prim.{tt}
-use Prim.Native.Nat.{ℕ, zero, suc, _*_, _≤_, _<_}
+use Prim.Native.Nat.{ℕ, zero, suc, _*_, _<_}
 use mathlib.Core.Path.{_≡_, refl, sym, ap, _∙_, subst}
-use mathlib.Core.Bool.{Bool, true, false, cond, not}
+use mathlib.Core.Bool.{Bool, true, false, cond}
 use mathlib.Core.List.{List, [], _∷_, _++_}
-use mathlib.Core.Logic.{_⊎_, inl, inr}
+use mathlib.Core.Logic.{inl, inr}
 use native.Mathlib.Decide.{ℕ-discrete}
 use native.Mathlib.Omega.{arith}
 use borrow.Author.Tests.{ltb-true, not-false}
 use lib.Dec.{ltb}
 use lib.ListN.{length}
-use Rattle.octets.specs.Bytes.{be, over, Octets}
-use Rattle.terms.specs.Ladder.{Rung, None, Given, upto, rung, on}
-use Rattle.terms.specs.Stamp.{stampNumber}
-use Rattle.terms.specs.Terms.{planOk, recordLength}
+use Rattle.octets.specs.Bytes.{over, Octets}
+use Rattle.terms.specs.Ladder.{Rung, None, upto}
+use Rattle.terms.specs.Terms.{recordLength}
 use Rattle.terms.specs.declared.Ask.{Ask}
 use Rattle.terms.specs.declared.Plan.{Plan}
-use Rattle.terms.proofs.Down.{clear, Down, stop}
+use Rattle.terms.proofs.Down.{clear}
 use Rattle.terms.proofs.Ladders.{by-ladder}
 use Rattle.terms.proofs.Rungs.{clash}
 use Rattle.terms.proofs.Small.{strict}
 use Rattle.rounds.proofs.Laws.{not-heard}
 use Rattle.rounds.specs.declared.Bound.{Bound}
 use Rattle.rounds.specs.declared.Bound.the-variants.{Free, Under}
-use Rattle.rounds.specs.Rounds.{bitOf, markOf, heardAt}
+use Rattle.rounds.specs.Rounds.{markOf, heardAt}
 use Rattle.record.specs.Desk.{slotOf}
 use Rattle.frame.specs.Frame.{timeRequestKind, writeRequestKind, frame}
 use Rattle.session.specs.declared.Session.{Session}
 use Rattle.session.specs.declared.Stage.{Stage}
 use Rattle.session.specs.declared.Stage.the-variants.{Asking, Storing, Ended}
-use Rattle.session.specs.declared.Operation.{Operation}
 use Rattle.session.specs.declared.Operation.the-variants.{Write, Read}
 use Rattle.session.specs.declared.owed.Owed.{Owed}
 use Rattle.session.specs.Session.{isRead, isStoring, isEnded, askNow}
 use Rattle.session.specs.Reply.{isHeard}
-use Rattle.session.specs.Owed.{owedLadder, readRequest, requestOf, Due, refused, written, dueOf, Dues, dues, owedTo, OwedCall}
+use Rattle.session.specs.Owed.{owedLadder, readRequest, requestOf, refused, written, dueOf, Dues, dues, owedTo, OwedCall}
 use Rattle.report.specs.Triple.{Message, In, upTo}
-use Rattle.report.specs.Figure3.{Command, reading, repaired, has, READ, ResponseSet}
+use Rattle.report.specs.Figure3.{has, READ}
 use Rattle.report.specs.Ours.{family, bearing, sending, responses, commandOf}
 use Rattle.report.specs.Sent.{readFrame, SendsOwn, Commands, WriteCommands, inResponseSet, inWriteSet, Frame, Owes}
 use Rattle.report.proofs.Lists.{in-append}

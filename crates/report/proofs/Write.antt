@@ -2,7 +2,7 @@
 -- item, done bears WRITE's timestamp, and open says that it has not returned (write-run, opened-write). Each frame that is a response is a turn of
 -- READ_TIMESTAMP's or DO_WRITE's loop, whether the call accepts it or refuses it 11 (response-right). Assumes nothing.
 use Prim.{Unit, tt}
-use Prim.Native.Nat.{ℕ, suc, _+_, _*_, _≤_, _<_}
+use Prim.Native.Nat.{ℕ, _+_, _*_, _≤_, _<_}
 use mathlib.Core.Path.{_≡_, refl, sym, ap, _∙_, subst}
 use mathlib.Core.Bool.{Bool, true, false, cond, not}
 use mathlib.Core.Logic.{inl, inr}

@@ -20,7 +20,7 @@ use Rattle.session.specs.declared.Stage.the-variants.{Asking, Storing, Ended}
 use Rattle.session.specs.Owed.{Due, written}
 use Rattle.report.specs.Triple.{Message, In}
 use Rattle.report.specs.Figure2.{in-set, Clock, clocks, acknowledged, WRITE}
-use Rattle.report.specs.Figure3.{Command, READ-LATEST, READ-PREVIOUS, Decision, returned, repaired, ABORT, reading, has, READ, ResponseSet}
+use Rattle.report.specs.Figure3.{Command, READ-LATEST, READ-PREVIOUS, Decision, returned, repaired, ABORT, reading, has, ResponseSet}
 use Rattle.report.specs.Ours.{family, tripleOf}
 use Rattle.report.specs.Run.{Polled}
 use Rattle.report.specs.WriteRun.{Responses}

@@ -5,7 +5,7 @@ use mathlib.Core.List.{List, [], _∷_}
 use Prim.Native.Nat.{ℕ, _+_, _*_, _≤_, _<_}
 use native.Mathlib.Nat.{le-trans, mul-le-mul-right, mul-le-mul-left}
 use native.Mathlib.Omega.{arith}
-use borrow.Author.Tests.{leb-true, le-leb, eqb-true, ltb-true, ltb-false, lt-ltb, le-ltb, eq-eqb, ne-eqb}
+use borrow.Author.Tests.{leb-true, le-leb, eqb-true, ltb-true, ltb-false, lt-ltb, le-ltb, eq-eqb}
 use lib.ListN.{length}
 use lib.Dec.{leb, eqb}
 use Rattle.terms.specs.Ladder.{all, _and_, _or_}
@@ -16,7 +16,7 @@ use Rattle.terms.proofs.Stamps.{stamp-at-number}
 use Rattle.terms.proofs.Rungs.{both}
 use Rattle.terms.proofs.Picks.{itself}
 use Rattle.octets.specs.Bytes.{part, num}
-use Rattle.frame.specs.Frame.{kindOf, askOf, bodyOf, writeReplyKind, timeReplyKind, framed, headBytes, headerIn, answersTo, versionOf, longest}
+use Rattle.frame.specs.Frame.{kindOf, bodyOf, writeReplyKind, timeReplyKind, framed, headBytes, headerIn, answersTo, versionOf, longest}
 use Rattle.frame.proofs.Frames.{ReplyIs, length-4}
 use Rattle.rounds.specs.Rounds.{restUnheard, heardCount}
 use Rattle.session.specs.declared.Session.{Session}

@@ -9,7 +9,7 @@
 --   Dues dues          the answer and the request buffer as the call leaves them
 --   owedTo OwedCall    the call and its contract
 -- Assumes nothing.
-use Prim.Native.Nat.{ℕ, _+_, _*_}
+use Prim.Native.Nat.{ℕ, _*_}
 use mathlib.Core.Path.{_≡_}
 use mathlib.Core.Bool.{Bool, not, cond}
 use mathlib.Core.List.{List, [], _∷_}

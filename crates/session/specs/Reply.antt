@@ -8,7 +8,7 @@
 --   recordLadder       5, 6, 12: of a record, at a reader
 --   readLadder         the whole order at a reader
 -- Assumes nothing.
-use Prim.Native.Nat.{ℕ, _+_, _*_}
+use Prim.Native.Nat.{ℕ, _*_}
 use mathlib.Core.Bool.{Bool, not}
 use mathlib.Core.List.{List, [], _∷_, _++_}
 use lib.ListN.{length}
@@ -17,7 +17,7 @@ use Rattle.terms.specs.Ladder.{Rung, on, _and_, _or_}
 use Rattle.terms.specs.Terms.{planOk, recordLength, refusalNumber}
 use Rattle.terms.specs.Stamp.{stamp, stampNumber}
 use Rattle.terms.specs.declared.Plan.{Plan}
-use Rattle.frame.specs.Frame.{kindOf, frameNode, askOf, bodyOf, goodReply, readReplyKind, framed, versionOf, answersTo, headerIn}
+use Rattle.frame.specs.Frame.{kindOf, frameNode, bodyOf, goodReply, readReplyKind, framed, versionOf, answersTo, headerIn}
 use Rattle.record.specs.Record.{hashesOk, timeZero}
 use Rattle.rounds.specs.Rounds.{heardAt, underOf}
 use Rattle.session.specs.declared.Session.{Session}

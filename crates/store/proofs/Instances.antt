@@ -2,15 +2,15 @@
 -- records, and two write requests, of times 1 and 2: two runs of them, in two orders and with a repeat. Assumes nothing.
 use Prim.{tt}
 use mathlib.Core.Path.{_≡_, refl, sym, ap, _∙_, subst}
-use mathlib.Core.Bool.{Bool, true, false, cond, not}
+use mathlib.Core.Bool.{Bool, true, false, not}
 use mathlib.Core.List.{List, [], _∷_, _++_, append-assoc}
 use mathlib.Core.Logic.{_⊎_, inl, inr}
 use Prim.Native.Nat.{ℕ, zero, suc, _+_, _*_, _^_, _≤_, _<_}
 use native.Mathlib.Omega.{arith}
-use borrow.Author.Tests.{ltb-true, eq-eqb, ne-eqb}
+use borrow.Author.Tests.{eq-eqb, ne-eqb}
 use lib.ListN.{length, length-append}
-use lib.Dec.{ltb, lit<}
-use Rattle.octets.specs.Bytes.{part, num, be, beOnto, over, Octets}
+use lib.Dec.{lit<}
+use Rattle.octets.specs.Bytes.{part, num, be, beOnto, over}
 use Rattle.octets.proofs.Laws.{length-be, length-part, part-middle}
 use Rattle.octets.proofs.Meaning.{num-be, num-append, alike-refl}
 use Rattle.sha256.specs.Sha256.{sha256}
@@ -21,7 +21,6 @@ use Rattle.terms.specs.Terms.{planOk, countsOk, limitsOk, columnOf, recordLengt
 use Rattle.terms.specs.declared.Plan.{Plan}
 use Rattle.terms.specs.declared.Member.the-variants.{Repairable}
 use Rattle.terms.specs.declared.Clients.the-variants.{Byzantine}
-use Rattle.terms.proofs.Rungs.{both}
 use Rattle.terms.proofs.Small.{small, small-octets}
 use Rattle.frame.specs.Frame.{kindOf, frameNode, bodyOf, frame, goodRequest, bodyFits, forParty, oneOf, headerIn, longest, writeRequestKind, timeRequestKind, headerOf, framed}
 use Rattle.frame.specs.declared.Party.the-variants.{Node}

@@ -15,7 +15,6 @@ use Rattle.terms.specs.Ladder.{None}
 use Rattle.terms.specs.Stamp.{stamp}
 use Rattle.terms.specs.Terms.{recordLength}
 use Rattle.terms.specs.declared.Plan.{Plan}
-use Rattle.terms.proofs.Rungs as rungs
 use Rattle.terms.proofs.Rungs.{clash}
 use Rattle.frame.specs.Frame.{bodyOf, headerIn}
 use Rattle.book.specs.Records.{some, holds, holdsOther, kept}

@@ -16,7 +16,6 @@ use Rattle.terms.specs.Ladder.{Rung, first, all, None}
 use Rattle.terms.specs.Stamp.{stamp, time}
 use Rattle.terms.specs.Terms.{planOk, recordLength}
 use Rattle.terms.specs.declared.Plan.{Plan}
-use Rattle.terms.proofs.Rungs as rungs
 use Rattle.terms.proofs.Rungs.{both, clash}
 use Rattle.terms.proofs.Small.{strict}
 use Rattle.frame.specs.Frame.{kindOf, bodyOf, goodRequest, headerIn, longest, writeRequestKind}

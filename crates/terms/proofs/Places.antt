@@ -4,7 +4,7 @@ use mathlib.Core.Bool.{true}
 use Prim.Native.Nat.{ℕ, _+_, _*_, _≤_, _<_}
 use native.Mathlib.Omega.{arith}
 use Rattle.octets.proofs.Laws.{slot-room}
-use Rattle.terms.specs.Terms.{planOk, recordLength, slotsOf, slotAt, fragmentAt}
+use Rattle.terms.specs.Terms.{planOk, recordLength, slotsOf, fragmentAt}
 use Rattle.terms.specs.declared.Plan.{Plan}
 use Rattle.terms.specs.declared.Slots.{Slots}
 use Rattle.terms.proofs.Plans.{plan-is}

@@ -10,7 +10,7 @@
 --   refusalNumber             the document's number of a refusal
 -- Assumes nothing.
 use Prim.Native.Nat.{ℕ, _+_, _-_, _*_}
-use mathlib.Core.Bool.{Bool, true, false, cond}
+use mathlib.Core.Bool.{Bool, cond}
 use mathlib.Core.List.{List, [], _∷_}
 use lib.Dec.{ltb, leb}
 use Rattle.terms.specs.Ladder.{all, _and_}

@@ -7,7 +7,5 @@ pub write-ending-spec : {M : Type 1} → statement M
 write-ending-spec =
     tie.close
     (tie.spec
-    (λ c κs. search needs)
-    (λ c κs. search needs)
-    (λ c. search needs)
+    (λ c κs. search needs) (λ c κs. search needs) (λ c. search needs)
     (λ c. laws.ending-put _ _ _ _ _ (c .before .before .before .before .before .before .before .before .before .pre) (c .before .before .before .before .before .before .put-stamp .ensures) (c .before .before .put-num .ensures)))

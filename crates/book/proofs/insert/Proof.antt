@@ -31,12 +31,7 @@ insert-spec =
     let w = z .before .before .before .before .before in
     let q = laws.placed-fits _ _ _ _ _ (w .pre) in
     (w .pre .inside, omega arith))
-    (λ c. search needs)
-    (λ c. search needs)
-    (λ c κs. search needs)
-    (λ c. search needs)
-    (λ c κs. search needs)
-    (λ c. search needs)
+    (λ c. search needs) (λ c. search needs) (λ c κs. search needs) (λ c. search needs) (λ c κs. search needs) (λ c. search needs)
     (λ c.
     let n4 = c .before .before in
     let n3 = n4 .before .before .before .before .before in

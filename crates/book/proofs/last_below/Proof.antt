@@ -1,4 +1,3 @@
-use native.Mathlib.Omega.{arith}
 use Rattle.book.proofs.Laws as laws
 use Rattle.book.proofs.last_below.Statement.{statement}
 use Rattle.book.proofs.last_below.Tie as tie

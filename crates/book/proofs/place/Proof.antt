@@ -48,8 +48,7 @@ place-spec =
     let a = args in
     let l = slot-fits (loop .i) (a .k .count) (a .k .each) (loop-test .taken) in
     omega arith)
-    (λ c. omega arith)
-    (λ c. omega arith)
+    (λ c. omega arith) (λ c. omega arith)
     (λ c.
     let args = c .before .before .before .before .before .before .args in
     let loop = c .before .before .before .loop in

@@ -1,5 +1,5 @@
 use mathlib.Core.Path.{_≡_, refl, sym, _∙_}
-use Prim.Native.Nat.{_+_, _-_, _*_, _≤_}
+use Prim.Native.Nat.{_+_, _*_, _≤_}
 use native.Mathlib.Omega.{arith}
 use borrow.Author.Tests.{not-true, not-false}
 use lib.ListN.{length}
@@ -41,8 +41,7 @@ rising-spec =
     let loop = c .before .before .before .loop in
     let e = laws.room2 _ _ _ _ (loop-test .taken) (loop .inv .0) in
     omega arith)
-    (λ c. omega arith)
-    (λ c. omega arith)
+    (λ c. omega arith) (λ c. omega arith)
     (λ c.
     let loop = c .before .before .before .loop in
     let less = c .before .less in

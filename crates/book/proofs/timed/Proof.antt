@@ -1,5 +1,5 @@
 use mathlib.Core.Path.{_≡_, refl, subst}
-use Prim.Native.Nat.{ℕ, _+_, _-_, _*_, _≤_, _<_}
+use Prim.Native.Nat.{ℕ, _+_, _*_, _≤_, _<_}
 use native.Mathlib.Omega.{arith}
 use lib.ListN.{length}
 use Rattle.book.specs.Records.{timed}
@@ -36,8 +36,7 @@ timed-spec =
     let loop = c .before .before .before .loop in
     let e = laws.room _ _ _ _ (loop-test .taken) (loop .inv .0) in
     omega arith)
-    (λ c. omega arith)
-    (λ c. omega arith)
+    (λ c. omega arith) (λ c. omega arith)
     (λ c.
     let loop-test = c .before .before .loop-test in
     let loop = c .before .before .before .loop in

@@ -38,11 +38,7 @@ add-scaled-spec =
     (λ c. omega (arith, log-lt (c .before .before .before .before .before .before .before .args .w) (omega arith), log-lt (getD (c .before .before .before .before .before .before .before .args .src .now) (c .before .before .before .loop .i) 0) (omega (arith, c .before .shared-slice-known2 .given (c .before .before .before .loop .i)))))
     (λ c. omega (arith, log-lt (c .before .before .before .before .before .before .before .args .w) (omega arith), log-lt (getD (c .before .before .before .before .before .before .before .args .src .now) (c .before .before .before .loop .i) 0) (omega (arith, c .before .shared-slice-known2 .given (c .before .before .before .loop .i)))))
     (λ c κs. omega (arith, log-lt (c .before .before .before .before .before .before .before .args .w) (omega arith), log-lt (getD (c .before .before .before .before .before .before .before .args .src .now) (c .before .before .before .loop .i) 0) (omega (arith, c .before .shared-slice-known2 .given (c .before .before .before .loop .i)))))
-    (λ c. search needs)
-    (λ c. search needs)
-    (λ c. search needs)
-    (λ c. search needs)
-    (λ c. search needs)
+    (λ c. search needs) (λ c. search needs) (λ c. search needs) (λ c. search needs) (λ c. search needs)
     (λ c.
     let l = c .before .before .before .loop in
     let a = c .before .before .before .before .before .before .before .args in

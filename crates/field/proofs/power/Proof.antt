@@ -9,6 +9,5 @@ pub power-spec : {M : Type 1} → statement M
 power-spec =
     tie.close
     (tie.spec
-    (λ c κs. search needs)
-    (λ c. search needs)
+    (λ c κs. search needs) (λ c. search needs)
     (λ c. let w = c .wrap in exp-rule (w .result) (w .ensures .0) ∙ w .ensures .1))

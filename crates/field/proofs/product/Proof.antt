@@ -11,10 +11,7 @@ product-spec =
     (tie.spec
     (λ c. rw (c .if1 .taken) (sym (zero-mul (c .before .args .b))))
     (λ c. rw (c .if2 .taken) (sym (mul-zero-f (c .before .before .args .a))))
-    (λ c κs. search needs)
-    (λ c κs. search needs)
-    (λ c. search needs)
-    (λ c κs. search needs)
+    (λ c κs. search needs) (λ c κs. search needs) (λ c. search needs) (λ c κs. search needs)
     (λ c.
     let s = c .before .before .before .before .before in
     c .power .ensures

@@ -9,11 +9,7 @@ quotient-spec =
     tie.close
     (tie.spec
     (λ c. rw (c .if1 .taken) (sym (zero-div (c .before .args .b))))
-    (λ c κs. search needs)
-    (λ c. search needs)
-    (λ c κs. search needs)
-    (λ c. search needs)
-    (λ c κs. search needs)
+    (λ c κs. search needs) (λ c. search needs) (λ c κs. search needs) (λ c. search needs) (λ c κs. search needs)
     (λ c.
     let s = c .before .before .before .before in
     c .power .ensures

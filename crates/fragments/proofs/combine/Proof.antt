@@ -40,9 +40,7 @@ combine-spec =
     Inv-loop2
     μ-loop2
     (λ c. (omega arith, omega arith, upto-start _ _))
-    (λ c. search needs)
-    (λ c. search needs)
-    (λ c. search needs)
+    (λ c. search needs) (λ c. search needs) (λ c. search needs)
     (λ c.
     let l = c .before .loop in
     (refl, omega arith, upto-next _ (l .i) _ _ _ (l .inv .2) (omega arith) refl))
@@ -50,8 +48,7 @@ combine-spec =
     let l = c .before .loop in
     let a = c .before .before .before .before .before .args in
     (l .inv .2 .same, omega arith, λ j h. blend-start (a .qs .now) (a .x) _ _ (l .inv .2 .done j (omega arith))))
-    (λ c. search needs)
-    (λ c κs. search needs)
+    (λ c. search needs) (λ c κs. search needs)
     (λ c. omega (arith, c .before .shared-slice-known3 .given (c .before .before .before .loop2 .k)))
     (λ c.
     let k = c .before .before .before .loop2 .k in
@@ -62,14 +59,11 @@ combine-spec =
     (λ c.
     let k = c .before .before .before .loop2 .k in
     omega (arith, c .before .before .before .before .before .before .before .before .before .pre .0 k (omega arith)))
-    (λ c. search needs)
-    (λ c. search needs)
+    (λ c. search needs) (λ c. search needs)
     (λ c.
     let k = c .before .before .before .before .loop2 .k in
     omega (arith, c .before .before .before .before .before .before .before .before .before .before .pre .0 k (omega arith)))
-    (λ c κs. search needs)
-    (λ c. search needs)
-    (λ c. search needs)
+    (λ c κs. search needs) (λ c. search needs) (λ c. search needs)
     (λ c.
     let l = c .before .before .before .before .before .before .before .before .loop2 in
     let a = c .before .before .before .before .before .before .before .before .before .before .before .before .before .before .args in

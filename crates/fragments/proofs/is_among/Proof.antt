@@ -22,7 +22,6 @@ is-among-spec =
     (λ c. (omega arith, refl))
     (λ c. omega arith)
     (λ c. let l = c .before .before .before .loop in among-here _ _ (l .k) _ (omega arith) (l .inv .1) (c .if1 .taken))
-    (λ c. omega arith)
-    (λ c. omega arith)
+    (λ c. omega arith) (λ c. omega arith)
     (λ c. let l = c .before .before .before .loop in (omega arith, among-on _ _ (l .k) _ (omega arith) (l .inv .1) (c .if1 .left)))
     (λ c. let l = c .before .loop in among-end _ _ (l .k) _ (omega arith) (l .inv .1)))

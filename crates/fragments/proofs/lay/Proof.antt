@@ -25,17 +25,14 @@ lay-spec =
     (λ c. let l = c .before .before .before in let h = l .before .before .before .before .pre .3 (l .loop .k) (omega arith) in omega (arith, h))
     (λ c. let l = c .before .before .before .before in let h = l .before .before .before .before .pre .3 (l .loop .k) (omega arith) in omega (arith, h))
     (λ c. let l = c .before .before .before .before .before in let h = l .before .before .before .before .pre .3 (l .loop .k) (omega arith) in omega (arith, h))
-    (λ c. omega arith)
-    (λ c. omega arith)
-    (λ c. omega arith)
+    (λ c. omega arith) (λ c. omega arith) (λ c. omega arith)
     (λ c. let l = c .before .before .before .before .before in let h = l .before .before .before .before .pre .3 (l .loop .k) (omega arith) in omega (arith, h))
     (λ c κs.
     let l = c .before .before .before .before .before .before in
     let e = l .before .before .before .before in
     let h = e .pre .3 (l .loop .k) (omega arith) in
     (e .pre .0, part-length (fragmentAt (e .args .to) (l .loop .k)) (e .args .to .fragment) (l .loop .out) (omega (arith, h)) ∙ sym (e .pre .1)))
-    (λ c. omega arith)
-    (λ c. omega arith)
+    (λ c. omega arith) (λ c. omega arith)
     (λ c.
     let l = c .before .before .before .before .before .before .before .before .before in
     let e = l .before .before .before .before in

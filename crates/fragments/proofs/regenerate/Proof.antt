@@ -25,8 +25,7 @@ regenerate-spec =
     let e = t .before .before .before .before .before in
     let h = source-fits (e .args .src .now) (e .args .s) (e .args .qs .now) (e .args .x) _ (e .pre .0) (t .before .is-among .ensures) (t .if1 .taken) in
     (h, omega (arith, e .pre .1)))
-    (λ c κs. search needs)
-    (λ c. search needs)
+    (λ c κs. search needs) (λ c. search needs)
     (λ c.
     let t = c .before .before .before .before .before .before in
     let e = t .before .before .before .before .before in

@@ -30,11 +30,7 @@ weight-spec =
     let a = c .before .args in
     let W = weightOf (a .qs .now) (a .x) (a .p) in
     (omega arith, omega arith, omega arith, ap (λ (n : ℕ). mul n W) div-one ∙ one-mul W (weight-lt (a .qs .now) (a .x) (a .p))))
-    (λ c. search needs)
-    (λ c κs. search needs)
-    (λ c κs. search needs)
-    (λ c. search needs)
-    (λ c. search needs)
+    (λ c. search needs) (λ c κs. search needs) (λ c κs. search needs) (λ c. search needs) (λ c. search needs)
     (λ c.
     let l = c .before .before .before .loop in
     let a = c .before .before .before .before .before .args in

@@ -14,6 +14,5 @@ cut-at-spec =
     (λ c. laws.cut-low _ _ _ (c .before .before .if2 .left) (c .before .get .ensures .0) (c .if3 .taken))
     (λ c. search needs)
     (λ c. laws.cut-high _ _ _ (c .before .before .before .if2 .left) (c .before .before .get .ensures .0) (c .before .if3 .left) (c .if4 .taken))
-    (λ c. search needs)
-    (λ c. search needs)
+    (λ c. search needs) (λ c. search needs)
     (λ c. laws.cut-ends _ _ _ (c .before .before .before .if2 .left) (c .before .before .get .ensures .0) (c .before .if3 .left) (c .if4 .left)))

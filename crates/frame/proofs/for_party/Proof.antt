@@ -10,8 +10,7 @@ pub for-party-spec : {M : Type 1} → statement M
 for-party-spec =
     tie.close
     (tie.spec
-    (λ c. search needs)
-    (λ c. search needs)
+    (λ c. search needs) (λ c. search needs)
     (λ c.
     let none = c .before .match2 .rest .1 in
     laws.told-no _ Node _ (c .before .before .enum-told .given .1)

@@ -7,7 +7,5 @@ pub latest-spec : {M : Type 1} → statement M
 latest-spec =
     tie.close
     (tie.spec
-    (λ c κs. search needs)
-    (λ c κs. search needs)
-    (λ c. search needs)
+    (λ c κs. search needs) (λ c κs. search needs) (λ c. search needs)
     (λ c. built.wrote-of (c .before .before .before .before .asking .ensures) (c .before .before .bare .ensures)))

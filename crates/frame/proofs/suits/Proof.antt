@@ -15,9 +15,7 @@ suits-spec =
     (λ c.
     let f = c .before .for-party in
     laws.suits-stray _ _ _ _ (sym (f .ensures) ∙ not-true (f .result) (c .if1 .taken)))
-    (λ c κs. search needs)
-    (λ c. search needs)
-    (λ c κs. search needs)
+    (λ c κs. search needs) (λ c. search needs) (λ c κs. search needs)
     (λ c.
     let f = c .before .before .before .for-party in
     let a = c .before .before .before .before .args in

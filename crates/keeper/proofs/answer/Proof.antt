@@ -11,8 +11,5 @@ answer-spec =
     (tie.spec
     (λ c κs. search needs)
     (λ c κs. sym (c .before .asks-to-write .ensures) ∙ not-true (c .before .asks-to-write .result) (c .if1 .taken))
-    (λ c. search needs)
-    (λ c κs. search needs)
-    (λ c. search needs)
-    (λ c κs. search needs)
+    (λ c. search needs) (λ c κs. search needs) (λ c. search needs) (λ c κs. search needs)
     (λ c. search needs))

@@ -9,14 +9,9 @@ pub read-cut-spec : {M : Type 1} → statement M
 read-cut-spec =
     tie.close
     (tie.spec
-    (λ c κs. search needs)
-    (λ c. search needs)
+    (λ c κs. search needs) (λ c. search needs)
     (λ c κs.
     let e = laws.ends _ _ _ (c .before .before .before .before .cut-at .ensures) (c .before .before .cut .given .1) in
     omega (arith, e .least, e .within))
-    (λ c. search needs)
-    (λ c κs. search needs)
-    (λ c. search needs)
-    (λ c. search needs)
-    (λ c. search needs)
+    (λ c. search needs) (λ c κs. search needs) (λ c. search needs) (λ c. search needs) (λ c. search needs)
     (λ c. search needs))

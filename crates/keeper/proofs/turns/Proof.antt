@@ -17,8 +17,7 @@ turns-spec =
     μ-loop
     (λ c. tt)
     (λ c κs. tt)
-    (λ c. omega arith)
-    (λ c. omega arith)
+    (λ c. omega arith) (λ c. omega arith)
     (λ c. tt)
     (λ c. tt)
     (λ c. tt))

@@ -11,8 +11,7 @@ pub asks-to-write-spec : {M : Type 1} → statement M
 asks-to-write-spec =
     tie.close
     (tie.spec
-    (λ c κs. search needs)
-    (λ c. search needs)
+    (λ c κs. search needs) (λ c. search needs)
     (λ c κs.
     let e = laws.ends _ _ _ (c .before .before .cut-at .ensures) (c .enum-told .given .1) in
     omega (arith, e .least, e .within))

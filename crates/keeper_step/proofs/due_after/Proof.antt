@@ -10,9 +10,7 @@ pub due-after-spec : {M : Type 1} → statement M
 due-after-spec =
     tie.close
     (tie.spec
-    (λ c. search needs)
-    (λ c. search needs)
-    (λ c. search needs)
+    (λ c. search needs) (λ c. search needs) (λ c. search needs)
     (λ c. laws.due-as _ _ _ _ _ (c .before .before .x3 .given .1) (not-true (c .before .before .before .before .args .stored) (c .if1 .taken)) refl)
     (λ c. laws.due-as _ (c .before .before .before .args .stored) _ (c .before .before .before .args .stored) _ (c .before .x .given .1) refl refl)
     (λ c. laws.due-as _ (c .before .before .before .args .stored) _ (c .before .before .before .args .stored) _ (c .before .x2 .given .1) refl refl)

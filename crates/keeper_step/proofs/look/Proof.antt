@@ -11,7 +11,5 @@ pub look-spec : {M : Type 1} → statement M
 look-spec =
     tie.close
     (tie.spec
-    (λ c κs. search needs)
-    (λ c. search needs)
-    (λ c. search needs)
+    (λ c κs. search needs) (λ c. search needs) (λ c. search needs)
     (λ c. laws.looked (start (c .before .before .before .before) .pre) (c .before .before .before .before .serve .ensures)))

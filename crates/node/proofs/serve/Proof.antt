@@ -56,11 +56,9 @@ serve-spec =
     (λ c κs.
     let d = at-book (c .before) in
     (not-false _ (left 1 d), laws.lengths-are _ _ _ (not-false _ (left 2 d)) .low))
-    (λ c. search needs)
-    (λ c. search needs)
+    (λ c. search needs) (λ c. search needs)
     (λ c κs. not-false _ (left 1 (at-frame (c .before))))
-    (λ c. search needs)
-    (λ c. search needs)
+    (λ c. search needs) (λ c. search needs)
     (λ c κs.
     let s = c .before .before .before .before .before .before .before in
     let d = at-frame s in
@@ -73,8 +71,7 @@ serve-spec =
     let s = c .before .before .before .before in
     laws.called _ _ _ _ _ _ _ (stop _ _ (at-frame s)
     (ap not (laws.here _ _ _ (books.node-of _ _ _ (sound s .is)) (frames.was-shut _ _ (sym (c .enum-told2 .given .1) ∙ c .before .before .request-at .ensures)))) refl))
-    (λ c. search needs)
-    (λ c. search needs)
+    (λ c. search needs) (λ c. search needs)
     (λ c.
     let d = c .before .before .before .before .before .before .before .before in
     laws.called _ _ _ _ _ _ _ (goes-on _ _ (at-work d)

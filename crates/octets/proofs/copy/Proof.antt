@@ -20,12 +20,7 @@ copy-spec =
     Inv-loop
     μ-loop
     (λ c. (omega arith, refl, copy-start _ _ _ _))
-    (λ c. omega arith)
-    (λ c. omega arith)
-    (λ c. omega arith)
-    (λ c. omega arith)
-    (λ c. omega arith)
-    (λ c. omega arith)
+    (λ c. omega arith) (λ c. omega arith) (λ c. omega arith) (λ c. omega arith) (λ c. omega arith) (λ c. omega arith)
     (λ c. let h = c .before .before in (omega arith, simp length-set (omega arith), copy-turn _ _ _ _ _ _ (omega arith) (omega arith) (h .loop .inv .2)))
     (λ c. c .before .loop .inv .1)
     (λ c. let e : c .before .loop .i ≡ c .before .before .args .n = omega arith in rw e at (c .before .loop .inv .2)))

@@ -20,13 +20,7 @@ down-spec =
     Inv-loop
     μ-loop
     (λ c. (omega arith, refl, laws.copy-start _ _ _ _))
-    (λ c. omega arith)
-    (λ c. omega arith)
-    (λ c. omega arith)
-    (λ c. omega arith)
-    (λ c. omega arith)
-    (λ c. omega arith)
-    (λ c. omega arith)
+    (λ c. omega arith) (λ c. omega arith) (λ c. omega arith) (λ c. omega arith) (λ c. omega arith) (λ c. omega arith) (λ c. omega arith)
     (λ c. (omega arith, simp length-set (omega arith), laws.down-turn _ _ _ _ _ (omega arith) (c .before .before .loop .inv .2)))
     (λ c. c .before .loop .inv .1)
     (λ c. let e : c .before .loop .i ≡ c .before .before .args .n = omega arith in rw e at (c .before .loop .inv .2)))

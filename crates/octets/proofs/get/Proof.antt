@@ -25,11 +25,9 @@ get-spec =
     μ-loop
     loop-holds
     (λ c. omega (arith, laws.room (c .before .loop .x) (c .before .loop .i) (omega arith) (omega arith)))
-    (λ c. omega arith)
-    (λ c. omega arith)
+    (λ c. omega arith) (λ c. omega arith)
     (λ c. omega (arith, c .shared-slice-known .given (c .before .before .before .args .at + c .before .before .loop .i)))
     (λ c. omega (arith, laws.room (c .before .before .loop .x) (c .before .before .loop .i) (omega arith) (omega arith), c .shared-slice-known .given (c .before .before .before .args .at + c .before .before .loop .i)))
-    (λ c. omega arith)
-    (λ c. omega arith)
+    (λ c. omega arith) (λ c. omega arith)
     (λ c. let l = c .before .before in let at = l .before .args .at in (omega arith, laws.get-turn _ at _ _ (omega arith) (l .loop .inv .1), laws.room-more _ (l .loop .i) _ (omega arith) (omega (arith, c .shared-slice-known .given (at + l .loop .i))), means.be-turn _ at _ _ (omega arith) (omega (arith, c .shared-slice-known .given (at + l .loop .i))) (l .loop .inv .3)))
     (λ c. let e : c .before .loop .i ≡ c .before .before .args .n = omega arith in (rw e at (c .before .loop .inv .1), rw e at (c .before .loop .inv .2), rw e at (c .before .loop .inv .3))))

@@ -1,5 +1,5 @@
 use mathlib.Core.Path.{_≡_, refl}
-use Prim.Native.Nat.{_-_, _≤_}
+use Prim.Native.Nat.{_≤_}
 use native.Mathlib.Omega.{arith}
 use lib.ListN.{length, length-set}
 use Rattle.octets.proofs.Laws as laws
@@ -19,11 +19,7 @@ put-num-spec =
     Inv-loop
     μ-loop
     (λ c. (omega arith, refl, laws.putting-start _ _ _ _))
-    (λ c. omega arith)
-    (λ c. omega arith)
-    (λ c. omega arith)
-    (λ c. omega arith)
-    (λ c. omega arith)
+    (λ c. omega arith) (λ c. omega arith) (λ c. omega arith) (λ c. omega arith) (λ c. omega arith)
     (λ c. (omega arith, simp length-set (omega arith), laws.putting-turn _ _ _ _ _ _ _ (omega arith) (omega arith) (omega arith) (c .before .loop .inv .2)))
     (λ c. c .before .loop .inv .1)
     (λ c. laws.putting-done _ _ _ _ _ _ _ (omega arith) (c .before .loop .inv .2)))

@@ -23,12 +23,8 @@ same-spec =
     Inv-loop
     μ-loop
     loop-holds
-    (λ c. omega arith)
-    (λ c. omega arith)
-    (λ c. omega arith)
-    (λ c. omega arith)
+    (λ c. omega arith) (λ c. omega arith) (λ c. omega arith) (λ c. omega arith)
     (λ c. sym (laws.same-not _ _ _ _ _ _ (omega arith) (c .if1 .taken)))
-    (λ c. omega arith)
-    (λ c. omega arith)
+    (λ c. omega arith) (λ c. omega arith)
     (λ c. (omega arith, laws.same-more _ _ _ _ _ (omega arith) (omega arith) (c .before .before .before .before .loop .inv .1) (c .if1 .left)))
     (λ c. let e : c .before .loop .k ≡ c .before .before .args .n = omega arith in sym (laws.is-alike _ _ (rw (← e) (c .before .loop .inv .1)))))

@@ -21,13 +21,7 @@ up-spec =
     Inv-loop
     μ-loop
     (λ c. (omega arith, refl, up-start _ _ _ _))
-    (λ c. omega arith)
-    (λ c. omega arith)
-    (λ c. omega arith)
-    (λ c. omega arith)
-    (λ c. omega arith)
-    (λ c. omega arith)
-    (λ c. omega arith)
+    (λ c. omega arith) (λ c. omega arith) (λ c. omega arith) (λ c. omega arith) (λ c. omega arith) (λ c. omega arith) (λ c. omega arith)
     (λ c. let h = c .before .before in (omega arith, simp length-set (omega arith), up-turn _ _ _ _ _ _ (omega arith) (omega arith) (omega arith) (h .loop .inv .2)))
     (λ c. c .before .loop .inv .1)
     (λ c. let z : c .before .loop .i ≡ 0 = omega arith in simp (z, add-zero, sub-zero) at (c .before .loop .inv .2)))

@@ -12,7 +12,5 @@ bound-shaped-spec =
     (λ c κs. search needs)
     (λ c. laws.bound-one _ _ (sym (c .before .get .ensures .0) ∙ c .if1 .taken))
     (λ c. laws.bound-no _ _ (λ e. c .before .if1 .left (c .before .before .get .ensures .0 ∙ e)) (λ e. c .if2 .taken (c .before .before .get .ensures .0 ∙ e)))
-    (λ c κs. search needs)
-    (λ c κs. search needs)
-    (λ c κs. search needs)
+    (λ c κs. search needs) (λ c κs. search needs) (λ c κs. search needs)
     (λ c. laws.bound-zero _ _ (sym (c .before .before .before .before .before .get .ensures .0) ∙ c .before .before .before .if2 .left) (laws.zeros-tested _ _ _ (omega arith) (c .before .before .stamp-at .ensures) (c .before .zero-stamp .ensures) (c .same .ensures))))

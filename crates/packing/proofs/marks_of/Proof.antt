@@ -25,10 +25,6 @@ marks-of-spec =
     Inv-loop
     μ-loop
     loop-holds
-    (λ c. omega arith)
-    (λ c κs. search needs)
-    (λ c. omega arith)
-    (λ c. omega arith)
-    (λ c. omega arith)
+    (λ c. omega arith) (λ c κs. search needs) (λ c. omega arith) (λ c. omega arith) (λ c. omega arith)
     (λ c. (omega arith, simp length-set (omega arith), laws.marks-turn _ _ (c .before .before .before .loop .i) _ (omega arith) (omega arith) (c .heard-of .ensures) (c .before .before .before .loop .inv .2)))
     (λ c. laws.marks-end _ _ (c .before .loop .i) (omega arith) (omega arith) (c .before .loop .inv .2)))

@@ -22,7 +22,6 @@ marks-shaped-spec =
     (λ c. refl)
     (λ c. omega arith)
     (λ c. laws.shaped-stop _ (c .before .before .before .loop .i) (omega arith) (omega arith) (c .before .before .before .loop .inv))
-    (λ c. omega arith)
-    (λ c. omega arith)
+    (λ c. omega arith) (λ c. omega arith)
     (λ c. laws.shaped-on _ (c .before .before .before .loop .i) (omega arith) (omega arith) (c .before .before .before .loop .inv))
     (λ c. laws.shaped-end _ (c .before .loop .i) (omega arith) (c .before .loop .inv)))

@@ -20,8 +20,7 @@ pub plan-of-spec : {M : Type 1} → statement M
 plan-of-spec =
     tie.close
     (tie.spec
-    (λ c κs. search needs)
-    (λ c κs. search needs)
+    (λ c κs. search needs) (λ c κs. search needs)
     returns
     (λ c κs. let e = laws.plan-length _ (sym (c .before .plan-shaped .ensures) ∙ not-false (c .before .plan-shaped .result) (c .if1 .left)) in omega arith)
     returns-2)

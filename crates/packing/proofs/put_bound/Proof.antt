@@ -8,7 +8,5 @@ pub put-bound-spec : {M : Type 1} → statement M
 put-bound-spec =
     tie.close
     (tie.spec
-    (λ c κs. search needs)
-    (λ c κs. search needs)
-    (λ c. search needs)
+    (λ c κs. search needs) (λ c κs. search needs) (λ c. search needs)
     (λ c. laws.bound-put _ _ _ _ (c .before .before .before .before .before .before .before .before .before .args .t) (omega arith) (c .before .before .before .before .before .before .put-num .ensures) (c .before .before .put-stamp .ensures)))

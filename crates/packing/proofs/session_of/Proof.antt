@@ -19,8 +19,7 @@ pub session-of-spec : {M : Type 1} → statement M
 session-of-spec =
     tie.close
     (tie.spec
-    (λ c κs. search needs)
-    (λ c κs. search needs)
+    (λ c κs. search needs) (λ c κs. search needs)
     returns
     (λ c κs. laws.session-length _ (sym (c .before .session-shaped .ensures) ∙ not-false (c .before .session-shaped .result) (c .if1 .left)))
     returns-2)

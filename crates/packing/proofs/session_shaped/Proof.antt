@@ -44,8 +44,5 @@ session-shaped-spec =
     returns-3
     (λ c κs. search needs)
     returns-4
-    (λ c. search needs)
-    (λ c. search needs)
-    (λ c. search needs)
-    (λ c κs. search needs)
+    (λ c. search needs) (λ c. search needs) (λ c. search needs) (λ c κs. search needs)
     returns-5)

@@ -7,11 +7,7 @@ pub write-asks-spec : {M : Type 1} → statement M
 write-asks-spec =
     tie.close
     (tie.spec
-    (λ c κs. search needs)
-    (λ c κs. search needs)
-    (λ c κs. search needs)
-    (λ c κs. search needs)
-    (λ c. search needs)
+    (λ c κs. search needs) (λ c κs. search needs) (λ c κs. search needs) (λ c κs. search needs) (λ c. search needs)
     (λ c.
     let late = c .before .before in
     let mid = late .before .before .before .before in

@@ -7,10 +7,7 @@ pub write-heard-spec : {M : Type 1} → statement M
 write-heard-spec =
     tie.close
     (tie.spec
-    (λ c κs. search needs)
-    (λ c κs. search needs)
-    (λ c κs. search needs)
-    (λ c. search needs)
+    (λ c κs. search needs) (λ c κs. search needs) (λ c κs. search needs) (λ c. search needs)
     (λ c.
     let late = c .before .before in
     let mid = late .before .before .before .before in

@@ -23,12 +23,7 @@ write-marks-spec =
     Inv-loop
     μ-loop
     (λ c. (omega arith, refl, laws.write-start _ (c .before .args .t2) _))
-    (λ c. omega arith)
-    (λ c κs. search needs)
-    (λ c. omega arith)
-    (λ c. omega arith)
-    (λ c. omega arith)
-    (λ c. omega arith)
+    (λ c. omega arith) (λ c κs. search needs) (λ c. omega arith) (λ c. omega arith) (λ c. omega arith) (λ c. omega arith)
     (λ c. let e : length (c .before .before .before .before .before .args .t2) ≡ 16 = search needs in (omega arith, simp length-set (omega arith), laws.write-turn _ _ (c .before .before .before .before .before .args .t2) 101 (c .before .before .before .loop .i) _ unheard (omega arith) (omega arith) (c .mark-byte .ensures) (c .before .before .before .loop .inv .2)))
     (λ c. c .before .loop .inv .1)
     (λ c. let e : length (c .before .before .before .args .t2) ≡ 16 = search needs in (laws.write-end _ _ (c .before .before .before .args .t2) 101 (c .before .loop .i) (omega arith) (c .before .loop .inv .2), e)))

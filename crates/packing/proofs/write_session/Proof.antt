@@ -7,9 +7,7 @@ pub write-session-spec : {M : Type 1} → statement M
 write-session-spec =
     tie.close
     (tie.spec
-    (λ c κs. search needs)
-    (λ c κs. search needs)
-    (λ c. search needs)
+    (λ c κs. search needs) (λ c κs. search needs) (λ c. search needs)
     (λ c.
     let late = c .before .before in
     let early = late .before .before .before .before in

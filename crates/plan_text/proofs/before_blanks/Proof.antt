@@ -24,11 +24,9 @@ before-blanks-spec =
     Inv-loop
     μ-loop
     (λ c. (omega arith, omega arith, refl))
-    (λ c. omega arith)
-    (λ c. omega arith)
+    (λ c. omega arith) (λ c. omega arith)
     (λ c κs. tt)
     (λ c. (omega arith, omega arith, words.chop-at (c .before .before .before .before .before .before .args .s .now) (c .before .before .before .before .before .before .args .at) (c .before .before .before .before .before .before .args .end) (c .before .before .before .before .loop .i) (c .before .before .before .before .loop .inv .2) (omega arith) (omega arith) (sym (c .before .is-blank .ensures) ∙ not-true (c .before .is-blank .result) (c .if1 .taken))))
-    (λ c. omega arith)
-    (λ c. omega arith)
+    (λ c. omega arith) (λ c. omega arith)
     (λ c. (omega arith, omega arith, words.chop-on (c .before .before .before .before .before .before .args .s .now) (c .before .before .before .before .before .before .args .at) (c .before .before .before .before .before .before .args .end) (c .before .before .before .before .loop .i) (c .before .before .before .before .loop .inv .2) (omega arith) (omega arith) (sym (c .before .is-blank .ensures) ∙ not-false (c .before .is-blank .result) (c .if1 .left))))
     (λ c. (omega arith, omega arith, words.chop-end (c .before .before .before .args .s .now) (c .before .before .before .args .at) (c .before .before .before .args .end) (c .before .loop .i) (c .before .loop .inv .2) (omega arith))))

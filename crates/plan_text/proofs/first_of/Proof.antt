@@ -27,7 +27,6 @@ first-of-spec =
     (λ c. (omega arith, omega arith, words.until-start (c .args .s .now) (c .args .at) (c .args .end) (c .args .x)))
     (λ c. omega arith)
     (λ c. (omega arith, omega arith, words.until-at (c .before .before .before .before .args .s .now) (c .before .before .before .before .args .at) (c .before .before .before .before .args .end) (c .before .before .before .before .args .x) (c .before .before .before .loop .i) (c .before .before .before .loop .inv .2) (omega arith) (omega arith) (omega arith)))
-    (λ c. omega arith)
-    (λ c. omega arith)
+    (λ c. omega arith) (λ c. omega arith)
     (λ c. (omega arith, omega arith, words.until-on (c .before .before .before .before .args .s .now) (c .before .before .before .before .args .at) (c .before .before .before .before .args .end) (c .before .before .before .before .args .x) (c .before .before .before .loop .i) (c .before .before .before .loop .inv .2) (omega arith) (omega arith) (omega arith) (λ (e : getD (c .before .before .before .before .args .s .now) (c .before .before .before .loop .i) 0 ≡ c .before .before .before .before .args .x). omega arith)))
     (λ c. (omega arith, omega arith, words.until-end (c .before .before .args .s .now) (c .before .before .args .at) (c .before .before .args .end) (c .before .before .args .x) (c .before .loop .i) (c .before .loop .inv .2) (omega arith))))

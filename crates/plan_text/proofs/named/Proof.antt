@@ -9,6 +9,5 @@ pub named-spec : {M : Type 1} → statement M
 named-spec =
     tie.close
     (tie.spec
-    (λ c κs. search needs)
-    (λ c κs. search needs)
+    (λ c κs. search needs) (λ c κs. search needs)
     (λ c. c .number-in .ensures ∙ ap numeralOf (c .before .value-at .ensures .1)))

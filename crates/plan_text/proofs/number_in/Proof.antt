@@ -27,7 +27,6 @@ number-in-spec =
     (λ c. laws.high (c .before .before .before .before .before .before .before .args .s .now) (c .before .before .before .before .before .before .before .args .at) (c .before .before .before .before .before .before .before .args .end) (c .before .before .before .before .loop .x) (c .before .before .before .before .loop .i) (c .before .before .before .before .loop .inv .2) (omega arith) (omega arith) (omega arith))
     (λ c. laws.big (c .before .before .before .before .before .before .before .before .args .s .now) (c .before .before .before .before .before .before .before .before .args .at) (c .before .before .before .before .before .before .before .before .args .end) (c .before .before .before .before .before .loop .x) (c .before .before .before .before .before .loop .i) (c .before .before .before .before .before .loop .inv .2) (omega arith) (omega arith) (omega arith) (omega arith) (omega arith))
     (λ c κs. (omega arith, omega arith, omega arith))
-    (λ c. omega arith)
-    (λ c. omega arith)
+    (λ c. omega arith) (λ c. omega arith)
     (λ c. let far = c .before .before .before .before in (omega arith, omega arith, laws.on (far .before .before .before .before .before .args .s .now) (far .before .before .before .before .before .args .at) (far .before .before .before .before .before .args .end) (c .before .before .before .before .before .before .loop .x) (c .before .before .before .before .before .before .loop .i) (c .before .before .before .before .before .before .loop .inv .2) (c .digit .result) (c .digit .ensures) (omega arith) (omega arith) (omega arith) (omega arith) (omega arith)))
     (λ c. laws.done (c .before .before .before .before .args .s .now) (c .before .before .before .before .args .at) (c .before .before .before .before .args .end) (c .before .loop .x) (c .before .loop .i) (c .before .loop .inv .2) (omega arith)))

@@ -27,7 +27,6 @@ past-blanks-spec =
     (λ c. omega arith)
     (λ c κs. tt)
     (λ c. (omega arith, omega arith, words.past-at (c .before .before .before .before .before .before .args .s .now) (c .before .before .before .before .before .before .args .at) (c .before .before .before .before .before .before .args .end) (c .before .before .before .before .loop .i) (c .before .before .before .before .loop .inv .2) (omega arith) (omega arith) (sym (c .before .is-blank .ensures) ∙ not-true (c .before .is-blank .result) (c .if1 .taken))))
-    (λ c. omega arith)
-    (λ c. omega arith)
+    (λ c. omega arith) (λ c. omega arith)
     (λ c. (omega arith, omega arith, words.past-on (c .before .before .before .before .before .before .args .s .now) (c .before .before .before .before .before .before .args .at) (c .before .before .before .before .before .before .args .end) (c .before .before .before .before .loop .i) (c .before .before .before .before .loop .inv .2) (omega arith) (omega arith) (sym (c .before .is-blank .ensures) ∙ not-false (c .before .is-blank .result) (c .if1 .left))))
     (λ c. (omega arith, omega arith, words.past-end (c .before .before .before .args .s .now) (c .before .before .before .args .at) (c .before .before .before .args .end) (c .before .loop .i) (c .before .loop .inv .2) (omega arith))))

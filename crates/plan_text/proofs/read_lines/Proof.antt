@@ -30,15 +30,10 @@ read-lines-spec =
     Inv-loop
     μ-loop
     (λ c. (omega arith, omega arith, omega arith, omega arith, laws.start (c .before .args .s .now) (c .before .args .values .now)))
-    (λ c. omega arith)
-    (λ c κs. omega arith)
-    (λ c. omega arith)
-    (λ c. omega arith)
-    (λ c. omega arith)
+    (λ c. omega arith) (λ c κs. omega arith) (λ c. omega arith) (λ c. omega arith) (λ c. omega arith)
     (λ c κs. (omega arith, omega arith))
     returns
-    (λ c. omega arith)
-    (λ c. omega arith)
+    (λ c. omega arith) (λ c. omega arith)
     loop-again
     (λ c. laws.end-short (c .before .before .before .before .args .s .now) (c .before .before .loop .values) (c .before .before .loop .at) (c .before .before .loop .k) (c .before .before .loop .lines) (c .before .before .loop .inv .4) (omega arith) (omega arith) (omega arith))
     (λ c κs. tt)

@@ -13,10 +13,6 @@ take-line-spec =
     (tie.spec
     (λ c. ((omega arith, laws.none-wrong (c .before .before .args .k) (c .before .before .args .w .now) (omega arith), c .before .before .pre .1), laws.none-given (c .before .before .args .values .now) (c .before .before .args .k) (c .before .before .args .w .now) (omega arith)))
     (λ c. ((omega arith, laws.left-wrong (c .before .before .before .args .values .now) (c .before .before .before .args .k) (c .before .before .before .args .w .now) (omega arith) (laws.full-not _ _ (omega arith)), c .before .before .before .pre .1), laws.left-given (c .before .before .before .args .values .now) (c .before .before .before .args .k) (c .before .before .before .args .w .now) (omega arith) (laws.full-not _ _ (omega arith))))
-    (λ c κs. omega arith)
-    (λ c. search needs)
-    (λ c. search needs)
-    (λ c. search needs)
-    (λ c. search needs)
+    (λ c κs. omega arith) (λ c. search needs) (λ c. search needs) (λ c. search needs) (λ c. search needs)
     (λ c. ((omega arith, laws.right-wrong (c .before .before .before .before .before .before .before .args .values .now) (c .before .before .before .before .before .before .before .args .k) (c .before .before .before .before .before .before .before .args .w .now) (omega arith) _ (sym (c .before .before .before .value .ensures) ∙ c .before .v .given .1), length-set (c .before .before .before .before .before .before .before .args .values .now) (c .before .before .before .before .before .before .before .args .k) (c .before .v .given .0 .0) ∙ c .before .before .before .before .before .before .before .pre .1), laws.right-given (c .before .before .before .before .before .before .before .args .values .now) (c .before .before .before .before .before .before .before .args .k) (c .before .before .before .before .before .before .before .args .w .now) (omega arith) _ (sym (c .before .before .before .value .ensures) ∙ c .before .v .given .1) (omega arith)))
     (λ c. ((omega arith, laws.left-wrong (c .before .before .before .before .before .before .args .values .now) (c .before .before .before .before .before .before .args .k) (c .before .before .before .before .before .before .args .w .now) (omega arith) (sym (c .before .before .value .ensures) ∙ c .enum-told .given .1), c .before .before .before .before .before .before .pre .1), laws.left-given (c .before .before .before .before .before .before .args .values .now) (c .before .before .before .before .before .before .args .k) (c .before .before .before .before .before .before .args .w .now) (omega arith) (sym (c .before .before .value .ensures) ∙ c .enum-told .given .1))))

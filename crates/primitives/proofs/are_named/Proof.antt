@@ -23,7 +23,6 @@ are-named-spec =
     (λ c. refl)
     (λ c κs. (omega arith, omega arith))
     (λ c. sym (c .before .before .before .loop .inv ∙ named-stop (c .before .before .before .before .before .args .f) (c .before .before .before .before .before .args .desk) (c .before .before .before .before .before .args .nodes .now) (c .before .before .before .loop .k) (omega arith) (sym (c .before .is-apart .ensures) ∙ not-true (c .before .is-apart .result) (c .if1 .taken))))
-    (λ c. omega arith)
-    (λ c. omega arith)
+    (λ c. omega arith) (λ c. omega arith)
     (λ c. c .before .before .before .loop .inv ∙ named-on (c .before .before .before .before .before .args .f) (c .before .before .before .before .before .args .desk) (c .before .before .before .before .before .args .nodes .now) (c .before .before .before .loop .k) (omega arith) (sym (c .before .is-apart .ensures) ∙ not-false (c .before .is-apart .result) (c .if1 .left)))
     (λ c. sym (c .before .loop .inv ∙ named-end (c .before .before .before .args .f) (c .before .before .before .args .desk) (c .before .before .before .args .nodes .now) (c .before .loop .k) (omega arith))))

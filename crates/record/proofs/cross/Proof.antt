@@ -1,10 +1,9 @@
-use mathlib.Core.Path.{_≡_, refl, sym, ap, _∙_}
-use mathlib.Core.List.{List}
-use Prim.Native.Nat.{ℕ, _+_, _-_, _*_, _≤_}
+use mathlib.Core.Path.{_≡_, refl, _∙_}
+use Prim.Native.Nat.{_-_, _≤_}
 use native.Mathlib.Omega.{arith}
 use borrow.Author.Needs.{needs}
 use lib.ListN.{length}
-use Rattle.octets.specs.Bytes.{part, put}
+use Rattle.octets.specs.Bytes.{put}
 use Rattle.terms.proofs.Places.{slots-are}
 use Rattle.record.specs.Desk.{fragmentIn, crossMade}
 use Rattle.record.proofs.Desks as laws
@@ -28,8 +27,7 @@ cross-spec =
     (λ c. let l = c .before in let s = l .before in let e = s .before .before .before in let h = laws.entry-fits (e .args .p) (e .args .desk .now) (s .slots-of .result) (e .pre .0) (e .pre .1) (s .slots-of .ensures) (l .loop .k) (omega arith) in omega (arith, h))
     (λ c. let l = c .before in let s = l .before in let e = s .before .before .before in let h = laws.entry-fits (e .args .p) (e .args .desk .now) (s .slots-of .result) (e .pre .0) (e .pre .1) (s .slots-of .ensures) (l .loop .k) (omega arith) in omega (arith, h))
     (λ c. let l = c .before in let s = l .before in let e = s .before .before .before in let h = laws.entry-fits (e .args .p) (e .args .desk .now) (s .slots-of .result) (e .pre .0) (e .pre .1) (s .slots-of .ensures) (l .loop .k) (omega arith) in omega (arith, h))
-    (λ c. omega arith)
-    (λ c. omega arith)
+    (λ c. omega arith) (λ c. omega arith)
     (λ c. let l = c .before in let s = l .before in let e = s .before .before .before in let h = laws.entry-fits (e .args .p) (e .args .desk .now) (s .slots-of .result) (e .pre .0) (e .pre .1) (s .slots-of .ensures) (l .loop .k) (omega arith) in omega (arith, h))
     (λ c. let s = c .before .before .before .before in let q = slots-are _ _ (s .before .before .before .pre .0) (s .slots-of .ensures) in omega (arith, q .n-is, q .n-high))
     (λ c. let s = c .before .before .before .before in let q = slots-are _ _ (s .before .before .before .pre .0) (s .slots-of .ensures) in omega (arith, q .n-is, q .n-high))
@@ -40,8 +38,7 @@ cross-spec =
     let q = slots-are _ _ (e .pre .0) (s .slots-of .ensures) in
     let t = laws.entry-length (e .args .p) (e .args .desk .now) (s .slots-of .result) (e .pre .0) (e .pre .1) (s .slots-of .ensures) (l .loop .k) (omega arith) in
     (omega (arith, t, q .f-high), omega (arith, q .n-is, l .loop .inv .1, e .pre .2)))
-    (λ c. omega arith)
-    (λ c. omega arith)
+    (λ c. omega arith) (λ c. omega arith)
     (λ c.
     let l = c .before .before .before .before .before .before in
     let s = l .before in

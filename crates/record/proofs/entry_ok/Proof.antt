@@ -4,7 +4,6 @@ use native.Mathlib.Omega.{arith}
 use lib.Seq.{length-take-le}
 use Rattle.octets.specs.Bytes.{part, alike}
 use Rattle.record.proofs.Desks as laws
-use borrow.Author.Needs.{needs}
 use Rattle.record.proofs.entry_ok.Statement.{statement}
 use Rattle.record.proofs.entry_ok.Tie as tie
 

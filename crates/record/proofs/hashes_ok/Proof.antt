@@ -1,6 +1,5 @@
 use native.Mathlib.Omega.{arith}
 use borrow.Author.Tests.{not-true, not-false}
-use Prim.Native.Nat.{_+_, _-_, _≤_}
 use Rattle.terms.proofs.Places.{slots-are}
 use Rattle.record.proofs.Records as laws
 use borrow.Author.Needs.{needs}

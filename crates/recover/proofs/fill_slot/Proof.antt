@@ -7,14 +7,9 @@ pub fill-slot-spec : {M : Type 1} → statement M
 fill-slot-spec =
     tie.close
     (tie.spec
-    (λ c. search needs)
-    (λ c κs. search needs)
+    (λ c. search needs) (λ c κs. search needs)
     (λ c. let a = c .before .before .before .before .before .before .args in laws.filled-stays (a .desk .now) (a .set .slots) (a .qs .now) (a .set .lead) (a .k) _ (c .before .is-among .ensures) (c .if1 .taken))
-    (λ c. search needs)
-    (λ c κs. search needs)
-    (λ c κs. search needs)
-    (λ c. search needs)
-    (λ c. search needs)
+    (λ c. search needs) (λ c κs. search needs) (λ c κs. search needs) (λ c. search needs) (λ c. search needs)
     (λ c.
     let g = c .before .before .before .before .before .before .before in
     let t = g .before .before .before in

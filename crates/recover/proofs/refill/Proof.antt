@@ -32,11 +32,9 @@ refill-spec =
     let z = slot-room (c .before .before .before .loop .k) _ _ _ (c .before .before .loop-test .taken) (e .pre .4) in
     let y = slot-room (e .args .a) _ _ _ (e .pre .5) (e .pre .4) in
     (λ j u. let q = e .pre .0 j u in omega arith, omega arith, e .pre .2, omega arith, omega arith, omega arith))
-    (λ c. search needs)
-    (λ c. search needs)
+    (λ c. search needs) (λ c. search needs)
     (λ c.
     let l = c .before .before .before .before .before .before .before .before .loop in
     (omega arith, omega arith, omega arith, laws.refill-more _ _ _ _ _ _ (l .k) (l .inv .3) (c .before .before .before .before .fill-slot .ensures)))
-    (λ c. omega arith)
-    (λ c. omega arith)
+    (λ c. omega arith) (λ c. omega arith)
     (λ c. let e : c .before .loop .k ≡ c .before .before .before .before .before .args .slots .n = omega arith in c .before .loop .inv .3 ∙ ap (refilled _ _ _ _) e))

@@ -1,4 +1,4 @@
-use mathlib.Core.Path.{_≡_, sym, ap, _∙_}
+use mathlib.Core.Path.{_≡_}
 use Prim.Native.Nat.{_-_, _≤_}
 use native.Mathlib.Omega.{arith}
 use borrow.Author.Needs.{needs}
@@ -59,8 +59,7 @@ valid-spec =
     let r = laws.head-room _ _ (s .slots-of .ensures) (a .a) _ (e .pre .3) in
     laws.agreed-not (a .p) (a .desk .now) (a .qs .now) (a .a) (l .loop .i) (c .before .entry-ok .result) _ (s .slots-of .result) (s .slots-of .ensures)
     (g .regenerate .ensures) (c .before .entry-ok .ensures) (omega arith) (omega (arith, e .pre .3)) (not-true (c .before .entry-ok .result) (c .if1 .taken)))
-    (λ c. search needs)
-    (λ c. search needs)
+    (λ c. search needs) (λ c. search needs)
     (λ c.
     let g = c .before .before .before .before .before in
     let l = g .before .before .before in

@@ -8,8 +8,7 @@ pub validate-spec : {M : Type 1} → statement M
 validate-spec =
     tie.close
     (tie.spec
-    (λ c. search needs)
-    (λ c. search needs)
+    (λ c. search needs) (λ c. search needs)
     (λ c.
     let e = c .before .before .before .before .before in
     let a = e .args in

@@ -32,8 +32,7 @@ write-records-spec =
     let pre = s .before .before .before .before .pre in
     let q = plan-is _ (pre .0) in
     (pre .0, omega arith, omega arith))
-    (λ c. search needs)
-    (λ c. search needs)
+    (λ c. search needs) (λ c. search needs)
     (λ c.
     let t = c .before .before .before .before .before in
     let x = t .before .before .before .before in

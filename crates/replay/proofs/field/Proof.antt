@@ -20,14 +20,11 @@ field-spec =
     Inv-loop
     μ-loop
     (λ c. (omega arith, omega arith))
-    (λ c. omega arith)
-    (λ c. omega arith)
-    (λ c. omega arith)
+    (λ c. omega arith) (λ c. omega arith) (λ c. omega arith)
     (λ c.
     let l = c .before .before .before .loop in
     let h : l .k / 2 ≤ length (l .out) = omega arith in (h, sym (length-take-le (l .k / 2) (l .out) h)))
-    (λ c κs. omega arith)
-    (λ c. omega arith)
+    (λ c κs. omega arith) (λ c. omega arith)
     (λ c. (omega arith, omega arith))
     (λ c. omega arith)
     (λ c.

@@ -18,9 +18,5 @@ lines-spec =
     (tie.spec
     Inv-loop
     μ-loop
-    (λ c. omega arith)
-    (λ c κs. search needs)
-    (λ c κs. omega arith)
-    (λ c. omega arith)
-    (λ c. omega arith)
+    (λ c. omega arith) (λ c κs. search needs) (λ c κs. omega arith) (λ c. omega arith) (λ c. omega arith)
     (λ c. search needs))

@@ -18,10 +18,5 @@ write-hex-spec =
     (tie.spec
     Inv-loop
     μ-loop
-    (λ c. omega arith)
-    (λ c. omega arith)
-    (λ c κs. search needs)
-    (λ c. omega arith)
-    (λ c. omega arith)
-    (λ c. omega arith)
+    (λ c. omega arith) (λ c. omega arith) (λ c κs. search needs) (λ c. omega arith) (λ c. omega arith) (λ c. omega arith)
     (λ c. search needs))

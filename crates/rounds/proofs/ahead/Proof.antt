@@ -18,8 +18,7 @@ pub ahead-spec : {M : Type 1} → statement M
 ahead-spec =
     tie.close
     (tie.spec
-    (λ c. search needs)
-    (λ c. search needs)
+    (λ c. search needs) (λ c. search needs)
     (λ c. let h = slot-room (c .before .best .given .0 .0) _ _ _ (laws.lead-told _ _ _ (c .before .best .given .1) (c .before .before .before .before .pre .3)) (c .before .before .before .before .pre .0) in omega (arith, h, c .before .before .before .before .good))
     (λ c. let h = slot-room (c .before .before .before .before .args .i) _ _ _ (c .before .before .before .before .pre .2) (c .before .before .before .before .pre .0) in omega (arith, h, c .before .before .before .before .good))
     (λ c κs. let h = slot-room (c .before .best .given .0 .0) _ _ _ (laws.lead-told _ _ _ (c .before .best .given .1) (c .before .before .before .before .pre .3)) (c .before .before .before .before .pre .0) in let k = slot-room (c .before .before .before .before .args .i) _ _ _ (c .before .before .before .before .pre .2) (c .before .before .before .before .pre .0) in (omega (arith, h), omega (arith, k)))

@@ -10,10 +10,7 @@ pub closing-spec : {M : Type 1} → statement M
 closing-spec =
     tie.close
     (tie.spec
-    (λ c κs. search needs)
-    (λ c. search needs)
-    (λ c κs. search needs)
-    (λ c. search needs)
+    (λ c κs. search needs) (λ c. search needs) (λ c κs. search needs) (λ c. search needs)
     (λ c κs. (c .before .before .before .before .before .pre .0, c .before .before .before .before .before .pre .2, c .before .before .before .before .before .pre .3, laws.lead-room _ _ _ _ _ _ (c .before .before .before .leading .ensures) (c .before .lead .given .1)))
     (λ c κs. search needs)
     (λ c. let h = slot-room (c .before .before .before .lead .given .0 .0) _ _ _ (laws.lead-room _ _ _ _ _ _ (c .before .before .before .before .before .leading .ensures) (c .before .before .before .lead .given .1)) (c .before .before .before .before .before .before .before .pre .0) in omega (arith, h, c .before .before .before .before .before .before .before .good))

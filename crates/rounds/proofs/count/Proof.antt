@@ -25,10 +25,6 @@ count-spec =
     Inv-loop
     μ-loop
     loop-holds
-    (λ c. omega arith)
-    (λ c κs. omega arith)
-    (λ c. omega arith)
-    (λ c. omega arith)
-    (λ c. omega arith)
+    (λ c. omega arith) (λ c κs. omega arith) (λ c. omega arith) (λ c. omega arith) (λ c. omega arith)
     (λ c. let e : length (c .before .before .before .before .args .t1) ≡ 16 = search needs in (omega arith, omega arith, laws.count-turn (c .before .before .before .before .args .t1) (c .before .before .before .loop .i) _ _ unheard (omega arith) (c .before .before .before .loop .inv .2) (c .bit .ensures .0)))
     (λ c. let e : length (c .before .before .args .t1) ≡ 16 = search needs in (laws.count-all _ (c .before .loop .i) _ (omega arith) (c .before .loop .inv .2), omega arith)))

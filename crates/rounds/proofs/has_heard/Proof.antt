@@ -9,6 +9,5 @@ pub has-heard-spec : {M : Type 1} → statement M
 has-heard-spec =
     tie.close
     (tie.spec
-    (λ c. search needs)
-    (λ c κs. search needs)
+    (λ c. search needs) (λ c κs. search needs)
     (λ c. ap (λ (n : ℕ). eqb n 1) (c .bit .ensures .0)))

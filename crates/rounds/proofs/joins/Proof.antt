@@ -1,5 +1,4 @@
 use mathlib.Core.Path.{refl}
-use Prim.Native.Nat.{_-_}
 use native.Mathlib.Omega.{arith}
 use Rattle.octets.proofs.Laws.{slot-room}
 use Rattle.rounds.specs.Rounds.{joinsOf}
@@ -27,8 +26,7 @@ joins-spec =
     (λ c. let h = slot-room (c .before .before .before .args .i) _ _ _ (c .before .before .before .pre .2) (c .before .before .before .pre .0) in omega (arith, c .before .before .before .good))
     (λ c. let h = slot-room (c .before .before .before .args .a) _ _ _ (c .before .before .before .pre .3) (c .before .before .before .pre .0) in omega (arith, c .before .before .before .good))
     (λ c κs. let h = slot-room (c .before .before .before .args .i) _ _ _ (c .before .before .before .pre .2) (c .before .before .before .pre .0) in let k = slot-room (c .before .before .before .args .a) _ _ _ (c .before .before .before .pre .3) (c .before .before .before .pre .0) in (omega arith, omega arith))
-    (λ c. search needs)
-    (λ c. search needs)
+    (λ c. search needs) (λ c. search needs)
     returns
     returns-2
     returns-3)

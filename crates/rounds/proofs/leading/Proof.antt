@@ -26,7 +26,6 @@ leading-spec =
     loop-holds
     (λ c. omega arith)
     (λ c κs. (c .before .before .before .before .pre .0, c .before .before .before .before .pre .1, c .before .loop-test .taken, subst (λ (x : Lead). leadIn x (c .before .before .before .before .args .slots .n)) (sym (c .before .before .loop .inv .1)) (laws.lead-below _ _ _ _ _ (c .before .before .loop .inv .0))))
-    (λ c. omega arith)
-    (λ c. omega arith)
+    (λ c. omega arith) (λ c. omega arith)
     (λ c. (omega arith, laws.lead-turn _ _ _ _ _ _ (c .before .before .before .loop .inv .1) (c .step .ensures)))
     (λ c. c .before .loop .inv .1 ∙ ap (leadOf _ _ _) (let e : c .before .loop .i ≡ c .before .before .before .args .slots .n = omega arith in e)))

@@ -28,7 +28,6 @@ members-spec =
     (λ c. omega arith)
     (λ c κs. (c .before .before .before .before .pre .0, c .before .before .before .before .pre .1, c .before .loop-test .taken, c .before .before .before .before .pre .3))
     (λ c κs. (omega arith, omega arith, c .before .before .before .loop .inv .2))
-    (λ c. omega arith)
-    (λ c. omega arith)
+    (λ c. omega arith) (λ c. omega arith)
     (λ c. let z = laws.add-size (c .before .before .before .before .loop .set) (c .before .before .before .before .loop .i) (c .before .joins .result) in let e = c .add .ensures in (omega arith, (let k : c .add .result .size ≤ c .before .before .before .before .loop .set .size + 1 = rw e z in omega arith), ap (λ (x : Set). length (x .nodes)) e ∙ laws.add-len _ _ _ ∙ c .before .before .before .before .loop .inv .2, laws.members-turn _ _ _ _ _ _ _ _ (omega arith) (c .before .before .before .before .loop .inv .3) (c .before .joins .ensures) e))
     (λ c. let e : c .before .loop .i ≡ c .before .before .before .args .slots .n = omega arith in (c .before .loop .inv .3 ∙ ap (setOf _ _ _ _) e, omega arith, c .before .loop .inv .2)))

@@ -22,10 +22,8 @@ none-first-spec =
     Inv-loop
     μ-loop
     (λ c. (omega arith, refl))
-    (λ c. omega arith)
-    (λ c κs. search needs)
+    (λ c. omega arith) (λ c κs. search needs)
     (λ c. let e : length (c .before .before .before .before .before .args .t1) ≡ 16 = search needs in laws.every-stop isNotFirst (c .before .before .before .before .before .args .t1) (c .before .before .before .before .loop .i) _ _ (omega arith) (c .before .before .before .before .loop .inv .1) (c .before .not-first .ensures) (not-true (c .before .not-first .result) (c .if1 .taken)))
-    (λ c. omega arith)
-    (λ c. omega arith)
+    (λ c. omega arith) (λ c. omega arith)
     (λ c. let e : length (c .before .before .before .before .before .args .t1) ≡ 16 = search needs in (omega arith, laws.every-on isNotFirst (c .before .before .before .before .before .args .t1) (c .before .before .before .before .loop .i) _ _ (omega arith) (c .before .before .before .before .loop .inv .1) (c .before .not-first .ensures) (not-false (c .before .not-first .result) (c .if1 .left))))
     (λ c. let e : length (c .before .before .args .t1) ≡ 16 = search needs in laws.every-end isNotFirst (c .before .before .args .t1) (c .before .loop .i) _ (omega arith) (c .before .loop .inv .1)))

@@ -22,10 +22,8 @@ rest-unheard-spec =
     Inv-loop
     μ-loop
     (λ c. (omega arith, refl))
-    (λ c. omega arith)
-    (λ c κs. search needs)
+    (λ c. omega arith) (λ c κs. search needs)
     (λ c. let e : length (c .before .before .before .before .before .args .t1) ≡ 16 = search needs in laws.every-stop isUnheard (c .before .before .before .before .before .args .t1) (c .before .before .before .before .loop .i) _ _ (omega arith) (c .before .before .before .before .loop .inv .1) (c .before .silent .ensures) (not-true (c .before .silent .result) (c .if1 .taken)))
-    (λ c. omega arith)
-    (λ c. omega arith)
+    (λ c. omega arith) (λ c. omega arith)
     (λ c. let e : length (c .before .before .before .before .before .args .t1) ≡ 16 = search needs in (omega arith, laws.every-on isUnheard (c .before .before .before .before .before .args .t1) (c .before .before .before .before .loop .i) _ _ (omega arith) (c .before .before .before .before .loop .inv .1) (c .before .silent .ensures) (not-false (c .before .silent .result) (c .if1 .left))))
     (λ c. let e : length (c .before .before .args .t1) ≡ 16 = search needs in laws.every-end isUnheard (c .before .before .args .t1) (c .before .loop .i) _ (omega arith) (c .before .loop .inv .1)))

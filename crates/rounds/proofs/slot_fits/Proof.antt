@@ -32,8 +32,7 @@ slot-fits-spec =
     returns
     (λ c. let h = slot-room (c .before .before .before .before .before .args .i) _ _ _ (c .before .before .before .before .before .pre .2) (c .before .before .before .before .before .pre .0) in omega (arith, h, c .before .before .before .before .before .good))
     (λ c κs. let h = slot-room (c .before .before .before .before .before .args .i) _ _ _ (c .before .before .before .before .before .pre .2) (c .before .before .before .before .before .pre .0) in omega (arith, h))
-    (λ c. search needs)
-    (λ c. search needs)
+    (λ c. search needs) (λ c. search needs)
     returns-2
     returns-3
     returns-4)

@@ -24,7 +24,6 @@ slots-fit-spec =
     (λ c. omega arith)
     (λ c κs. (c .before .before .before .before .pre .0, c .before .before .before .before .pre .1, c .before .loop-test .taken))
     (λ c. laws.fits-stop _ _ _ _ (c .before .before .before .before .loop .i) _ _ (omega arith) (c .before .slot-fits .ensures) (not-true (c .before .slot-fits .result) (c .if1 .taken)))
-    (λ c. omega arith)
-    (λ c. omega arith)
+    (λ c. omega arith) (λ c. omega arith)
     (λ c. (omega arith, laws.fits-more _ _ _ _ (c .before .before .before .before .loop .i) _ (c .before .before .before .before .loop .inv .1) (c .before .slot-fits .ensures) (not-false (c .before .slot-fits .result) (c .if1 .left))))
     (λ c. laws.fits-all _ _ _ _ (c .before .loop .i) _ (omega arith) (c .before .loop .inv .1)))

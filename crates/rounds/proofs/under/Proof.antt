@@ -10,9 +10,6 @@ pub under-spec : {M : Type 1} → statement M
 under-spec =
     tie.close
     (tie.spec
-    (λ c. search needs)
-    (λ c. search needs)
-    (λ c κs. search needs)
-    (λ c κs. search needs)
+    (λ c. search needs) (λ c. search needs) (λ c κs. search needs) (λ c κs. search needs)
     (λ c. laws.under-free _ _ (c .enum-told .given .1))
     (λ c. laws.under-is _ _ (c .before .stamp-at .result) _ _ (c .before .before .before .b .given .1) (ap stampNumber (c .before .stamp-at .ensures) ∙ stamp-at-number _ (c .before .before .before .before .before .before .args .at) (c .before .before .before .before .before .before .pre)) (c .less .ensures)))

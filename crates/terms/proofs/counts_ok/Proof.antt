@@ -1,4 +1,3 @@
-use Prim.Native.Nat.{_-_}
 use native.Mathlib.Omega.{arith}
 use Rattle.terms.proofs.Plans as laws
 use borrow.Author.Needs.{needs}

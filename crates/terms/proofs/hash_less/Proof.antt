@@ -1,4 +1,3 @@
-use Prim.Native.Nat.{_-_}
 use native.Mathlib.Omega.{arith}
 use Rattle.terms.specs.Stamp.{hashNumber}
 use Rattle.terms.proofs.Stamps as laws

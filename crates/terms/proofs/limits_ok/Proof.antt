@@ -1,6 +1,5 @@
 use native.Mathlib.Omega.{arith}
 use Rattle.terms.proofs.Plans as laws
-use borrow.Author.Needs.{needs}
 use Rattle.terms.proofs.limits_ok.Statement.{statement}
 use Rattle.terms.proofs.limits_ok.Tie as tie
 

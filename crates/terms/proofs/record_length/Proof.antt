@@ -1,5 +1,4 @@
 use mathlib.Core.Path.{refl}
-use Prim.Native.Nat.{_-_}
 use native.Mathlib.Omega.{arith}
 use Rattle.terms.proofs.Plans as laws
 use Rattle.terms.specs.Terms.{recordLength}

@@ -1,6 +1,3 @@
-use Prim.Native.Nat.{_-_}
-use native.Mathlib.Omega.{arith}
-use Rattle.terms.proofs.Stamps as laws
 use Rattle.terms.specs.Stamp.{stampAt}
 use borrow.Author.Needs.{needs}
 use Rattle.terms.proofs.stamp_at.Statement.{statement}
@@ -23,13 +20,6 @@ pub stamp-at-spec : {M : Type 1} → statement M
 stamp-at-spec =
     tie.close
     (tie.spec
-    (λ c κs. search needs)
-    (λ c. search needs)
-    (λ c κs. search needs)
-    (λ c. search needs)
-    (λ c κs. search needs)
-    (λ c. search needs)
-    (λ c κs. search needs)
-    (λ c. search needs)
-    (λ c κs. search needs)
+    (λ c κs. search needs) (λ c. search needs) (λ c κs. search needs) (λ c. search needs) (λ c κs. search needs) (λ c. search needs)
+    (λ c κs. search needs) (λ c. search needs) (λ c κs. search needs)
     returns)

@@ -1,4 +1,3 @@
-use Prim.Native.Nat.{_-_}
 use native.Mathlib.Omega.{arith}
 use Rattle.terms.proofs.Plans as laws
 use borrow.Author.Needs.{needs}
@@ -10,19 +9,11 @@ table-ok-spec =
     tie.close
     (tie.spec
     (λ c. laws.table-no _ _ _ _ _ _ (λ h. omega arith))
-    (λ c. search needs)
-    (λ c. search needs)
+    (λ c. search needs) (λ c. search needs)
     (λ c. laws.table-no _ _ _ _ _ _ (λ h. omega arith))
-    (λ c. search needs)
-    (λ c. search needs)
-    (λ c. search needs)
+    (λ c. search needs) (λ c. search needs) (λ c. search needs)
     (λ c. laws.repairable-no _ _ _ _ _ _ (c .before .before .before .if2 .left) (c .before .before .before .before .if1 .left) (c .before .enum-told .given .1) (c .if3 .taken))
-    (λ c. search needs)
-    (λ c. search needs)
-    (λ c. search needs)
-    (λ c. search needs)
-    (λ c. search needs)
-    (λ c. search needs)
+    (λ c. search needs) (λ c. search needs) (λ c. search needs) (λ c. search needs) (λ c. search needs) (λ c. search needs)
     (λ c. laws.non-repair-no _ _ _ _ _ _ (c .before .before .before .if2 .left) (c .before .before .before .before .if1 .left) (c .before .enum-told2 .given .1) (c .if4 .taken))
     (λ c. search needs)
     (λ c. laws.repairable-yes _ _ _ _ _ _ (c .before .before .before .if2 .left) (c .before .before .before .before .if1 .left) (c .before .enum-told .given .1) (c .if3 .left))

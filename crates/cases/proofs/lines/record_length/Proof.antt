@@ -9,9 +9,6 @@ pub record-length-spec : {M : Type 1} → statement M
 record-length-spec =
     tie.close
     (tie.spec
-    (λ c κs. search needs)
-    (λ c κs. search needs)
-    (λ c κs. search needs)
-    (λ c. search needs)
+    (λ c κs. search needs) (λ c κs. search needs) (λ c κs. search needs) (λ c. search needs)
     (λ c κs. sym (c .before .plan-ok .ensures) ∙ not-false _ (c .if1 .left))
     (λ c. search needs))

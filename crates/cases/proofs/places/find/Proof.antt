@@ -2,7 +2,6 @@
 use Prim.Native.Nat.{_≤_, _-_}
 use lib.ListN.{length}
 use native.Mathlib.Omega.{arith}
-use borrow.Author.Needs.{needs}
 use Rattle.cases.proofs.places.find.Statement.{statement}
 use Rattle.cases.proofs.places.find.Tie as tie
 
@@ -21,7 +20,6 @@ find-spec =
     (λ c. (omega arith, omega arith))
     (λ c. omega arith)
     (λ c. (omega arith, omega arith))
-    (λ c. omega arith)
-    (λ c. omega arith)
+    (λ c. omega arith) (λ c. omega arith)
     (λ c. (omega arith, omega arith))
     (λ c. (omega arith, omega arith)))

@@ -19,11 +19,8 @@ number-spec =
     Inv-loop
     μ-loop
     (λ c. (omega arith, omega arith))
-    (λ c. omega arith)
-    (λ c κs. search needs)
+    (λ c. omega arith) (λ c κs. search needs)
     (λ c. (omega arith, omega arith))
-    (λ c κs. search needs)
-    (λ c. omega arith)
-    (λ c. omega arith)
+    (λ c κs. search needs) (λ c. omega arith) (λ c. omega arith)
     (λ c. (omega arith, omega arith))
     (λ c. (omega arith, omega arith)))

@@ -19,6 +19,5 @@ keep-session-spec =
     (tie.spec
     (λ c κs. search needs)
     returns
-    (λ c κs. search needs)
-    (λ c. search needs)
+    (λ c κs. search needs) (λ c. search needs)
     returns-2)

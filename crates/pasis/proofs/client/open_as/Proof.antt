@@ -7,9 +7,6 @@ pub open-as-spec : {M : Type 1} → statement M
 open-as-spec =
     tie.close
     (tie.spec
-    (λ c. search needs)
-    (λ c κs. search needs)
-    (λ c. search needs)
-    (λ c κs. search needs)
+    (λ c. search needs) (λ c κs. search needs) (λ c. search needs) (λ c κs. search needs)
     (λ c. laws.told _ _ _ _ _ (c .before .enum-told .given .1) (c .open-write .ensures))
     (λ c. laws.told _ _ _ _ _ (c .before .enum-told2 .given .1) (c .open-read .ensures)))

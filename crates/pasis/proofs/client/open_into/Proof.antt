@@ -8,8 +8,7 @@ pub open-into-spec : {M : Type 1} → statement M
 open-into-spec =
     tie.close
     (tie.spec
-    (λ c κs. search needs)
-    (λ c κs. search needs)
+    (λ c κs. search needs) (λ c κs. search needs)
     (λ c. laws.open-refused _ _ _ _ _ (laws.lent-is _ _ _ _ (c .before .before .plan-of .ensures) (c .before .lent .ensures)) (c .if1 .taken))
     (λ c κs. search needs)
     (λ c κs. eqb-true _ _ (laws.lent-fits _ _ _ (laws.lent-is _ _ _ _ (c .before .before .before .before .plan-of .ensures) (c .before .before .before .lent .ensures)) (c .before .before .if1 .left)))

@@ -7,8 +7,5 @@ pub pasis-fresh-book-spec : {M : Type 1} → statement M
 pasis-fresh-book-spec =
     tie.close
     (tie.spec
-    (λ c κs. search needs)
-    (λ c κs. search needs)
-    (λ c κs. search needs)
-    (λ c. search needs)
+    (λ c κs. search needs) (λ c κs. search needs) (λ c κs. search needs) (λ c. search needs)
     (λ c. laws.fresh-book _ _ _ _ _ _ _ (c .before .before .before .before .before .plan-of .ensures) (c .before .before .before .fresh .ensures) (c .made-number .ensures)))

@@ -61,8 +61,7 @@ accept-write-spec =
     let pre = c .before .before .before .before .before .before .before .before .before .before .before .pre in
     let q = known.known-reply Write (args .p) (args .self) (args .reply .now) (args .desk .now) (length (args .item .now)) (pre .0) in
     (q .plan-ok, known.item-is Write (args .p) (args .self) (args .reply .now) (args .desk .now) (length (args .item .now)) q, q .desk-is, pre .1))
-    (λ c. search needs)
-    (λ c. search needs)
+    (λ c. search needs) (λ c. search needs)
     (λ c.
     let time-turn = c .before .before .before .before .time-turn in
     let timed = c .before .before .before .before .before .before .before .timed in

@@ -7,8 +7,7 @@ pub bound-ok-spec : {M : Type 1} → statement M
 bound-ok-spec =
     tie.close
     (tie.spec
-    (λ c. search needs)
-    (λ c. search needs)
+    (λ c. search needs) (λ c. search needs)
     (λ c. rw (c .before .before .bound .given .1, le-ltb _ _ (c .if1 .taken)))
     (λ c. rw (c .enum-told .given .1))
     (λ c. rw (c .before .before .before .before .bound .given .1, lt-ltb _ _ (c .before .before .if1 .left))))

@@ -67,8 +67,7 @@ check-spec =
     (λ c κs. search needs)
     (λ c. stop _ _ (at-end (c .before .before)) (sym (c .before .ended .ensures) ∙ c .if5 .taken) refl)
     (λ c κs. not-false _ (left 1 (at-frame c)))
-    (λ c. search needs)
-    (λ c. search needs)
+    (λ c. search needs) (λ c. search needs)
     (λ c κs.
     let d = at-awaited (c .before) in
     let a = d .start .args in

@@ -19,14 +19,11 @@ hear-spec =
     let r = reply-is _ _ (c .before .before .before .before .before .before .pre .1) in
     let q = plan-is _ (c .before .before .before .before .before .before .pre .0) in
     omega (arith, ap (λ (h : Header). h .node) (c .before .before .header-of .ensures .0), r .node-low, q .n-high))
-    (λ c κs. search needs)
-    (λ c. search needs)
-    (λ c. search needs)
+    (λ c κs. search needs) (λ c. search needs) (λ c. search needs)
     (λ c.
     let c8 = c .before .before .before .before .before .before .before .before in
     laws.heard-first (c8 .before .before .before .before .before .before .args .p) (c8 .before .before .before .before .before .before .args .self) (c8 .before .before .before .before .before .before .args .frame .now) (c8 .before .before .before .before .before .before .args .desk .now) (c8 .before .before .before .before .before .before .args .item .now) _ (c8 .before .bears-record .ensures) (c8 .before .before .header-of .result .node) _ _ (not-true (c8 .before .bears-record .result) (c .before .before .before .before .before .before .before .before .if1 .taken)) (ap (λ (h : Header). h .node) (c8 .before .before .header-of .ensures .0)) (c .before .before .before .before .before .before .before .marked .ensures) (c .before .before .before .before .settle .ensures))
-    (λ c κs. search needs)
-    (λ c κs. search needs)
+    (λ c κs. search needs) (λ c κs. search needs)
     (λ c.
     let c8 = c .before .before .before .before .before .before .before .before in
     let k = laws.slot-fits-desk (c8 .before .args .p) (c8 .before .args .frame .now) (c8 .before .args .desk .now) (c .before .before .before .before .before .header-of .result .node) (c .before .before .record-length .result) (c8 .before .pre .1) (ap (λ (h : Header). h .node) (c .before .before .before .before .before .header-of .ensures .0)) (c .before .before .record-length .ensures .0) (c8 .before .pre .2) in
@@ -45,8 +42,7 @@ hear-spec =
     let c8 = c .before .before .before .before .before .before .before .before in
     let pre = c8 .before .before .before .before .before .before .before .pre in
     (pre .0, omega (arith, pre .2), omega (arith, pre .3)))
-    (λ c. search needs)
-    (λ c. search needs)
+    (λ c. search needs) (λ c. search needs)
     (λ c.
     let c8 = c .before .before .before .before .before .before .before .before in
     let c16 = c8 .before .before .before .before .before .before .before .before in

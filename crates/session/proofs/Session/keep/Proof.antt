@@ -11,9 +11,7 @@ keep-spec =
     (λ c.
     let args = c .before .before .before .before .args in
     laws.stored-open (args .p) (args .self) _ _ _ (c .before .round-open .ensures) (c .if1 .taken))
-    (λ c κs. search needs)
-    (λ c κs. search needs)
-    (λ c. search needs)
+    (λ c κs. search needs) (λ c κs. search needs) (λ c. search needs)
     (λ c.
     let turn = c .before .before .before .before .before .before .before in
     let args = turn .before .before .before .args in

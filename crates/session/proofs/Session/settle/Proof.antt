@@ -14,8 +14,7 @@ settle-spec =
     (λ c.
     let args = c .before .before .before .before .args in
     laws.settled-open (args .p) (args .self) _ _ _ (c .before .round-open .ensures) (c .if1 .taken))
-    (λ c κs. search needs)
-    (λ c κs. search needs)
+    (λ c κs. search needs) (λ c κs. search needs)
     (λ c κs.
     let start = c .before .before .before .before .before .before .before .before in
     let slots = c .before .before .slots-of in
@@ -30,8 +29,7 @@ settle-spec =
     laws.acting (args .p) (args .self) (args .desk .now) (shut .closing .result) (start .pre .0) (start .pre .1)
     (laws.closed-is (args .p) (args .self) (args .desk .now) _ _ _ (shut .before .before .before .slots-of .ensures) (shut .before .before .thresholds-of .ensures) (shut .closing .ensures .0))
     (shut .closing .ensures .1) (omega (arith, shut .closing .ensures .2)) (args .item .now) (start .pre .2))
-    (λ c. search needs)
-    (λ c. search needs)
+    (λ c. search needs) (λ c. search needs)
     (λ c.
     let acts = c .before .before .before .before in
     let shut = acts .before .before .before in

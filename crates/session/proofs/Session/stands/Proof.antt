@@ -1,5 +1,4 @@
 use mathlib.Core.Path.{sym, _∙_}
-use Prim.Native.Nat.{_-_}
 use borrow.Author.Tests.{le-leb, lt-leb, not-true, not-false}
 use Rattle.terms.proofs.Plans.{plan-is}
 use Rattle.session.specs.Ranges.{standingRules}

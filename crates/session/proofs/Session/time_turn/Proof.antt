@@ -16,11 +16,7 @@ time-turn-spec =
     let turn = c .before .before .before .before .before in
     let args = turn .before .before .before .before .args in
     laws.clock-spent (args .p) (args .self) _ _ (turn .round-open .ensures) (c .before .before .before .before .if1 .left) _ (c .before .if2 .taken) _ (c .over .ensures))
-    (λ c. search needs)
-    (λ c κs. search needs)
-    (λ c κs. search needs)
-    (λ c. search needs)
-    (λ c. search needs)
+    (λ c. search needs) (λ c κs. search needs) (λ c κs. search needs) (λ c. search needs) (λ c. search needs)
     (λ c.
     let made = c .before .before .before .before .before in
     let spent = made .before .before .before .before in

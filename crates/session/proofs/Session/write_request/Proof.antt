@@ -29,8 +29,7 @@ write-request-spec =
     let pre = c .before .before .before .pre in
     let o = known-owed (args .p) (args .self) (args .node) (args .desk .now) (length (args .request .now)) pre in
     o .plan-ok)
-    (λ c κs. search needs)
-    (λ c κs. search needs)
+    (λ c κs. search needs) (λ c κs. search needs)
     (λ c.
     let record-length = c .before .before .before .before .record-length in
     let args = c .before .before .before .before .before .before .before .before .args in

@@ -15,8 +15,7 @@ pub write-with-spec : {M : Type 1} → statement M
 write-with-spec =
     tie.close
     (tie.spec
-    (λ c κs. search needs)
-    (λ c. search needs)
+    (λ c κs. search needs) (λ c. search needs)
     enum-told
     (λ c κs.
     let enum-told = c .before .before .enum-told in
@@ -31,8 +30,7 @@ write-with-spec =
       is = laws.write-refused (args .p) (args .self) (args .reply .now) (args .desk .now) (args .item .now) _ (check .ensures) _
           (c .before .c .given .1);
     })
-    (λ c. search needs)
-    (λ c. search needs)
+    (λ c. search needs) (λ c. search needs)
     (λ c.
     let accept-write = c .before .before .before .before .accept-write in
     let enum-told = c .before .before .before .before .before .before .before .enum-told in

@@ -15,10 +15,7 @@ read-request-spec =
     tie.close
     (tie.spec
     enum-told
-    (λ c κs. search needs)
-    (λ c. search needs)
-    (λ c κs. search needs)
-    (λ c. search needs)
+    (λ c κs. search needs) (λ c. search needs) (λ c κs. search needs) (λ c. search needs)
     (λ c.
     let latest = c .before .before .latest in
     let enum-told = c .before .before .before .before .enum-told in

@@ -9,7 +9,5 @@ bears-record-spec =
     (tie.spec
     (λ c κs. search needs)
     (λ c. laws.bears-not _ _ _ (c .before .header-of .ensures .0) (c .if1 .taken))
-    (λ c κs. search needs)
-    (λ c κs. search needs)
-    (λ c. search needs)
+    (λ c κs. search needs) (λ c κs. search needs) (λ c. search needs)
     (λ c. laws.bears-last _ _ _ _ _ (c .before .before .before .header-of .ensures .0) (c .before .before .if1 .left) (c .before .head-bytes .ensures) (c .record-length .ensures .0)))

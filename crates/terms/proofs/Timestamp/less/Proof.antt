@@ -1,5 +1,4 @@
 use mathlib.Core.Path.{_∙_}
-use Prim.Native.Nat.{_-_}
 use native.Mathlib.Omega.{arith}
 use Rattle.terms.specs.Stamp.{stampNumber}
 use Rattle.terms.proofs.Stamps as laws

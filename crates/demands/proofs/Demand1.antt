@@ -2,15 +2,16 @@
 -- no byte of the book, the desk, the sheet or the reply, and hands back the session it was given."
 -- One theorem a call, for whatever it was lent: it is refused k, where k is the first refusal of the call's order that applies, and
 -- everything is as it came; or no refusal applies, and it is answered as document 01 says. That a call ends at all is part of its being
--- proved. Demand 2's "Each refusal is given exactly when document 01 says" is the other way round: the theorems with -refuses, so-write
--- and so-read of client. Assumes nothing.
+-- proved. Demand 2's "Each refusal is given exactly when document 01 says" stands in Refusals. Assumes nothing.
 --   node-ends fresh-ends opening-ends owed-ends write-ends read-ends
 use Prim.Native.Nat.{ℕ}
 use mathlib.Core.Path.{_≡_, refl, sym, ap, _∙_, subst}
 use mathlib.Core.Bool.{false}
 use mathlib.Core.List.{List, []}
 use lib.ListN.{length}
+use lib.Dec.{eqb}
 use Rattle.octets.specs.Bytes.{over}
+use Rattle.terms.specs.Stamp.{time, top}
 use Rattle.terms.specs.declared.Ask.{Ask}
 use Rattle.terms.specs.declared.Plan.{Plan}
 use Rattle.book.specs.Book.{laidOut}
@@ -34,10 +35,11 @@ use Rattle.session.specs.Opening.{OpenCall, Opens, opens, openingLadder, openin
 use Rattle.session.specs.Owed as owed
 use Rattle.session.specs.Owed.{OwedCall, Dues, dues, dueOf, owedTo, owedLadder, requestOf}
 use Rattle.session.specs.Reader.{ReadReplyCall, Outcome, outcome, accepted, stored}
-use Rattle.session.specs.Writer.{WriteReplyCall, Leaves, leaves, acceptedWrite}
+use Rattle.session.specs.Writer.{WriteReplyCall, Leaves, leaves, timedOf, writeTurn, timeTurn, timeEnd, acceptedWrite}
 use Rattle.session.proofs.Closings.{pick}
 use Rattle.client.specs.Endings.{readLadder, writeLadder, afterReply, deskAfter}
 use Rattle.terms.proofs.Ladders as ladders
+use Rattle.terms.proofs.Picks.{either}
 use Rattle.client.proofs.Reading as reading
 use Rattle.client.proofs.Writing as writing
 use Rattle.client.proofs.Round.Reply.{settled-taken}
@@ -114,6 +116,18 @@ write-ends p s f d i t d₂ c =
     (λ k g h. refuses k g (ap (λ (o : Leaves). o .said) h, ap (λ (o : Leaves). o .session) h, ap (λ (o : Leaves). o .desk) h))
     (λ m h. accepts m h)
     (c .is ∙ writing.one-ladder p s f d i)
+
+-- a writer's reply that nothing refuses is not refused
+pub write-taken : (p : Plan) (s : Session) (f d i : List ℕ) → isRefused (acceptedWrite p s f d i .said) ≡ false
+unfolding acceptedWrite writeTurn timeTurn timeEnd
+write-taken p s f d i =
+    let timed = timedOf s (frameNode f) (time (bodyOf f)) in
+    either Taken (isStoring (s .round .stage))
+    (either Taken (session.roundOpen p (markedOf s (frameNode f) Record)) refl refl)
+    (either Taken (session.roundOpen p timed) refl (either Taken (eqb (timed .greatest .0) top) refl refl))
+  where
+    Taken : Leaves → Type 0
+    Taken o = isRefused (o .said) ≡ false
 
 -- ---- a reply to a reader: order 1, 2, 9, 14, 4, 10, 11, 5, 6, 12; open, or one of a read's endings (read-open, read-done, never-written,
 -- is-aborted and rounds-spent of client), and no refusal

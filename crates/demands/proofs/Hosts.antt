@@ -9,27 +9,22 @@ use mathlib.Core.Bool.{Bool, false, cond}
 use mathlib.Core.List.{List}
 use native.Mathlib.Omega.{arith}
 use borrow.Author.Tests.{ne-eqb}
-use lib.Dec.{eqb}
 use lib.ListN.{length}
 use Rattle.terms.specs.Ladder.{first}
 use Rattle.terms.specs.declared.Plan.{Plan}
 use Rattle.terms.proofs.Rungs.{clash}
-use Rattle.terms.proofs.Picks.{either}
 use Rattle.rounds.specs.declared.Bound.the-variants.{Free}
-use Rattle.rounds.specs.declared.Heard.the-variants.{Record}
-use Rattle.frame.specs.Frame.{frameNode, bodyOf}
-use Rattle.terms.specs.Stamp.{time, top}
 use Rattle.node.specs.Fresh.{FreshOutcome, freshLadder, freshened}
 use Rattle.node.specs.Node as node
 use Rattle.node.specs.Node.{nodeLadder, served, answered, sends}
 use Rattle.session.specs.declared.Operation.{Operation}
 use Rattle.session.specs.declared.Operation.the-variants.{Write}
 use Rattle.session.specs.declared.Session.{Session}
-use Rattle.session.specs.Session.{Said, refused, stillOpen, done, neverWritten, aborted, roundsSpent, clockSpent, isStoring, markedOf, isRefused, roundOpen}
+use Rattle.session.specs.Session.{Said, refused, stillOpen, done, neverWritten, aborted, roundsSpent, clockSpent, isRefused}
 use Rattle.session.specs.Opening.{openWith}
 use Rattle.session.specs.Owed.{Dues, owedLadder, owedTo}
 use Rattle.session.specs.Reply.{replyLadder}
-use Rattle.session.specs.Writer.{Leaves, leaves, timedOf, writeTurn, timeTurn, timeEnd, acceptedWrite, writeReply}
+use Rattle.session.specs.Writer.{Leaves, leaves, writeReply}
 use Rattle.session.specs.Reader.{Outcome, outcome, readReply}
 use Rattle.session.proofs.Checks.{outcome-all}
 use Rattle.client.specs.Endings.{readLadder}
@@ -39,7 +34,7 @@ use Rattle.packing.specs.SessionBytes.{sessionBytes, sessionOf}
 use Rattle.answers.specs.Answers.{lentLadder, bothFit, madeNumber, servedNumber, dueNumber, answerNumber, endingAfter}
 use Rattle.pasis.specs.Store.{FreshBook, NodeServes}
 use Rattle.pasis.specs.Client.{sessionFits, sessionAfter, OpenedBytes, openedBytes, openBytes, OpenServes, Asked, asked, owedBytes, OwedServes, TookBytes, tookBytes, withItem, tookAs, writeBytes, readBytes, WriteServes, ReadServes}
-use Rattle.demands.proofs.Demand1.{accepted-taken}
+use Rattle.demands.proofs.Demand1.{accepted-taken, write-taken}
 
 pub host-fresh-unique : (x : List ℕ) (n : ℕ) (b : List ℕ) (r r′ : ℕ) (b₂ b₂′ : List ℕ) → FreshBook x n b r b₂ → FreshBook x n b r′ b₂′
     → (r ≡ r′) × (b₂ ≡ b₂′)
@@ -109,7 +104,7 @@ host-owed-stays x s n d q r q₂ c h =
     (λ e. h (ap (λ (z : Asked). z .number) (c .is) ∙ e))
 
 -- an answer that is no refusal has no refusal's number
-not-between : (a : Said) → isRefused a ≡ false → 1 ≤ answerNumber a → answerNumber a < 101 → ⊥
+pub not-between : (a : Said) → isRefused a ≡ false → 1 ≤ answerNumber a → answerNumber a < 101 → ⊥
 not-between (refused k) e l u = clash e
 not-between stillOpen e l u = omega arith
 not-between (done t n) e l u = omega arith
@@ -155,18 +150,6 @@ host-read-stays x s f d i e r s₂ d₂ i₂ e₂ c = subst (Stays s d i e) (sym
         subst (λ (o : Outcome). Stays s d i e (tookAs o s e)) (sym (reading.one-ladder p w f d i))
         (outcome-all (λ (o : Outcome). Stays s d i e (tookAs o s e)) (readLadder p w f d (length i)) (λ (k : ℕ). outcome (refused k) w d i) _
         (λ k. refused-stays s d i e k w) (λ n. taken-stays s d i e _ (accepted-taken p w f d i)))
-
--- a writer's reply that nothing refuses is not refused
-write-taken : (p : Plan) (s : Session) (f d i : List ℕ) → isRefused (acceptedWrite p s f d i .said) ≡ false
-unfolding acceptedWrite writeTurn timeTurn timeEnd
-write-taken p s f d i =
-    let timed = timedOf s (frameNode f) (time (bodyOf f)) in
-    either Taken (isStoring (s .round .stage))
-    (either Taken (roundOpen p (markedOf s (frameNode f) Record)) refl refl)
-    (either Taken (roundOpen p timed) refl (either Taken (eqb (timed .greatest .0) top) refl refl))
-  where
-    Taken : Leaves → Type 0
-    Taken o = isRefused (o .said) ≡ false
 
 pub host-write-stays : (x s f d i e : List ℕ) (r : ℕ) (s₂ d₂ e₂ : List ℕ) → WriteServes x s f d i e r s₂ d₂ e₂ → 1 ≤ r → r < 101
     → (s₂ ≡ s) × (d₂ ≡ d) × (e₂ ≡ e)

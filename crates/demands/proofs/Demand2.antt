@@ -1,17 +1,18 @@
--- DEMAND 2. "Node, writer and reader act as the report lays down, with SHA-256 of FIPS 180-4 and the field of FIPS 197. An encoded block
--- comes back from any m of its N fragments. Each refusal is given exactly when document 01 says."
+-- DEMAND 2. "Node, writer and reader act as CMU-PDL-03-105 lays down for its asynchronous members, with SHA-256 of FIPS 180-4 and the field of
+-- FIPS 197. A sheet block that is encoded comes back from any m of its N fragments, and each refusal is given exactly when document 01 says."
 --   plan-as-the-report plan-by-the-report    accepted exactly by the ranges and Table 2
 --   node-as-the-report node-over-time    the replies, and the set of versions after them, are Figure 1's
+--   valid-as-the-report invalid-as-the-report   when a write request is executed, and when it is turned away
 --   write-as-the-report    a whole write, from its opening, is Figure 2's WRITE
 --   read-as-the-report     a whole read, from its opening, is Figure 3's READ, cut at W
 --   read-requests-as-the-report write-requests-as-the-report   what is sent to a node is what the figures send to it
 --   comes-back written-comes-back   an encoded block comes back from any m of its N fragments; so does what our writer writes
 -- The figures are in report/specs, with (01) beside what document 01 adds or closes. That the hash and the field are those of the papers is
--- said by the contracts of `digest`, `product` and `quotient`, over sha256/specs and field/specs. Each refusal exactly: Demand1, with
--- is-refused, fresh-is-refused, opening-refuses, owed-refuses, so-write and so-read of client. Assumes nothing.
+-- said by the contracts of `digest`, `product` and `quotient`, over sha256/specs and field/specs. Each refusal exactly: Refusals.
+-- Assumes nothing.
 use Prim.Native.Nat.{ℕ, _*_, _≤_, _<_}
 use mathlib.Core.Path.{_≡_}
-use mathlib.Core.Bool.{true}
+use mathlib.Core.Bool.{true, false}
 use mathlib.Core.List.{List}
 use lib.ListN.{length}
 use Rattle.octets.specs.Bytes.{Octets}
@@ -21,6 +22,9 @@ use Rattle.terms.specs.Terms.{planOk, recordLength, slotsOf, runsOf}
 use Rattle.terms.specs.declared.Ask.{Ask}
 use Rattle.terms.specs.declared.Plan.{Plan}
 use Rattle.terms.specs.declared.Slots.{Slots}
+use Rattle.frame.specs.Frame.{writeRequestKind, kindOf, bodyOf, goodRequest}
+use Rattle.book.specs.Book.{nodeOf}
+use Rattle.node.specs.declared.Answer.{Answer}
 use Rattle.node.specs.declared.Answer.the-variants.{Replied}
 use Rattle.node.specs.declared.Made.the-variants.{Fresh}
 use Rattle.node.specs.Node.{NodeCall}
@@ -34,16 +38,16 @@ use Rattle.store.specs.History.{Call, History, lastBook}
 use Rattle.client.specs.Turns.{Turn, ReadTurn, WriteTurn, Calls}
 use Rattle.report.specs.Triple.{Same}
 use Rattle.client.proofs.ComesBack.{block-comes-back}
-use Rattle.report.specs.Figure1.{INITIALIZE}
-use Rattle.report.specs.Ours.{history, family}
+use Rattle.report.specs.Figure1.{INITIALIZE, VALIDATE}
+use Rattle.report.specs.Ours.{history, family, tripleOf}
 use Rattle.report.specs.Run.{OfPlan, received, unpolled, polledOver, AllApart, AllFull, EachTells}
 use Rattle.report.specs.WriteRun.{untimed, EachWrites, timedOver}
 use Rattle.report.proofs.Plans.{accepted-is, accepted-back}
-use Rattle.report.proofs.Node.{time-acts, latest-acts, previous-acts, write-acts, fresh-run}
+use Rattle.report.proofs.Node.{time-acts, latest-acts, previous-acts, write-acts, invalid-acts, valid-executes, fresh-run}
 use Rattle.report.proofs.Run.{opened-read}
 use Rattle.report.proofs.Write.{opened-write}
 use Rattle.report.specs.Table2.{Ranges, Table2-of}
-use Rattle.report.specs.Acts.{AsFigure1}
+use Rattle.report.specs.Acts.{AsFigure1, Added, Executes}
 use Rattle.session.specs.declared.owed.Owed.{Owed}
 use Rattle.session.specs.Session.{askNow}
 use Rattle.session.specs.Owed.{owedLadder, dueOf, OwedCall}
@@ -69,9 +73,21 @@ node-as-the-report p f b y of ob n b₂ y₂ c =
       write = write-acts p f b y ob of n b₂ y₂ c;
     }
 
--- Over any calls, from a fresh book on: the versions that a book holds are those that Figure 1 holds from INITIALIZE on.
+-- A write request that VALIDATE lets through is executed, unless one of the conditions that document 01 adds stands against it (Added): whatever the
+-- call answers. One that VALIDATE turns away leaves the History and sends nothing.
+pub valid-as-the-report : (p : Plan) (f b y : List ℕ) → Octets f → Octets b → Added p f b y → kindOf f ≡ writeRequestKind
+    → VALIDATE (family p) (nodeOf b) (tripleOf p (bodyOf f)) ≡ true → (a : Answer) (b₂ y₂ : List ℕ) → NodeCall p f b y a b₂ y₂ → Executes p f b y b₂ y₂
+valid-as-the-report p f b y of ob = valid-executes p f b y ob of
+
+pub invalid-as-the-report : (p : Plan) (f b y : List ℕ) → Octets f → Octets b → goodRequest p (nodeOf b) f ≡ true → kindOf f ≡ writeRequestKind
+    → VALIDATE (family p) (nodeOf b) (tripleOf p (bodyOf f)) ≡ false
+    → (a : Answer) (b₂ y₂ : List ℕ) → NodeCall p f b y a b₂ y₂ → (history p b₂ ≡ history p b) × (y₂ ≡ y)
+invalid-as-the-report p f b y of ob = invalid-acts p f b y ob of
+
+-- Over any calls, from a fresh book on: the versions that a book holds are those that Figure 1 holds from INITIALIZE on, given every well-shaped write
+-- request that 5, 7 and 8 do not bar.
 pub node-over-time : (p : Plan) (node : ℕ) (b b₂ : List ℕ) (cs : List Call) → FreshCall p node b Fresh b₂ → History b₂ cs → OfPlan p cs
-    → Same (history p (lastBook b₂ cs)) (received p node INITIALIZE cs)
+    → Same (history p (lastBook b₂ cs)) (received p node INITIALIZE b₂ cs)
 node-over-time = fresh-run
 
 -- Over any replies from an accepted opening on: the write round sends what Figure 2's WRITE sends for the responses of READ_TIMESTAMP and the item,

@@ -246,7 +246,7 @@ node-call =
     record { plan = plan; request = request; reply = replicate 88 0; answer = Replied 55; bookLeft = taken .book; replyLeft = taken .reply }
 
 -- the theorem at this run of one call
-pub node-so : Same (history plan (taken .book)) (received plan 0 INITIALIZE (node-call ∷ []))
+pub node-so : Same (history plan (taken .book)) (received plan 0 INITIALIZE book (node-call ∷ []))
 unfolding node-call
 node-so =
     fresh-run plan 0 (replicate 84 0) book (node-call ∷ []) made-so (small-octets book book-small, node-met, tt)

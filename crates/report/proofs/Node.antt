@@ -11,7 +11,7 @@ use mathlib.Core.List.{List, [], _∷_}
 use mathlib.Core.Logic.{_⊎_, inl, inr}
 use native.Mathlib.Nat.{suc-mul}
 use native.Mathlib.Omega.{arith}
-use borrow.Author.Tests.{eq-eqb, eqb-true, eqb-false, not-false, leb-true, ltb-true}
+use borrow.Author.Tests.{eq-eqb, eqb-true, eqb-false, not-false, not-true, leb-true, ltb-true}
 use lib.Dec.{leb, eqb}
 use lib.ListN.{length, length-drop}
 use Rattle.octets.specs.Bytes.{part, be, over, Octets}
@@ -19,9 +19,9 @@ use Rattle.octets.proofs.Laws.{length-part}
 use Rattle.octets.proofs.Meaning.{octets-part, octets-drop}
 use Rattle.terms.proofs.Down as down
 use Rattle.terms.proofs.Rungs.{both, clash}
-use Rattle.terms.specs.Ladder.{_and_, None}
+use Rattle.terms.specs.Ladder.{all, None}
 use Rattle.terms.specs.Stamp.{stamp, time}
-use Rattle.terms.specs.Terms.{recordLength}
+use Rattle.terms.specs.Terms.{planOk, recordLength}
 use Rattle.terms.specs.declared.Plan.{Plan}
 use Rattle.terms.specs.declared.Refusal.{Refusal}
 use Rattle.terms.proofs.Small.{strict}
@@ -35,7 +35,7 @@ use Rattle.book.proofs.Laid as laid
 use Rattle.book.proofs.Laws as books
 use Rattle.node.specs.declared.Answer.the-variants.{Refused, Replied}
 use Rattle.node.specs.declared.Answer.{Answer}
-use Rattle.node.specs.Node.{NodeCall, served, answered, sends, replyTo, saidServed, replied, refused, ServedOutcome, servedOutcome, nodeLadder, writes, timeFails, hashFails}
+use Rattle.node.specs.Node.{NodeCall, served, answered, sends, replyTo, saidServed, replied, refused, ServedOutcome, servedOutcome, nodeLadder, bookReplyOk, writes, timeFails, hashFails, otherHeld, noRoom}
 use Rattle.node.specs.declared.Made.the-variants.{Fresh}
 use Rattle.node.specs.Fresh.{FreshCall, FreshOutcome, freshOutcome, made, freshened, freshLadder}
 use Rattle.node.specs.Fresh as fresh
@@ -50,11 +50,11 @@ use Rattle.terms.proofs.Ladders as ladders
 use Rattle.report.specs.Triple.{Triple, each, In, Same}
 use Rattle.report.specs.Figure1.{initial, INITIALIZE, RECEIVE-TIME-REQUEST, VALIDATE, with-it, Written, RECEIVE-WRITE-REQUEST, RECEIVE-READ-LATEST, RECEIVE-READ-PREVIOUS}
 use Rattle.report.specs.Ours.{family, tripleOf, history, timeIn}
-use Rattle.report.specs.Run.{OfPlan, replies-to, received}
+use Rattle.report.specs.Run.{OfPlan, received}
 use Rattle.report.proofs.Triples.{stamp-low, time-in, time-none, validate-is}
 use Rattle.report.proofs.Lists.{same-more, same-trans}
 use Rattle.report.proofs.Latest.{time-of, latest-of, previous-of}
-use Rattle.report.specs.Acts.{Sends, Executes, Added}
+use Rattle.report.specs.Acts.{Sends, Executes, Added, reaches}
 
 -- ---- the records of a book
 -- what holds of every part of R bytes, and of none, holds of the last record
@@ -258,6 +258,57 @@ module _ (p : Plan) (node : ℕ) (b b₂ : List ℕ) (c : FreshCall p node b Fre
   unfolding each
   fresh-acts = ap (λ (rs : List (List ℕ)). initial ∷ each (tripleOf p) rs) (one.is-records laid-fresh)
 
+-- ---- a write request that reaches Figure 1
+module _ (p : Plan) (f b y : List ℕ) where
+  reached : reaches p f b y ≡ true → Added p f b y × (kindOf f ≡ writeRequestKind)
+  unfolding reaches all
+  reached e =
+      let a = both (writes (headerIn f)) _ e in
+      let b₁ = both (planOk p) _ (a .1) in
+      let b₂ = both (bookReplyOk p (length b) (length y)) _ (b₁ .1) in
+      let b₃ = both (goodBook p b) _ (b₂ .1) in
+      let b₄ = both (goodRequest p (nodeOf b) f) _ (b₃ .1) in
+      let b₅ = both (not (timeFails (headerIn f) (bodyOf f))) _ (b₄ .1) in
+      let b₆ = both (not (otherHeld p (headerIn f) (bodyOf f) b)) _ (b₅ .1) in
+      let b₇ = both (not (noRoom p (headerIn f) (bodyOf f) b)) _ (b₆ .1) in (
+        record {
+          plan = b₁ .0;
+          lengths = b₂ .0;
+          book = b₃ .0;
+          request = b₄ .0;
+          time = not-true _ (b₅ .0);
+          other = not-true _ (b₆ .0);
+          room = not-true _ (b₇ .0);
+        },
+        eqb-true (kindOf f) writeRequestKind (a .0),
+      )
+
+  clear-reaches : calls.Clear p f b y → writes (headerIn f) ≡ true → reaches p f b y ≡ true
+  unfolding reaches all
+  clear-reaches q w = rw (w, q .plan, q .lengths, q .good, q .request, q .time, q .other, q .room)
+
+  no-write : writes (headerIn f) ≡ false → reaches p f b y ≡ false
+  unfolding reaches all
+  no-write w = rw w
+
+  -- where VALIDATE lets it through it is executed, and not refused
+  module _ (ob : Octets b) (of : Octets f) where
+    not-refused : (r : Refusal) (b₂ y₂ : List ℕ) → Added p f b y × (kindOf f ≡ writeRequestKind)
+        → VALIDATE (family p) (nodeOf b) (tripleOf p (bodyOf f)) ≡ true → NodeCall p f b y (Refused r) b₂ y₂ → ⊥
+    unfolding answered sends
+    not-refused r b₂ y₂ h v c =
+        let e = ap (λ (o : ServedOutcome). o .answer) (valid-acts p f b y ob of (h .0) (h .1) v (Refused r) b₂ y₂ c) in
+        let z : _≡_ {A = ℕ} 0 1 = cc in omega arith
+
+    pub valid-executes : Added p f b y → kindOf f ≡ writeRequestKind → VALIDATE (family p) (nodeOf b) (tripleOf p (bodyOf f)) ≡ true
+        → (a : Answer) (b₂ y₂ : List ℕ) → NodeCall p f b y a b₂ y₂ → Executes p f b y b₂ y₂
+    valid-executes h k v (Refused r) b₂ y₂ c = absurd (not-refused r b₂ y₂ (h, k) v c)
+    valid-executes h k v (Replied n) b₂ y₂ c = write-acts p f b y ob of n b₂ y₂ c k
+
+turned-away : (p : Plan) (S : ℕ) (H : List Triple) (X : Triple) → VALIDATE (family p) S X ≡ false → RECEIVE-WRITE-REQUEST (family p) S H X .History ≡ H
+unfolding RECEIVE-WRITE-REQUEST
+turned-away p S H X v = rw v
+
 -- ---- a run of calls
 abbrev written : List Triple → Bool → Written
 written H t = record { History = H; sent = t }
@@ -290,41 +341,55 @@ module _ (p : Plan) (f b y : List ℕ) (ob : Octets b) (of : Octets f) (g : good
   abbrev fed : Bool → List Triple
   fed t = cond t (RECEIVE-WRITE-REQUEST (family p) (nodeOf b) H (tripleOf p (bodyOf f)) .History) H
 
-  call-follows : (a : Answer) (b₂ y₂ : List ℕ) → NodeCall p f b y a b₂ y₂ → Follows p b b₂ (fed (replies-to a and writes (headerIn f)))
-  call-follows (Refused r) b₂ y₂ c = follows-still p b b₂ H g (calls.refused-is p f b y r b₂ y₂ c .1) same
+  call-follows : (a : Answer) (b₂ y₂ : List ℕ) → NodeCall p f b y a b₂ y₂ → Follows p b b₂ (fed (reaches p f b y))
+  call-follows (Refused r) b₂ y₂ c = follows-still p b b₂ _ g (calls.refused-is p f b y r b₂ y₂ c .1) (go (reaches p f b y) refl)
+    where
+      turned : reaches p f b y ≡ true → (t : Bool) → VALIDATE (family p) (nodeOf b) (tripleOf p (bodyOf f)) ≡ t → Same (history p b) (fed true)
+      turned e true v = absurd (not-refused p f b y ob of r b₂ y₂ (reached p f b y e) v c)
+      turned e false v = subst (Same (history p b)) (sym (turned-away p (nodeOf b) H (tripleOf p (bodyOf f)) v)) same
+
+      go : (t : Bool) → reaches p f b y ≡ t → Same (history p b) (fed t)
+      go true e = turned e (VALIDATE (family p) (nodeOf b) (tripleOf p (bodyOf f))) refl
+      go false e = same
   call-follows (Replied n) b₂ y₂ c = go (writes (headerIn f)) refl
     where
-      go : (t : Bool) → writes (headerIn f) ≡ t → Follows p b b₂ (fed t)
+      clear : calls.Clear p f b y
+      clear = calls.clear p f b y (calls.replied-is p f b y n b₂ y₂ c .0)
+
+      go : (t : Bool) → writes (headerIn f) ≡ t → Follows p b b₂ (fed (reaches p f b y))
       go true w =
           let e = write-acts p f b y ob of n b₂ y₂ c (eqb-true (kindOf f) 3 w) in
-          let q = keeps.executed p f b y g ob (calls.clear p f b y (calls.replied-is p f b y n b₂ y₂ c .0)) w in
+          let q = keeps.executed p f b y g ob clear w in
           let l : b₂ ≡ served p f b y .book = ap (λ (o : ServedOutcome). o .book) (c .is) in
-          record {
+          subst (λ (t : Bool). Follows p b b₂ (fed t)) (sym (clear-reaches p f b y clear w))
+          (record {
             good = keeps.call-keeps p f b y g ob (Replied n) b₂ y₂ c .good;
             node = ap (λ (x : List ℕ). nodeOf x) l ∙ one.is-node q;
             set = same-trans (history p b₂) (RECEIVE-WRITE-REQUEST (family p) (nodeOf b) (history p b) (tripleOf p (bodyOf f)) .History)
                 (RECEIVE-WRITE-REQUEST (family p) (nodeOf b) H (tripleOf p (bodyOf f)) .History) (e .set) (write-same p (nodeOf b) (tripleOf p (bodyOf f)) (history p b) H same);
-          }
+          })
       go false w =
-          follows-still p b b₂ H g
-          (ap (λ (o : ServedOutcome). o .book) (calls.replied-is p f b y n b₂ y₂ c .1) ∙ one.answered-book p f b y ∙ nodes.after-other p (headerIn f) (bodyOf f) b w) same
+          subst (λ (t : Bool). Follows p b b₂ (fed t)) (sym (no-write p f b y w))
+          (follows-still p b b₂ H g
+          (ap (λ (o : ServedOutcome). o .book) (calls.replied-is p f b y n b₂ y₂ c .1) ∙ one.answered-book p f b y ∙ nodes.after-other p (headerIn f) (bodyOf f) b w) same)
 
--- OVER ANY CALLS A NODE'S HISTORY IS THE ONE THAT FIGURE 1 HOLDS after the write requests that were answered
+-- OVER ANY CALLS A NODE'S HISTORY IS THE ONE THAT FIGURE 1 HOLDS after the write requests that document 01 does not bar
 pub node-run : (p : Plan) (b : List ℕ) (H : List Triple) (cs : List Call) → goodBook p b ≡ true → Same (history p b) H → History b cs → OfPlan p cs
-    → Same (history p (lastBook b cs)) (received p (nodeOf b) H cs)
+    → Same (history p (lastBook b cs)) (received p (nodeOf b) H b cs)
 node-run p b H [] g s h o = s
 node-run p b H (c ∷ cs) g s h o =
     let k : NodeCall p (c .request) b (c .reply) (c .answer) (c .bookLeft) (c .replyLeft) =
     subst (λ (x : Plan). NodeCall x (c .request) b (c .reply) (c .answer) (c .bookLeft) (c .replyLeft)) (o .0) (h .1) in
     let q = call-follows p (c .request) b (c .reply) (h .0) (o .1) g H s (c .answer) (c .bookLeft) (c .replyLeft) k in
     subst
-    (λ (S : ℕ). Same (history p (lastBook (c .bookLeft) cs)) (received p S (fed p (c .request) b (c .reply) (h .0) (o .1) g H s (replies-to (c .answer) and writes (headerIn (c .request)))) cs))
+    (λ (S : ℕ). Same (history p (lastBook (c .bookLeft) cs))
+    (received p S (fed p (c .request) b (c .reply) (h .0) (o .1) g H s (reaches p (c .request) b (c .reply))) (c .bookLeft) cs))
     (q .node) (node-run p (c .bookLeft) _ cs (q .good) (q .set) (h .2) (o .2))
 
 -- and from a fresh book, the one that it holds from INITIALIZE on
 pub fresh-run : (p : Plan) (node : ℕ) (b b₂ : List ℕ) (cs : List Call) → FreshCall p node b Fresh b₂ → History b₂ cs → OfPlan p cs
-    → Same (history p (lastBook b₂ cs)) (received p node INITIALIZE cs)
+    → Same (history p (lastBook b₂ cs)) (received p node INITIALIZE b₂ cs)
 fresh-run p node b b₂ cs c h o =
     let i = laid-fresh p node b b₂ c in
-    subst (λ (S : ℕ). Same (history p (lastBook b₂ cs)) (received p S INITIALIZE cs)) (one.is-node i)
+    subst (λ (S : ℕ). Same (history p (lastBook b₂ cs)) (received p S INITIALIZE b₂ cs)) (one.is-node i)
     (node-run p b₂ INITIALIZE cs (one.is-good i) (subst (Same (history p b₂)) (fresh-acts p node b b₂ c) (λ X. ((λ m. m), (λ m. m)))) h o)

@@ -3,19 +3,21 @@
 --   Executes           a write that was executed
 --   AsFigure1          by the kind of the request: what is sent, and the History after it
 --   Added              (01) the conditions that stand against a write besides VALIDATE
+--   reaches            a write request that none of them meets: what Figure 1 is given
 -- Assumes nothing.
 use Prim.Native.Nat.{ℕ}
 use mathlib.Core.Path.{_≡_}
-use mathlib.Core.Bool.{true, false}
+use mathlib.Core.Bool.{Bool, true, false, not}
 use mathlib.Core.List.{List, [], _∷_}
 use lib.ListN.{length}
 use Rattle.octets.specs.Bytes.{part, over, be}
+use Rattle.terms.specs.Ladder.{all}
 use Rattle.terms.specs.Stamp.{stamp}
 use Rattle.terms.specs.Terms.{planOk}
 use Rattle.terms.specs.declared.Plan.{Plan}
 use Rattle.frame.specs.Frame.{timeRequestKind, timeReplyKind, writeRequestKind, writeReplyKind, readLatestKind, readPreviousKind, readReplyKind, headerIn, kindOf, bodyOf, frameOf, replying, goodRequest}
 use Rattle.book.specs.Book.{goodBook, nodeOf}
-use Rattle.node.specs.Node.{bookReplyOk, timeFails, otherHeld, noRoom}
+use Rattle.node.specs.Node.{bookReplyOk, writes, timeFails, otherHeld, noRoom}
 use Rattle.report.specs.Triple.{Triple, Same}
 use Rattle.report.specs.Figure1.{RECEIVE-TIME-REQUEST, RECEIVE-READ-LATEST, RECEIVE-READ-PREVIOUS, RECEIVE-WRITE-REQUEST}
 use Rattle.report.specs.Ours.{family, history, tripleOf, timeIn}
@@ -49,3 +51,16 @@ pub record Added (p : Plan) (f b y : List ℕ) : Type 0 where
   pub time : timeFails (headerIn f) (bodyOf f) ≡ false
   pub other : otherHeld p (headerIn f) (bodyOf f) b ≡ false
   pub room : noRoom p (headerIn f) (bodyOf f) b ≡ false
+
+-- refusal 6 is not among them: it is Figure 1's own VALIDATE
+unfoldable pub reaches : Plan → (f b y : List ℕ) → Bool
+reaches p f b y =
+    all (
+    writes (headerIn f) ∷
+    planOk p ∷
+    bookReplyOk p (length b) (length y) ∷
+    goodBook p b ∷
+    goodRequest p (nodeOf b) f ∷
+    not (timeFails (headerIn f) (bodyOf f)) ∷
+    not (otherHeld p (headerIn f) (bodyOf f) b) ∷
+    not (noRoom p (headerIn f) (bodyOf f) b) ∷ [])

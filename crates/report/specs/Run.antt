@@ -11,7 +11,7 @@ use Prim.{Unit}
 use Prim.Native.Nat.{ℕ, _<_}
 use mathlib.Core.Path.{_≡_}
 use mathlib.Core.Logic.{_⊎_}
-use mathlib.Core.Bool.{Bool, true, false, cond}
+use mathlib.Core.Bool.{Bool, cond}
 use mathlib.Core.List.{List, [], _∷_}
 use lib.ListN.{length}
 use lib.Dec.{ltb}
@@ -20,17 +20,15 @@ use Rattle.sha256.specs.Sha256.{sha256}
 use Rattle.terms.specs.Ladder.{_and_}
 use Rattle.terms.specs.Stamp.{stampNumber}
 use Rattle.terms.specs.declared.Plan.{Plan}
-use Rattle.frame.specs.Frame.{headerIn, frameNode, bodyOf}
+use Rattle.frame.specs.Frame.{frameNode, bodyOf}
 use Rattle.session.specs.declared.Session.{Session}
 use Rattle.session.specs.declared.Stage.the-variants.{Storing}
 use Rattle.session.specs.Session.{isAsking, isStoring, Said, refused, stillOpen, done, neverWritten, aborted, roundsSpent, clockSpent, saidOf}
 use Rattle.session.specs.Reply.{bears, readLadder}
-use Rattle.node.specs.declared.Answer.{Answer}
-use Rattle.node.specs.declared.Answer.the-variants.{Refused, Replied}
-use Rattle.node.specs.Node.{writes}
 use Rattle.store.specs.History.{Call}
 use Rattle.client.specs.Turns.{Turn}
 use Rattle.report.specs.Triple.{Triple, Message, null, In}
+use Rattle.report.specs.Acts.{reaches}
 use Rattle.report.specs.Figure1.{initial, RECEIVE-WRITE-REQUEST}
 use Rattle.report.specs.Figure2.{enough, acknowledged}
 use Rattle.report.specs.Figure3.{Command, READ-PREVIOUS, DO-READ, returned, repaired, ABORT, reading, READ, ResponseSet}
@@ -42,17 +40,14 @@ abbrev pub OfPlan : Plan → List Call → Type 0
 OfPlan p [] = Unit {0}
 OfPlan p (c ∷ cs) = (c .plan ≡ p) × Octets (c .request) × OfPlan p cs
 
-abbrev pub replies-to : Answer → Bool
-replies-to (Refused r) = false
-replies-to (Replied n) = true
-
--- RECEIVE_WRITE_REQUEST for each write request that was answered; all else leaves the History
-abbrev pub received : Plan → ℕ → List Triple → List Call → List Triple
-received p S History [] = History
-received p S History (c ∷ cs) =
+-- RECEIVE_WRITE_REQUEST for each well-shaped write request that 5, 7 and 8 of document 01 do not bar, whatever was answered; all else leaves the
+-- History. The first call is lent the book b, each other what the one before it left.
+abbrev pub received : Plan → ℕ → List Triple → (b : List ℕ) → List Call → List Triple
+received p S History b [] = History
+received p S History b (c ∷ cs) =
     received p S
-    (cond (replies-to (c .answer) and writes (headerIn (c .request))) (RECEIVE-WRITE-REQUEST (family p) S History (tripleOf p (bodyOf (c .request))) .History) History)
-    cs
+    (cond (reaches p (c .request) b (c .reply)) (RECEIVE-WRITE-REQUEST (family p) S History (tripleOf p (bodyOf (c .request))) .History) History)
+    (c .bookLeft) cs
 
 -- ---- reading
 -- what POLL_FOR_RESPONSE gave: in the rounds closed so far, the last one first, in the open one, and to DO_WRITE; in each the last message first

@@ -2,14 +2,20 @@
 //! told never guesses. What was acknowledged is held.
 
 use keeper_trials::{acknowledged, records, writes, Place};
+use second::frame::HEADER;
 use second::random::Random;
 use std::collections::BTreeSet;
 use std::fs;
 use std::io::{Read, Write};
 use std::path::Path;
-use std::process::{Child, Command, Stdio};
+use std::process::{Child, ChildStdin, Command, Stdio};
+use std::sync::atomic::{AtomicUsize, Ordering};
+use std::sync::Arc;
 use std::thread::{self, JoinHandle};
-use std::time::Duration;
+use std::time::{Duration, Instant};
+
+/// The bytes of a write's reply.
+const REPLY: usize = HEADER + 40;
 
 /// host/keeper-locked PLAN BOOK.
 fn locked(place: &Place) -> Command {
@@ -23,21 +29,33 @@ fn locked(place: &Place) -> Command {
 struct Running {
     child: Child,
     output: JoinHandle<Vec<u8>>,
+    told: Arc<AtomicUsize>,
 }
 
-fn start(mut command: Command, input: Vec<u8>) -> Running {
+fn begin(mut command: Command) -> (Running, ChildStdin) {
     let mut child = command.spawn().expect("keeper");
-    let mut to = child.stdin.take().expect("piped");
+    let to = child.stdin.take().expect("piped");
     let mut from = child.stdout.take().expect("piped");
+    let told = Arc::new(AtomicUsize::new(0));
+    let so_far = told.clone();
+    let output = thread::spawn(move || {
+        let (mut bytes, mut part) = (Vec::new(), [0; 4096]);
+        while let Ok(n @ 1..) = from.read(&mut part) {
+            bytes.extend_from_slice(&part[..n]);
+            so_far.store(bytes.len(), Ordering::SeqCst);
+        }
+        bytes
+    });
+    (Running { child, output, told }, to)
+}
+
+/// Its input ends after these requests.
+fn start(command: Command, input: Vec<u8>) -> Running {
+    let (running, mut to) = begin(command);
     thread::spawn(move || {
         let _ = to.write_all(&input);
     });
-    let output = thread::spawn(move || {
-        let mut bytes = Vec::new();
-        let _ = from.read_to_end(&mut bytes);
-        bytes
-    });
-    Running { child, output }
+    running
 }
 
 impl Running {
@@ -46,8 +64,13 @@ impl Running {
         acknowledged(&self.output.join().expect("its output"))
     }
 
-    /// Killed after so long; whether it was still running.
-    fn killed(mut self, after: Duration) -> (bool, BTreeSet<[u8; 40]>) {
+    /// Killed so long after so many replies, with requests left and its input open, so that it is at work; whether it was running.
+    fn killed(mut self, replies: usize, after: Duration) -> (bool, BTreeSet<[u8; 40]>) {
+        let began = Instant::now();
+        while self.told.load(Ordering::SeqCst) < replies * REPLY {
+            assert!(began.elapsed() < Duration::from_secs(120), "no reply for two minutes");
+            thread::sleep(Duration::from_micros(200));
+        }
         thread::sleep(after);
         let running = self.child.try_wait().expect("a state").is_none();
         let _ = self.child.kill();
@@ -105,11 +128,13 @@ fn after_a_kill_the_next_start_writes() {
     let place = Place::new("kills");
     place.fresh();
     let mut random = Random::new(1);
-    let (mut told, mut met, mut left) = (BTreeSet::new(), 0, 0);
+    let (mut told, mut left) = (BTreeSet::new(), 0);
     for i in 0..12 {
-        let running = start(locked(&place), writes(&records(1 + 12 * i, 11)));
-        let (running, before) = running.killed(Duration::from_millis(random.within(20, 400) as u64));
-        met += usize::from(running);
+        let (running, mut open) = begin(locked(&place));
+        open.write_all(&writes(&records(1 + 12 * i, 11))).expect("requests, fewer bytes than a pipe holds");
+        let after = Duration::from_micros(100 * random.within(0, 40) as u64);
+        let (running, before) = running.killed(random.within(0, 10), after);
+        assert!(running, "kill {i} met no running keeper");
         left += usize::from(place.file("BOOK.new").exists());
         told.extend(before);
         let next = start(locked(&place), writes(&records(12 + 12 * i, 1))).ended();
@@ -117,6 +142,5 @@ fn after_a_kill_the_next_start_writes() {
         told.extend(next);
         assert!(told.is_subset(&place.held()), "kill {i} lost a record that was acknowledged");
     }
-    println!("12 kills, {met} of a running keeper, {left} left a BOOK.new");
-    assert!(met >= 4, "only {met} of 12 kills met a running keeper");
+    println!("12 kills, {left} left a BOOK.new");
 }

@@ -8,6 +8,9 @@ pub mod Repair
 pub mod RepairRound
 pub mod Sessions
 pub mod ComesBack
+pub mod Bytes
+pub mod Slots
+pub mod Held
 pub mod SameStamp
 pub mod Asks
 pub mod Instances

@@ -7,13 +7,14 @@
 --   read-as-the-report     a whole read, from its opening, is Figure 3's READ, cut at W
 --   read-requests-as-the-report write-requests-as-the-report   what is sent to a node is what the figures send to it
 --   comes-back written-comes-back   an encoded block comes back from any m of its N fragments; so does what our writer writes
+--   written-read-back      a whole read that ends done with a write's timestamp leaves what was written
 -- The figures are in report/specs, with (01) beside what document 01 adds or closes. That the hash and the field are those of the papers is
 -- said by the contracts of `digest`, `product` and `quotient`, over sha256/specs and field/specs. Each refusal exactly: Refusals.
 -- Assumes nothing.
 use Prim.Native.Nat.{ℕ, _*_, _≤_, _<_}
 use mathlib.Core.Path.{_≡_}
 use mathlib.Core.Bool.{true, false}
-use mathlib.Core.List.{List}
+use mathlib.Core.List.{List, _∷_}
 use lib.ListN.{length}
 use Rattle.octets.specs.Bytes.{Octets}
 use Rattle.fragments.specs.Fragments.{All, Distinct, Room, laid, encoded}
@@ -33,11 +34,14 @@ use Rattle.session.specs.declared.opening.Opened.{Opened}
 use Rattle.session.specs.declared.opening.Opening.the-variants.{Accepted}
 use Rattle.session.specs.declared.Operation.the-variants.{Write, Read}
 use Rattle.session.specs.Opening.{OpenCall}
-use Rattle.recover.specs.Records.{recordsFor}
+use Rattle.recover.specs.Records.{stampFor, recordsFor}
 use Rattle.store.specs.History.{Call, History, lastBook}
 use Rattle.client.specs.Turns.{Turn, ReadTurn, WriteTurn, Calls}
 use Rattle.report.specs.Triple.{Same}
 use Rattle.client.proofs.ComesBack.{block-comes-back}
+use Rattle.client.specs.Held.{ReadDone}
+use Rattle.client.specs.SameStamp.{NoClash}
+use Rattle.client.proofs.SameStamp.{done-comes-back}
 use Rattle.report.specs.Figure1.{INITIALIZE, VALIDATE}
 use Rattle.report.specs.Ours.{history, family, tripleOf}
 use Rattle.report.specs.Run.{OfPlan, received, unpolled, polledOver, AllApart, AllFull, EachTells}
@@ -131,8 +135,14 @@ pub comes-back : (m : ℕ) (s : Slots) (item : List ℕ) → m ≤ 256 → Octet
 comes-back = any-m-of-n
 
 -- The N records that our writer makes of an item at a time, in its desk, give the item to our reader's decoding from any m of its N slots.
--- For a reply that is answered done: read-comes-back and repair-comes-back of client.
 pub written-comes-back : (p : Plan) (time : ℕ) (item : List ℕ) → planOk p ≡ true → Octets item → length item ≡ p .m * p .f → (out : List ℕ)
     → length out ≡ p .m * p .f → (nodes : List ℕ) → Distinct nodes → All (λ (z : ℕ). z < p .n) nodes → length nodes ≡ p .m
     → laid (recordsFor p time item) (slotsOf p) nodes (runsOf (p .m) (p .f)) (p .m) out ≡ item
 written-comes-back = block-comes-back
+
+-- A read, over any replies from an accepted opening on, that ends done with the timestamp of a write of an item leaves that item: whichever nodes it
+-- heard, in whichever round, its set complete or repaired, under either client model. Where no record that a reply bore clashes with those that were
+-- written: its cross checksum is the item's, or has another hash; its fragment is the one for its node, or has another hash.
+pub written-read-back : (p : Plan) (time : ℕ) (item : List ℕ) → Octets item → length item ≡ p .m * p .f → (out : List ℕ) (r : ReadDone p (stampFor p time item) out)
+    → NoClash p item (r .first ∷ r .rest) → out ≡ item
+written-read-back = done-comes-back

@@ -1,7 +1,8 @@
 -- Numbers and hashes are bytes, so that a timestamp is known by its number. Assumes nothing.
 --   octets-be octets-sha256   the bytes of a number, and a hash, are bytes
---   one-number         40 bytes are known by the number that they are
 --   made-stamp         bytes with the number of a timestamp that was made are that timestamp
+--   same-verifier      two that are one number have one verifier
+--   stamp-for          the number of a write's timestamp
 use Prim.{tt}
 use Prim.Native.Nat.{ℕ, zero, suc, _+_, _/_, _%_, _≤_}
 use mathlib.Core.Path.{_≡_, sym, ap, _∙_}
@@ -9,7 +10,7 @@ use mathlib.Core.List.{List, [], _∷_, _++_, append-nil}
 use native.Mathlib.Omega.{arith}
 use lib.ListN.{length, length-append}
 use Rattle.octets.specs.Bytes.{part, num, be, beOnto, Octets}
-use Rattle.octets.proofs.Laws.{length-be, part-first}
+use Rattle.octets.proofs.Laws.{length-be, part-first, part-last}
 use Rattle.octets.proofs.Meaning.{Bytes, octets-all, octets-append, be-part}
 use Rattle.sha256.specs.Sha256.{sha256, bytes4, after, pad}
 use Rattle.sha256.specs.declared.State.{State}
@@ -66,6 +67,16 @@ module _ (time : ℕ) (cross : List ℕ) where
   pub made-stamp : (rec : List ℕ) → Octets rec → 40 ≤ length rec → stamp rec ≡ num (stampMade time cross) → stampOf rec ≡ stampMade time cross
   made-stamp rec o l e =
       sym (be-part rec 0 40 (omega arith) o) ∙ ap (be 40) (e ∙ ap num (sym whole)) ∙ be-part made 0 40 (omega (arith, long-made)) octets-made ∙ whole
+
+-- so two that are one number have one verifier
+pub same-verifier : (s t : ℕ) (c e : List ℕ) → num (stampMade s c) ≡ num (stampMade t e) → sha256 c ≡ sha256 e
+same-verifier s t c e n = sym (verifier s c) ∙ ap (λ (l : List ℕ). part l 8 32) same ∙ verifier t e
+  where
+    same : stampMade s c ≡ stampMade t e
+    same = sym (whole s c) ∙ made-stamp t e (stampMade s c) (octets-made s c) (omega (arith, long-made s c)) (ap num (whole s c) ∙ n)
+
+    verifier : (s : ℕ) (c : List ℕ) → part (stampMade s c) 8 32 ≡ sha256 c
+    verifier s c = part-last (be 8 s) (sha256 c) 8 32 (length-be 8 s) (sha256-length c)
 
 pub stamp-for : (p : Plan) (time : ℕ) (i : List ℕ) → stampNumber (stampFor p time i) ≡ num (stampMade time (crossFor p i))
 unfolding stampFor

@@ -12,5 +12,6 @@ pub mod Bytes
 pub mod Slots
 pub mod Held
 pub mod SameStamp
+pub mod OneItem
 pub mod Asks
 pub mod Instances

@@ -2,7 +2,7 @@
 -- fragment share no hash with another string that was written: so a read that is done with that timestamp leaves that item. Document 01,
 -- "Fragments": a timestamp is a time, then the hash of the cross checksum; the cross checksum is the hashes of the fragments.
 --   record-written     the record is the one that was written
---   lowest-so lowest-slots lowest-stamps lead-slot lead-long lead-number   what is known of the set that a read decodes or repairs
+--   lowest-so lowest-slots lowest-stamps lead-slot lead-long lead-stamp lead-number   what is known of the set that a read decodes or repairs
 --   done-comes-back    a read, from its opening, that ends done with the write's timestamp leaves the item that was written
 -- Assumes nothing.
 use Prim.{tt}
@@ -17,7 +17,7 @@ use Rattle.octets.proofs.Laws.{length-part, length-be, part-part, part-all, par
 use Rattle.octets.proofs.Meaning.{part-add, alike-is, octets-drop}
 use Rattle.sha256.specs.Sha256.{sha256}
 use Rattle.sha256.proofs.Laws.{sha256-length}
-use Rattle.terms.specs.Stamp.{stamp, stampNumber}
+use Rattle.terms.specs.Stamp.{stamp, stampAt, stampNumber}
 use Rattle.terms.specs.Terms.{recordLength, slotsOf}
 use Rattle.terms.specs.declared.Plan.{Plan}
 use Rattle.terms.proofs.Rungs.{both}
@@ -130,9 +130,12 @@ module _ (P : ℕ → List ℕ → Type 0) (p : Plan) (u : Session) (e : List �
   lead-long = length-part e (a * recordLength p) (recordLength p) lead-fits
 
   -- the timestamp of the close is that of the lead's slot, and of each of the m lowest
+  pub lead-stamp : closed p u e .stamp ≡ stampAt e (a * recordLength p)
+  lead-stamp = leading .stamp-is
+
   pub lead-number : stampNumber (closed p u e .stamp) ≡ stamp (slotOf p e a)
   lead-number =
-      ap stampNumber (leading .stamp-is) ∙ stamp-at-number e (a * recordLength p) (omega (arith, lead-fits, record-length p)) ∙ sym (stamp-at p e (a * recordLength p))
+      ap stampNumber lead-stamp ∙ stamp-at-number e (a * recordLength p) (omega (arith, lead-fits, record-length p)) ∙ sym (stamp-at p e (a * recordLength p))
 
   pub lowest-stamps : All (λ (z : ℕ). stampOf (slotOf p e z) ≡ stampOf (slotOf p e a)) (lowest p (closed p u e))
   lowest-stamps = all-map (λ z h. start z ∙ ap (λ (l : List ℕ). part l 0 40) h ∙ sym (start a)) (lowest p (closed p u e)) (lowest-so .heads)

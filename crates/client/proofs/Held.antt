@@ -16,10 +16,10 @@ use borrow.Author.Tests.{not-false}
 use lib.ListN.{length, set}
 use Rattle.octets.specs.Bytes.{put}
 use Rattle.terms.specs.Ladder.{Rung, None}
-use Rattle.terms.specs.Stamp.{stampNumber}
 use Rattle.terms.specs.Terms.{planOk, recordLength, COMPLETE, INCOMPLETE, slotsOf, thresholdsOf}
 use Rattle.terms.specs.declared.Ask.{Ask}
 use Rattle.terms.specs.declared.Plan.{Plan}
+use Rattle.terms.specs.declared.Timestamp.{Timestamp}
 use Rattle.terms.proofs.Down.{clear}
 use Rattle.terms.proofs.Ladders.{is-given}
 use Rattle.terms.proofs.Rungs.{clash}
@@ -68,13 +68,13 @@ pub record Closing (P : ℕ → List ℕ → Type 0) (p : Plan) (u : Session) (e
   pub valid : sound p (closed p u e) a e ≡ true
   pub slots : EverySlot P p (u .marks) e
 
--- an item that was decoded from such a set, whose timestamp is this number, into a buffer of m·F bytes
-pub record Found (P : ℕ → List ℕ → Type 0) (p : Plan) (stamp : ℕ) (item : List ℕ) : Type 0 where
+-- an item that was decoded from such a set, of this timestamp, into a buffer of m·F bytes
+pub record Found (P : ℕ → List ℕ → Type 0) (p : Plan) (stamp : Timestamp) (item : List ℕ) : Type 0 where
   pub session : Session
   pub desk : List ℕ
   pub node : ℕ
   pub closing : Closing P p session desk node
-  pub stamped : stamp ≡ stampNumber (closed p session desk .stamp)
+  pub stamped : stamp ≡ closed p session desk .stamp
   pub lent : List ℕ
   pub room : length lent ≡ p .m * p .f
   pub is : item ≡ decoded p (closed p session desk) desk lent
@@ -124,10 +124,10 @@ module _ (P : ℕ → List ℕ → Type 0) (p : Plan) (s : Session) (f d i : Lis
 
   record Leaves (o : Outcome) : Type 0 where
     keeps : Keeps P p (o .session) (o .desk)
-    finds : (stamp n : ℕ) → o .said ≡ done stamp n → Found P p stamp (o .item)
+    finds : (stamp : Timestamp) (n : ℕ) → o .said ≡ done stamp n → Found P p stamp (o .item)
 
   -- it is no ending with an item
-  other : (a : Said) → ((stamp n : ℕ) → a ≡ done stamp n → ⊥) → (x : Session) (y : List ℕ) → Keeps P p x y → Leaves (outcome a x y i)
+  other : (a : Said) → ((stamp : Timestamp) (n : ℕ) → a ≡ done stamp n → ⊥) → (x : Session) (y : List ℕ) → Keeps P p x y → Leaves (outcome a x y i)
   other a h x y z = record { keeps = z; finds = λ stamp n q. absurd (h stamp n q) }
 
   -- an accepted reply
@@ -195,7 +195,7 @@ module _ (P : ℕ → List ℕ → Type 0) (p : Plan) (s : Session) (f d i : Lis
         filled = refl;
       }))
 
-  by-read : (stamp m : ℕ) → DoneByRead p s f d (length i) stamp m → Leaves (readReply p s f d i)
+  by-read : (stamp : Timestamp) (m : ℕ) → DoneByRead p s f d (length i) stamp m → Leaves (readReply p s f d i)
   by-read stamp m w =
       let n = w .closes .accepted in
       let q = w .closes .asks in
@@ -218,7 +218,7 @@ module _ (P : ℕ → List ℕ → Type 0) (p : Plan) (s : Session) (f d i : Lis
             };
       })
 
-  by-repair : (stamp m : ℕ) → DoneByRepair p s f d (length i) stamp m → Leaves (readReply p s f d i)
+  by-repair : (stamp : Timestamp) (m : ℕ) → DoneByRepair p s f d (length i) stamp m → Leaves (readReply p s f d i)
   by-repair stamp m w =
       let n = w .accepted in
       let h : Mended P p s d = subst (λ (x : Stage). KeepsAt x P p s d) (at-storing (s .round .stage) (w .stores)) k in
@@ -227,13 +227,13 @@ module _ (P : ℕ → List ℕ → Type 0) (p : Plan) (s : Session) (f d i : Lis
       (record {
         keeps = tt;
         finds = λ x y z.
-            let one : x ≡ stampNumber (s .stamp) = cc in
+            let one : x ≡ s .stamp = cc in
             record {
               session = h .session;
               desk = h .desk;
               node = h .node;
               closing = c;
-              stamped = one ∙ ap stampNumber (h .stamped);
+              stamped = one ∙ h .stamped;
               lent = i;
               room = item-is n;
               is = ap (λ (l : List ℕ). collected p l i) (h .filled)
@@ -285,7 +285,7 @@ module _ (P : ℕ → List ℕ → Type 0) (p : Plan) where
   run-keeps s d (c ∷ cs) k h b = run-keeps (c .took .session) (c .deskLeft) cs (one s d c k (b .0) (h .0) .keeps) (h .1) (b .1)
 
   ends-found : (s : Session) (d : List ℕ) (c : Turn) (cs : List Turn) → Keeps P p s d → Calls (ReadTurn p) s d (c ∷ cs)
-      → EachTurn (λ (c : Turn). Brings P p (c .reply)) (c ∷ cs) → (stamp n : ℕ) → lastSaid c cs ≡ done stamp n → Found P p stamp (lastItem c cs)
+      → EachTurn (λ (c : Turn). Brings P p (c .reply)) (c ∷ cs) → (stamp : Timestamp) (n : ℕ) → lastSaid c cs ≡ done stamp n → Found P p stamp (lastItem c cs)
   ends-found s d c [] k h b stamp n e = one s d c k (b .0) (h .0) .finds stamp n e
   ends-found s d c (v ∷ cs) k h b stamp n e =
       ends-found (c .took .session) (c .deskLeft) v cs (one s d c k (b .0) (h .0) .keeps) (h .1) (b .1) stamp n e
@@ -298,7 +298,7 @@ module _ (P : ℕ → List ℕ → Type 0) (p : Plan) where
     -- A READ THAT ENDS DONE LEAVES WHAT A CLOSED SET DECODES TO, complete or repaired, of the timestamp that it says; the slots of that set are of the
     -- kind that the records of its replies are
     pub run-finds : (c : Turn) (cs : List Turn) → Calls (ReadTurn p) (r .session) d (c ∷ cs) → EachTurn (λ (c : Turn). Brings P p (c .reply)) (c ∷ cs)
-        → (stamp n : ℕ) → lastSaid c cs ≡ done stamp n → Found P p stamp (lastItem c cs)
+        → (stamp : Timestamp) (n : ℕ) → lastSaid c cs ≡ done stamp n → Found P p stamp (lastItem c cs)
     run-finds c cs h b = ends-found (r .session) d c cs start h b
 
     pub run-slots : (cs : List Turn) → Calls (ReadTurn p) (r .session) d cs → EachTurn (λ (c : Turn). Brings P p (c .reply)) cs

@@ -104,18 +104,18 @@ module _ (p : Plan) (u : Session) (e : List ℕ) (a : ℕ) (c : Closing (Sure p)
   abbrev piece : ℕ → List ℕ
   piece k = regenerated e (slotsOf p) (lowest p (closed p u e)) k
 
-  abbrev item : List ℕ
-  item = row piece (p .m)
+  abbrev whole : List ℕ
+  whole = row piece (p .m)
 
   long-piece : (k : ℕ) → length (piece k) ≡ p .f
   long-piece = long-regenerated p u e a (c .plan) (c .long) (c .leads) (c .size)
 
-  pub long-item : length item ≡ p .m * p .f
+  pub long-item : length whole ≡ p .m * p .f
   long-item = length-blocks piece (p .f) (p .m) long-piece
 
-  pub decoded-item : (out : List ℕ) → length out ≡ p .m * p .f → decoded p (closed p u e) e out ≡ item
+  pub decoded-item : (out : List ℕ) → length out ≡ p .m * p .f → decoded p (closed p u e) e out ≡ whole
   unfolding decoded
-  decoded-item out room = laid-row e (slotsOf p) qs (p .m) out long-piece (p .m) ∙ over-whole item out (room ∙ sym long-item)
+  decoded-item out room = laid-row e (slotsOf p) qs (p .m) out long-piece (p .m) ∙ over-whole whole out (room ∙ sym long-item)
 
   points : interp.Bytes qs
   points = let n16 = plan-is p (c .plan) .n-high in all-map (λ q l. omega (arith, n16)) qs (lowest-so (Sure p) p u e a c .below)
@@ -133,7 +133,7 @@ module _ (p : Plan) (u : Session) (e : List ℕ) (a : ℕ) (c : Closing (Sure p)
     piece-at : (k : ℕ) → k < 256 → getD (piece k) i 0 ≡ eval (poly i) k
     piece-at = regenerated-value p qs e (lowest-so (Sure p) p u e a c .few) (lowest-so (Sure p) p u e a c .distinct) points i low (poly i) through
 
-    column : Column (p .m) (p .f) item i (poly i)
+    column : Column (p .m) (p .f) whole i (poly i)
     column =
         record {
           degree = through .degree;
@@ -141,7 +141,7 @@ module _ (p : Plan) (u : Session) (e : List ℕ) (a : ℕ) (c : Closing (Sure p)
           passes = λ q h.
               let g = facts p (c .plan) in
               let n16 = plan-is p (c .plan) .n-high in
-              sym (piece-at q (omega arith)) ∙ ap (λ (l : List ℕ). getD l i 0) (sym (part-row piece (p .f) q (p .m) (λ j l. long-piece j) h)) ∙ getD-part item (q * p .f) (p .f) i low;
+              sym (piece-at q (omega arith)) ∙ ap (λ (l : List ℕ). getD l i 0) (sym (part-row piece (p .f) q (p .m) (λ j l. long-piece j) h)) ∙ getD-part whole (q * p .f) (p .f) i low;
         }
 
   octets-piece : (k : ℕ) → k < 256 → Octets (piece k)
@@ -153,17 +153,17 @@ module _ (p : Plan) (u : Session) (e : List ℕ) (a : ℕ) (c : Closing (Sure p)
           let l = leb-false (p .f) i q in
           rw (piece-at i l k h) (eval-lt (poly i) k (octets-bytes (poly i) (through i l .octets)))
 
-  pub octets-item : Octets item
+  pub octets-item : Octets whole
   octets-item =
       octets-blocks piece (p .m) (λ k l. let g = facts p (c .plan) in let n16 = plan-is p (c .plan) .n-high in octets-piece k (omega arith))
 
   -- its fragments are those that the set regenerates
-  pub set-item : (k : ℕ) → k < 256 → fragment (p .m) (p .f) item k ≡ piece k
+  pub set-item : (k : ℕ) → k < 256 → fragment (p .m) (p .f) whole k ≡ piece k
   set-item k h =
       let g = facts p (c .plan) in
       let n16 = plan-is p (c .plan) .n-high in
-      to-tabulate (fragment (p .m) (p .f) item k) (p .f) (λ i. eval (poly i) k) (length-fragment (p .m) (p .f) item long-item k)
-      (λ i l. fragment-evaluates (p .m) (p .f) item (omega arith) octets-item long-item i (poly i) (column i l) l k h)
+      to-tabulate (fragment (p .m) (p .f) whole k) (p .f) (λ i. eval (poly i) k) (length-fragment (p .m) (p .f) whole long-item k)
+      (λ i l. fragment-evaluates (p .m) (p .f) whole (omega arith) octets-item long-item i (poly i) (column i l) l k h)
       ∙ sym (to-tabulate (piece k) (p .f) (λ i. eval (poly i) k) (long-piece k) (λ i l. piece-at i l k h))
 
   -- under Byzantine clients its cross checksum is that of the set, and so its timestamp is
@@ -172,17 +172,17 @@ module _ (p : Plan) (u : Session) (e : List ℕ) (a : ℕ) (c : Closing (Sure p)
     unfolding sound
     validated = sym (ap (λ (x : Clients). trusted x (validates p e qs a)) byzantine) ∙ c .valid
 
-    cross-so : crossFor p item ≡ crossOf p (slotOf p e a)
+    cross-so : crossFor p whole ≡ crossOf p (slotOf p e a)
     unfolding crossFor validates
     cross-so =
-        cross-same (fragment (p .m) (p .f) item) piece (p .n) (λ k l. let n16 = plan-is p (c .plan) .n-high in set-item k (omega arith)) p
+        cross-same (fragment (p .m) (p .f) whole) piece (p .n) (λ k l. let n16 = plan-is p (c .plan) .n-high in set-item k (omega arith)) p
         ∙ alike-is _ _ validated ∙ sym (cross-at p e (a * recordLength p))
 
     -- the time in the lead's slot
     abbrev at : ℕ
     at = stampAt e (a * recordLength p) .time .0
 
-    stamp-so : stampMade at (crossFor p item) ≡ part e (a * recordLength p) 40
+    stamp-so : stampMade at (crossFor p whole) ≡ part e (a * recordLength p) 40
     unfolding stampAt hashesOk
     stamp-so =
         let rec = slotOf p e a in
@@ -191,15 +191,15 @@ module _ (p : Plan) (u : Session) (e : List ℕ) (a : ℕ) (c : Closing (Sure p)
         let time : be 8 (num (part e (a * recordLength p) 8)) ≡ part rec 0 8 =
         ap (λ (x : List ℕ). be 8 (num x)) (sym (start-of p e (a * recordLength p) 8 (omega (arith, record-length p))))
         ∙ be-part rec 0 8 (omega (arith, l, record-length p)) (s .octets) in
-        let verifier : sha256 (crossFor p item) ≡ part rec (0 + 8) 32 =
+        let verifier : sha256 (crossFor p whole) ≡ part rec (0 + 8) 32 =
         ap sha256 cross-so ∙ alike-is (sha256 (crossOf p rec)) (verifierOf rec) (both (alike (sha256 (crossOf p rec)) (verifierOf rec)) _ (s .hashes) .0) in
         ap₂ _++_ time verifier ∙ sym (part-add rec 0 8 32) ∙ start-of p e (a * recordLength p) 40 (omega (arith, record-length p))
 
-    pub stamp-of-item : stampFor p (closed p u e .stamp .time .0) item ≡ closed p u e .stamp
+    pub stamp-of-item : stampFor p (closed p u e .stamp .time .0) whole ≡ closed p u e .stamp
     unfolding stampFor
     stamp-of-item =
         let l = lead-stamp (Sure p) p u e a c in
-        ap (λ (t : Timestamp). stampAt (stampMade (t .time .0) (crossFor p item)) 0) l ∙ ap (λ (x : List ℕ). stampAt x 0) stamp-so
+        ap (λ (t : Timestamp). stampAt (stampMade (t .time .0) (crossFor p whole)) 0) l ∙ ap (λ (x : List ℕ). stampAt x 0) stamp-so
         ∙ stamp-part e (a * recordLength p) ∙ sym l
 
 -- ---- a read that ends done
@@ -211,18 +211,17 @@ module _ (p : Plan) where
     all-sure (c .took .session) (c .deskLeft) cs (h .1),
   )
 
-  done-found : (t : Timestamp) (item : List ℕ) (r : ReadDone p t item) → Found (Sure p) p (stampNumber t) (lastItem (r .first) (r .rest))
+  done-found : (t : Timestamp) (item : List ℕ) (r : ReadDone p t item) → Found (Sure p) p t (lastItem (r .first) (r .rest))
   done-found t item r =
       run-finds (Sure p) p (r .ask) (r .opened) (r .opens) (r .accepted) (r .desk) (r .first) (r .rest) (r .calls)
-      (all-sure (r .opened .session) (r .desk) (r .first ∷ r .rest) (r .calls)) (stampNumber t) (r .rounds) (r .says)
+      (all-sure (r .opened .session) (r .desk) (r .first ∷ r .rest) (r .calls)) t (r .rounds) (r .says)
 
   -- what is known of its item
   record Known (t : Timestamp) (item : List ℕ) : Type 0 where
     plan : planOk p ≡ true
     octets : Octets item
     long : length item ≡ p .m * p .f
-    time : ℕ
-    stamped : p .clients ≡ Byzantine → stampNumber (stampFor p time item) ≡ stampNumber t
+    stamped : p .clients ≡ Byzantine → stampFor p (t .time .0) item ≡ t
 
   known : (t : Timestamp) (item : List ℕ) → ReadDone p t item → Known t item
   known t item r =
@@ -235,9 +234,15 @@ module _ (p : Plan) where
         plan = c .plan;
         octets = octets-item p (w .session) (w .desk) (w .node) c;
         long = long-item p (w .session) (w .desk) (w .node) c;
-        time = closed p (w .session) (w .desk) .stamp .time .0;
-        stamped = λ z. ap stampNumber (stamp-of-item p (w .session) (w .desk) (w .node) c z) ∙ sym (w .stamped);
+        stamped = λ z.
+            subst (λ (x : Timestamp). stampFor p (x .time .0) (row (regenerated (w .desk) (slotsOf p) (lowest p (closed p (w .session) (w .desk)))) (p .m)) ≡ x) (sym (w .stamped))
+            (stamp-of-item p (w .session) (w .desk) (w .node) c z);
       })
+
+  -- UNDER BYZANTINE CLIENTS THE TIMESTAMP OF A READ THAT ENDS DONE IS THAT OF ITS ITEM, whoever wrote it: the one that a writer of the item makes at
+  -- its time
+  pub done-of-item : p .clients ≡ Byzantine → (t : Timestamp) (item : List ℕ) → ReadDone p t item → stampFor p (t .time .0) item ≡ t
+  done-of-item byzantine t item r = known t item r .stamped byzantine
 
 -- ---- two items of one timestamp
 module _ (p : Plan) (i j : List ℕ) (ok : planOk p ≡ true) (oi : Octets i) (oj : Octets j) (li : length i ≡ p .m * p .f) (lj : length j ≡ p .m * p .f)
@@ -268,10 +273,10 @@ done-one-item p byzantine t i j r q unlike =
     let x = known p t i r in
     let y = known p t j q in
     items-one p i j (x .plan) (x .octets) (y .octets) (x .long) (y .long) unlike
-    (same-verifier (x .time) (y .time) (crossFor p i) (crossFor p j)
-    (sym (stamp-for p (x .time) i) ∙ x .stamped byzantine ∙ sym (y .stamped byzantine) ∙ stamp-for p (y .time) j))
+    (same-verifier (t .time .0) (t .time .0) (crossFor p i) (crossFor p j)
+    (sym (stamp-for p (t .time .0) i) ∙ ap stampNumber (x .stamped byzantine ∙ sym (y .stamped byzantine)) ∙ stamp-for p (t .time .0) j))
 
 -- UNDER EITHER CLIENT MODEL, SO DO TWO THAT END DONE WITH THE TIMESTAMP OF A WRITE
 pub written-one-item : (p : Plan) (time : ℕ) (item : List ℕ) → Octets item → length item ≡ p .m * p .f → (i j : List ℕ)
     (r : ReadDone p (stampFor p time item) i) (q : ReadDone p (stampFor p time item) j) → NoClash p item (r .first ∷ r .rest) → NoClash p item (q .first ∷ q .rest) → i ≡ j
-written-one-item p time item bytes whole i j r q n m = done-comes-back p time item bytes whole i r n ∙ sym (done-comes-back p time item bytes whole j q m)
+written-one-item p time item bytes long i j r q n m = done-comes-back p time item bytes long i r n ∙ sym (done-comes-back p time item bytes long j q m)

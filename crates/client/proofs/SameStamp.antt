@@ -160,9 +160,9 @@ module _ (p : Plan) (t : ℕ) (i : List ℕ) (bytes : Octets i) (whole : length 
     all-fair (c .took .session) (c .deskLeft) cs (h .1) (n .1),
   )
 
-  found-written : (number : ℕ) (item : List ℕ) → Found Fair p number item → number ≡ stampNumber (stampFor p t i) → item ≡ i
+  found-written : (item : List ℕ) → Found Fair p (stampFor p t i) item → item ≡ i
   unfolding decoded
-  found-written number item w n =
+  found-written item w =
       let c = w .closing in
       let d = w .desk in
       let qs = lowest p (closed p (w .session) d) in
@@ -170,7 +170,7 @@ module _ (p : Plan) (t : ℕ) (i : List ℕ) (bytes : Octets i) (whole : length 
       let lead : stampOf (slotOf p d (w .node)) ≡ stampMade t (crossFor p i) =
       made-stamp t (crossFor p i) (slotOf p d (w .node)) (lead-slot Fair p (w .session) d (w .node) c .octets)
       (omega (arith, lead-long Fair p (w .session) d (w .node) c, record-length p))
-      (sym (lead-number Fair p (w .session) d (w .node) c) ∙ sym (w .stamped) ∙ n ∙ stamp-for p t i) in
+      (sym (lead-number Fair p (w .session) d (w .node) c) ∙ ap stampNumber (sym (w .stamped)) ∙ stamp-for p t i) in
       let stamps : All (λ (z : ℕ). stampOf (slotOf p d z) ≡ stampMade t (crossFor p i)) qs =
       all-map (λ z h. h ∙ lead) qs (lowest-stamps Fair p (w .session) d (w .node) c) in
       let slots : All (λ (z : ℕ). (z < p .n) × Fair z (slotOf p d z)) qs =
@@ -184,6 +184,6 @@ module _ (p : Plan) (t : ℕ) (i : List ℕ) (bytes : Octets i) (whole : length 
   pub done-comes-back : (out : List ℕ) (r : ReadDone p (stampFor p t i) out) → NoClash p i (r .first ∷ r .rest) → out ≡ i
   done-comes-back out r n =
       sym (r .left)
-      ∙ found-written (stampNumber (stampFor p t i)) (lastItem (r .first) (r .rest))
+      ∙ found-written (lastItem (r .first) (r .rest))
       (run-finds Fair p (r .ask) (r .opened) (r .opens) (r .accepted) (r .desk) (r .first) (r .rest) (r .calls)
-      (all-fair (r .opened .session) (r .desk) (r .first ∷ r .rest) (r .calls) n) (stampNumber (stampFor p t i)) (r .rounds) (r .says)) refl
+      (all-fair (r .opened .session) (r .desk) (r .first ∷ r .rest) (r .calls) n) (stampFor p t i) (r .rounds) (r .says))

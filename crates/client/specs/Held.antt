@@ -11,7 +11,7 @@ use mathlib.Core.Path.{_≡_}
 use mathlib.Core.Bool.{true}
 use mathlib.Core.List.{List, [], _∷_}
 use mathlib.Core.Logic.{_⊎_}
-use Rattle.terms.specs.Stamp.{time, stampNumber}
+use Rattle.terms.specs.Stamp.{time}
 use Rattle.terms.specs.declared.Ask.{Ask}
 use Rattle.terms.specs.declared.Plan.{Plan}
 use Rattle.terms.specs.declared.Timestamp.{Timestamp}
@@ -62,5 +62,5 @@ pub record ReadDone (p : Plan) (t : Timestamp) (item : List ℕ) : Type 0 where
   pub rest : List Turn
   pub calls : Calls (ReadTurn p) (opened .session) desk (first ∷ rest)
   pub rounds : ℕ
-  pub says : lastSaid first rest ≡ done (stampNumber t) rounds
+  pub says : lastSaid first rest ≡ done t rounds
   pub left : lastItem first rest ≡ item

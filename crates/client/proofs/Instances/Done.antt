@@ -1,9 +1,10 @@
 -- Two whole reads of one write, from their openings, under one plan, with Byzantine clients: that of Stamp.antt, whose set is complete and whose nodes
--- are 0 and 1, and that of Read.antt, which needs two rounds and a repair and hears of the write from node 0 alone. The hypotheses of the theorems on
+-- are 1 and 2, and that of Read.antt, which needs two rounds and a repair and hears of the write from node 0 alone. The hypotheses of the theorems on
 -- reads that end done can be met: both leave the byte 7 that was written at time 1.
 --   slots-so           what slot 0 holds in round 2 of the second read
 --   complete-read repaired-read   both reads; complete-unlike repaired-unlike: what their replies bore does not clash with what was written
 --   complete-so repaired-so   both leave the item that was written
+--   stamp-so one-so written-so   the timestamp is that of the item; so both leave one item
 -- Assumes nothing.
 use Prim.{tt}
 use Prim.Native.Nat.{ℕ}
@@ -15,7 +16,7 @@ use lib.ListN.{getD}
 use Rattle.octets.specs.Bytes.{part, num, numFrom, be, beOnto}
 use Rattle.sha256.specs.Sha256 as sha
 use Rattle.sha256.specs.Sha256.{sha256, compressOf, addedOf, roundsOf, roundOf, T1, T2, scheduleOf, words, padding, bigEndian, K}
-use Rattle.terms.specs.Stamp.{stampAt, stampNumber}
+use Rattle.terms.specs.Stamp.{stampAt}
 use Rattle.terms.specs.Terms.{recordLength}
 use Rattle.terms.specs.declared.Timestamp.{Timestamp}
 use Rattle.terms.proofs.Rungs.{clash}
@@ -28,13 +29,14 @@ use Rattle.recover.specs.Records.{stampFor}
 use Rattle.session.specs.Session.{done}
 use Rattle.session.specs.Reply.{bears}
 use Rattle.client.specs.Held.{EverySlot, Held, ReadDone}
-use Rattle.client.specs.SameStamp.{Unlike, NoClash}
+use Rattle.client.specs.SameStamp.{Unlike, NoClash, ItemsUnlike}
 use Rattle.client.proofs.Held.{every-slot}
 use Rattle.client.proofs.SameStamp.{done-comes-back}
+use Rattle.client.proofs.OneItem.{done-of-item, done-one-item, written-one-item}
 use Rattle.client.proofs.Instances.Read as read
 use Rattle.client.proofs.Instances.Read.{plan, ask, opened, opened-so, desk, hash, stamp-bytes, good, poor, desk-good, cross, cross-so, stamped-so, seven-small, second-heard, reply-1, reply-2, reply-3, reply-4, reply-5, reply-6, call-1, call-2, call-3, call-4, call-5, call-6}
 use Rattle.client.proofs.Instances.Stamp as stamp
-use Rattle.client.proofs.Instances.Stamp.{first-reply, second-reply, first-call, call}
+use Rattle.client.proofs.Instances.Stamp.{first-reply, second-reply, desk-one, first-call, call}
 
 -- after three calls of the repaired read, round 2 is open and has heard node 0
 pub slots-so : EverySlot (Held plan (call-1 ∷ call-2 ∷ call-3 ∷ [])) plan (second-heard .marks) desk-good
@@ -52,6 +54,13 @@ module _ where
   pub stamp-is : stampAt desk-good 0 ≡ written
   stamp-is = same-bytes ∙ sym stamped-so
 
+  one-bytes : stampAt desk-one 137 ≡ stampAt stamp-bytes 0
+  unfolding stampAt desk-one good stamp-bytes part
+  one-bytes = refl
+
+  pub one-is : stampAt desk-one 137 ≡ written
+  one-is = one-bytes ∙ sym stamped-so
+
 abbrev pub complete-read : ReadDone plan written (7 ∷ [])
 complete-read =
     record {
@@ -64,7 +73,7 @@ complete-read =
       rest = call ∷ [];
       calls = stamp.calls;
       rounds = 1;
-      says = ap (λ (t : Timestamp). done (stampNumber t) 1) stamp-is;
+      says = ap (λ (t : Timestamp). done t 1) one-is;
       left = refl;
     }
 
@@ -80,12 +89,12 @@ repaired-read =
       rest = call-2 ∷ call-3 ∷ call-4 ∷ call-5 ∷ call-6 ∷ [];
       calls = read.calls;
       rounds = 2;
-      says = ap (λ (t : Timestamp). done (stampNumber t) 2) stamp-is;
+      says = ap (λ (t : Timestamp). done t 2) stamp-is;
       left = refl;
     }
 
 -- ---- what the replies bore
--- the record that was written, from node 0 or 1
+-- the record that was written, from node 0, 1 or 2
 module _ where
   good-cross : crossOf plan good ≡ cross
   unfolding plan good stamp-bytes hash part
@@ -99,6 +108,10 @@ module _ where
   unfolding plan good stamp-bytes hash part fragment tabulate value blend weightOf ratio from xtime mulN mul
   good-1 = refl
 
+  good-2 : fragmentOf plan good ≡ fragment 1 1 (7 ∷ []) 2
+  unfolding plan good stamp-bytes hash part fragment tabulate value blend weightOf ratio from xtime mulN mul
+  good-2 = refl
+
   unlike-0 : Unlike plan (7 ∷ []) 0 good
   unfolding plan
   unlike-0 = record { cross = λ e. good-cross ∙ sym cross-so; fragments = λ e. good-0 }
@@ -106,6 +119,10 @@ module _ where
   unlike-1 : Unlike plan (7 ∷ []) 1 good
   unfolding plan
   unlike-1 = record { cross = λ e. good-cross ∙ sym cross-so; fragments = λ e. good-1 }
+
+  unlike-2 : Unlike plan (7 ∷ []) 2 good
+  unfolding plan
+  unlike-2 = record { cross = λ e. good-cross ∙ sym cross-so; fragments = λ e. good-2 }
 
   -- the record of time 2: the hash of its cross checksum is another
   poor-cross : getD (sha256 (crossOf plan poor)) 0 0 ≡ 123
@@ -134,7 +151,7 @@ module _ where
   unfolding first-reply good stamp-bytes hash be beOnto num numFrom part
   body-first-reply = refl
 
-  node-first-reply : frameNode first-reply ≡ 0
+  node-first-reply : frameNode first-reply ≡ 1
   unfolding first-reply good stamp-bytes hash be beOnto num numFrom part
   node-first-reply = refl
 
@@ -142,7 +159,7 @@ module _ where
   unfolding second-reply good stamp-bytes hash be beOnto num numFrom part
   body-second-reply = refl
 
-  node-second-reply : frameNode second-reply ≡ 1
+  node-second-reply : frameNode second-reply ≡ 2
   unfolding second-reply good stamp-bytes hash be beOnto num numFrom part
   node-second-reply = refl
 
@@ -185,7 +202,7 @@ module _ where
   bare f e h = absurd (clash (sym h ∙ e))
 
 pub complete-unlike : NoClash plan (7 ∷ []) (first-call ∷ call ∷ [])
-complete-unlike = (given first-reply good 0 node-first-reply body-first-reply unlike-0, (given second-reply good 1 node-second-reply body-second-reply unlike-1, tt))
+complete-unlike = (given first-reply good 1 node-first-reply body-first-reply unlike-1, (given second-reply good 2 node-second-reply body-second-reply unlike-2, tt))
 
 pub repaired-unlike : NoClash plan (7 ∷ []) (call-1 ∷ call-2 ∷ call-3 ∷ call-4 ∷ call-5 ∷ call-6 ∷ [])
 repaired-unlike = (
@@ -207,3 +224,21 @@ complete-so = done-comes-back plan 1 (7 ∷ []) (small-octets (7 ∷ []) seven-s
 pub repaired-so : call-6 .itemLeft ≡ 7 ∷ []
 unfolding plan
 repaired-so = done-comes-back plan 1 (7 ∷ []) (small-octets (7 ∷ []) seven-small) refl (7 ∷ []) repaired-read repaired-unlike
+
+-- ---- and so one item, whoever wrote it
+items-unlike : ItemsUnlike plan (call .itemLeft) (call-6 .itemLeft)
+items-unlike = record { cross = λ e. refl; fragments = λ k h e. refl }
+
+pub stamp-so : stampFor plan (written .time .0) (call-6 .itemLeft) ≡ written
+unfolding plan
+stamp-so = done-of-item plan refl written (7 ∷ []) repaired-read
+
+pub one-so : call .itemLeft ≡ call-6 .itemLeft
+unfolding plan
+one-so = done-one-item plan refl written (call .itemLeft) (call-6 .itemLeft) complete-read repaired-read items-unlike
+
+pub written-so : call .itemLeft ≡ call-6 .itemLeft
+unfolding plan
+written-so =
+    written-one-item plan 1 (7 ∷ []) (small-octets (7 ∷ []) seven-small) refl (call .itemLeft) (call-6 .itemLeft) complete-read repaired-read complete-unlike
+    repaired-unlike

@@ -1,4 +1,4 @@
--- A whole read of a complete set, with the plan, the records and the opening of Read.antt, but nodes 0 and 1 both give the record of time 1: the
+-- A whole read of a complete set, with the plan, the records and the opening of Read.antt, but nodes 1 and 2 both give the record of time 1: the
 -- read is done in one round. The hypotheses of `read-comes-back` can be met.
 --   calls              its two calls, each by its contract
 --   item-so            the item is the one that was written
@@ -34,41 +34,47 @@ use Rattle.client.specs.Endings.{afterReply, deskAfter}
 use Rattle.client.specs.Turns.{Turn, ReadTurn, Calls}
 use Rattle.terms.proofs.Small.{small, small-octets}
 use Rattle.client.proofs.ComesBack.{read-comes-back}
-use Rattle.client.proofs.Instances.Read.{plan, hash, stamp-bytes, good, desk, desk-good, desk-full, start, first-heard, turn, written-so, plan-ok, seven-small}
+use Rattle.client.proofs.Instances.Read.{plan, hash, stamp-bytes, good, desk, desk-full, start, turn, written-so, plan-ok, seven-small}
 
 unfoldable pub first-reply : List ℕ
-first-reply = frame readReplyKind 0 5 good
+first-reply = frame readReplyKind 1 5 good
 
 unfoldable pub second-reply : List ℕ
-second-reply = frame readReplyKind 1 5 good
+second-reply = frame readReplyKind 2 5 good
+
+unfoldable pub desk-one : List ℕ
+desk-one = replicate 137 0 ++ (good ++ replicate 137 0)
 
 unfoldable pub desk-two : List ℕ
-desk-two = good ++ (good ++ replicate 137 0)
+desk-two = replicate 137 0 ++ (good ++ good)
+
+abbrev pub one-heard : Session
+one-heard = markedOf start 1 Record
 
 abbrev pub ended : Session
-ended = endedOf (markedOf first-heard 1 Record)
+ended = endedOf (markedOf one-heard 2 Record)
 
 abbrev pub first-call : Turn
-first-call = turn first-reply Open first-heard desk-good (0 ∷ [])
+first-call = turn first-reply Open one-heard desk-one (0 ∷ [])
 
 abbrev pub call : Turn
 call =
     record {
       reply = second-reply;
       item = 0 ∷ [];
-      took = record { answer = Done (stampAt desk-good 0) 1; session = ended };
+      took = record { answer = Done (stampAt desk-one 137) 1; session = ended };
       deskLeft = desk-two;
       itemLeft = 7 ∷ [];
     }
 
-first-so : ReadReplyCall plan start first-reply desk (0 ∷ []) (first-call .took) desk-good (0 ∷ [])
-unfolding first-reply hash stamp-bytes good desk desk-good plan readReply first planOk countsOk limitsOk columnOf all recordLength lengthsOk inRange standingRules openRules heardCount every
+first-so : ReadReplyCall plan start first-reply desk (0 ∷ []) (first-call .took) desk-one (0 ∷ [])
+unfolding first-reply hash stamp-bytes good desk desk-one plan readReply first planOk countsOk limitsOk columnOf all recordLength lengthsOk inRange standingRules openRules heardCount every
     slotsFit slotFits slotStamp underOf num numFrom part goodReply goodFrame suits shaped forParty oneOf bodyFits awaited askNow awaitsKind isHeard bears be beOnto accepted heard settled
     hashesOk timeZero fragmentHash prefixOf alike put stampAt stampNumber then sha256 sha.after compressOf addedOf roundsOf roundOf T1 T2 scheduleOf words padding bigEndian K
 first-so = record { is = refl }
 
-done-so : ReadReplyCall plan first-heard second-reply desk-good (0 ∷ []) (call .took) desk-two (7 ∷ [])
-unfolding second-reply hash stamp-bytes good desk-good desk-two plan readReply first planOk countsOk limitsOk columnOf all recordLength lengthsOk inRange standingRules openRules heardCount every
+done-so : ReadReplyCall plan one-heard second-reply desk-one (0 ∷ []) (call .took) desk-two (7 ∷ [])
+unfolding second-reply hash stamp-bytes good desk-one desk-two plan readReply first planOk countsOk limitsOk columnOf all recordLength lengthsOk inRange standingRules openRules heardCount every
     slotsFit slotFits slotStamp underOf num numFrom part goodReply goodFrame suits shaped forParty oneOf bodyFits awaited askNow awaitsKind isHeard bears be beOnto accepted heard settled
     hashesOk timeZero fragmentHash prefixOf alike put stampAt stampNumber then sha256 sha.after compressOf addedOf roundsOf roundOf T1 T2 scheduleOf words padding bigEndian K actFor actOn
     sound closeWith leadOf stepOf aheadOf setOf joinsOf decided classOf validates row crossMade regenerated among tabulate value blend weightOf ratio xtime mulN mul square sumPow inv
@@ -87,17 +93,17 @@ module _ where
 pub calls : Calls (ReadTurn plan) start desk (first-call ∷ call ∷ [])
 calls = ((small-octets first-reply small-first, first-so), ((small-octets second-reply small-second, done-so), tt))
 
--- the desk with this reply, and the m lowest of the set: node 0
-after-so : deskAfter plan second-reply desk-good ≡ desk-two
-unfolding second-reply hash stamp-bytes good desk-good desk-two plan bears recordLength num numFrom part put be beOnto
+-- the desk with this reply, and the m lowest of the set: node 1
+after-so : deskAfter plan second-reply desk-one ≡ desk-two
+unfolding second-reply hash stamp-bytes good desk-one desk-two plan bears recordLength num numFrom part put be beOnto
 after-so = refl
 
-lowest-so : lowest plan (closed plan (afterReply plan first-heard second-reply) desk-two) ≡ 0 ∷ []
+lowest-so : lowest plan (closed plan (afterReply plan one-heard second-reply) desk-two) ≡ 1 ∷ []
 unfolding second-reply hash stamp-bytes good desk-two plan bears recordLength num numFrom part be beOnto closeWith leadOf stepOf aheadOf slotStamp setOf joinsOf alike
 lowest-so = refl
 
--- its slot is the record of node 0
-slot-so : slotOf plan desk-two 0 ≡ slotOf plan desk-full 0
+-- its slot is the record of node 1
+slot-so : slotOf plan desk-two 1 ≡ slotOf plan desk-full 1
 unfolding hash stamp-bytes good desk-two desk-full plan recordLength part
 slot-so = refl
 
@@ -105,9 +111,9 @@ slot-so = refl
 pub item-so : call .itemLeft ≡ 7 ∷ []
 unfolding plan
 item-so =
-    read-comes-back plan 1 (7 ∷ []) plan-ok (small-octets (7 ∷ []) seven-small) refl (0 ∷ []) refl first-heard second-reply desk-good (call .took) desk-two (7 ∷ []) done-so
-    (stampNumber (stampAt desk-good 0)) 1 refl refl
-    (subst (λ (d : List ℕ). All (λ (z : ℕ). slotOf plan d z ≡ slotOf plan (recordsFor plan 1 (7 ∷ [])) z) (lowest plan (closed plan (afterReply plan first-heard second-reply) d)))
+    read-comes-back plan 1 (7 ∷ []) plan-ok (small-octets (7 ∷ []) seven-small) refl (0 ∷ []) refl one-heard second-reply desk-one (call .took) desk-two (7 ∷ []) done-so
+    (stampAt desk-one 137) 1 refl refl
+    (subst (λ (d : List ℕ). All (λ (z : ℕ). slotOf plan d z ≡ slotOf plan (recordsFor plan 1 (7 ∷ [])) z) (lowest plan (closed plan (afterReply plan one-heard second-reply) d)))
     (sym after-so)
     (subst (All (λ (z : ℕ). slotOf plan desk-two z ≡ slotOf plan (recordsFor plan 1 (7 ∷ [])) z)) (sym lowest-so)
-    (slot-so ∙ ap (λ (d : List ℕ). slotOf plan d 0) (sym written-so), tt)))
+    (slot-so ∙ ap (λ (d : List ℕ). slotOf plan d 1) (sym written-so), tt)))

@@ -11,7 +11,6 @@ use mathlib.Core.Path.{_≡_, refl, sym, ap, _∙_, subst}
 use mathlib.Core.Bool.{Bool, true, false, cond}
 use mathlib.Core.List.{List, [], _∷_}
 use mathlib.Core.Logic.{inl, inr}
-use native.Mathlib.Omega.{arith}
 use borrow.Author.Tests.{not-false}
 use lib.ListN.{length, set}
 use Rattle.octets.specs.Bytes.{put}
@@ -48,6 +47,7 @@ use Rattle.client.specs.Turns.{Turn, ReadTurn, Calls, lastSaid}
 use Rattle.client.specs.Sessions.{lastSession, lastDesk, lastItem}
 use Rattle.client.specs.Repair.{EachTurn}
 use Rattle.client.specs.Held.{EverySlot, Passed, Held}
+use Rattle.client.proofs.Endings.{isDone}
 use Rattle.client.proofs.Reading as reading
 use Rattle.client.proofs.Reading.{Taken, taken}
 use Rattle.client.proofs.Repair.{repaired-item}
@@ -127,8 +127,8 @@ module _ (P : ℕ → List ℕ → Type 0) (p : Plan) (s : Session) (f d i : Lis
     finds : (stamp : Timestamp) (n : ℕ) → o .said ≡ done stamp n → Found P p stamp (o .item)
 
   -- it is no ending with an item
-  other : (a : Said) → ((stamp : Timestamp) (n : ℕ) → a ≡ done stamp n → ⊥) → (x : Session) (y : List ℕ) → Keeps P p x y → Leaves (outcome a x y i)
-  other a h x y z = record { keeps = z; finds = λ stamp n q. absurd (h stamp n q) }
+  other : (a : Said) → isDone a ≡ false → (x : Session) (y : List ℕ) → Keeps P p x y → Leaves (outcome a x y i)
+  other a h x y z = record { keeps = z; finds = λ stamp n q. absurd (clash (sym (ap isDone q) ∙ h)) }
 
   -- an accepted reply
   module _ (n : None ladder) where
@@ -165,7 +165,7 @@ module _ (P : ℕ → List ℕ → Type 0) (p : Plan) (s : Session) (f d i : Lis
     waits : Waits p s f d (length i) → (x : Bool) → isStoring (s .round .stage) ≡ x → Leaves (readReply p s f d i)
     waits w true q =
         subst Leaves (sym (reading.waits-repair p s f d i n q (rw q at (w .few))))
-        (other stillOpen (λ a b z. let y : _≡_ {A = ℕ} 0 1 = cc in omega arith) (markedOf s (frameNode f) Record) d still)
+        (other stillOpen refl (markedOf s (frameNode f) Record) d still)
       where
         still : Keeps P p (markedOf s (frameNode f) Record) d
         still =
@@ -174,7 +174,7 @@ module _ (P : ℕ → List ℕ → Type 0) (p : Plan) (s : Session) (f d i : Lis
             (record { session = m .session; desk = m .desk; node = m .node; closing = m .closing; stamped = m .stamped; filled = m .filled })
     waits w false q =
         subst Leaves (sym (reading.waits-read p s f d i n q (rw q at (w .few))))
-        (other stillOpen (λ a b z. let y : _≡_ {A = ℕ} 0 1 = cc in omega arith) u e
+        (other stillOpen refl u e
         (subst (λ (x : Stage). KeepsAt x P p u e) (sym (stage q)) (every q)))
 
   repairs : (w : RepairOpens p s f d (length i)) → Leaves (readReply p s f d i)
@@ -185,7 +185,7 @@ module _ (P : ℕ → List ℕ → Type 0) (p : Plan) (s : Session) (f d i : Lis
       let v = reading.mended-is (p .member) (COMPLETE p) (INCOMPLETE p) (size p s f d a) (w .high) (w .low) (w .member) in
       let g = led p u e a (lead-of p s f d a (w .candidate)) in
       subst Leaves (sym (reading.closes-read p s f d i n q (w .closes .enough) ∙ reading.is-mended p s f d i a (w .candidate) v (w .validated)))
-      (other stillOpen (λ x y z. let b : _≡_ {A = ℕ} 0 1 = cc in omega arith) (storingOf u (closed p u e .stamp)) (repaired p (closed p u e) a e)
+      (other stillOpen refl (storingOf u (closed p u e .stamp)) (repaired p (closed p u e) a e)
       (record {
         session = u;
         desk = e;
@@ -244,28 +244,28 @@ module _ (P : ℕ → List ℕ → Type 0) (p : Plan) (s : Session) (f d i : Lis
   by : (a : Said) → ReadGives p s f d (length i) a → Leaves (readReply p s f d i)
   by (refused j) g =
       subst Leaves (sym (reading.one-ladder p s f d i ∙ is-given ladder (λ (j : ℕ). outcome (refused j) s d i) _ j g))
-      (other (refused j) (λ x y z. let b : _≡_ {A = ℕ} 0 1 = cc in omega arith) s d k)
+      (other (refused j) refl s d k)
   by stillOpen (inl w) = waits (w .accepted) w (isStoring (s .round .stage)) refl
   by stillOpen (inr (inl w)) =
       let n = w .closes .accepted in
       subst Leaves (sym (reading.closes-read p s f d i n (w .closes .asks) (w .closes .enough) ∙ reading.goes-on p s f d i n (w .node) (w .candidate) (w .fails) (w .more)))
-      (other stillOpen (λ x y z. let b : _≡_ {A = ℕ} 0 1 = cc in omega arith) (nextOf u (closed p u e .stamp)) e (none-marked P p e))
+      (other stillOpen refl (nextOf u (closed p u e .stamp)) e (none-marked P p e))
   by stillOpen (inr (inr w)) = repairs w
   by (done stamp m) (inl w) = by-read stamp m w
   by (done stamp m) (inr w) = by-repair stamp m w
   by (neverWritten m) w =
       let n = w .closes .accepted in
       subst Leaves (sym (reading.closes-read p s f d i n (w .closes .asks) (w .closes .enough) ∙ reading.never p s f d i n (w .first)))
-      (other (neverWritten (s .round .number)) (λ x y z. let b : _≡_ {A = ℕ} 0 1 = cc in omega arith) (endedOf u) e tt)
+      (other (neverWritten (s .round .number)) refl (endedOf u) e tt)
   by (aborted m) w =
       let n = w .closes .accepted in
       subst Leaves (sym (reading.closes-read p s f d i n (w .closes .asks) (w .closes .enough)
       ∙ reading.is-aborted p s f d i (w .node) (w .candidate) (reading.unsure-is (p .member) (COMPLETE p) (INCOMPLETE p) _ (w .high) (w .low) (w .member))))
-      (other (aborted (s .round .number)) (λ x y z. let b : _≡_ {A = ℕ} 0 1 = cc in omega arith) (endedOf u) e tt)
+      (other (aborted (s .round .number)) refl (endedOf u) e tt)
   by (roundsSpent m) w =
       let n = w .closes .accepted in
       subst Leaves (sym (reading.closes-read p s f d i n (w .closes .asks) (w .closes .enough) ∙ reading.spends p s f d i n (w .node) (w .candidate) (w .fails) (w .last)))
-      (other (roundsSpent (s .round .number)) (λ x y z. let b : _≡_ {A = ℕ} 0 1 = cc in omega arith) (endedOf u) e tt)
+      (other (roundsSpent (s .round .number)) refl (endedOf u) e tt)
   by clockSpent w = absurd w
 
   leaves : Leaves (readReply p s f d i)

@@ -32,13 +32,13 @@ use Rattle.terms.proofs.Facts.{facts}
 use Rattle.terms.proofs.Places.{record-length}
 use Rattle.terms.proofs.Plans.{plan-is}
 use Rattle.terms.proofs.Rungs.{both}
-use Rattle.fragments.specs.Fragments.{All, Column, eval, fragment, laid, regenerated}
+use Rattle.fragments.specs.Fragments.{Column, eval, fragment, laid, regenerated}
 use Rattle.fragments.proofs.Interp.{all-map, eval-lt, newton}
 use Rattle.fragments.proofs.Interp as interp
 use Rattle.fragments.proofs.Lists.{to-tabulate}
 use Rattle.fragments.proofs.Theorems.{fragment-evaluates, length-fragment, octets-bytes}
 use Rattle.frame.specs.Frame.{headBytes, versionOf}
-use Rattle.record.specs.Record.{stampOf, verifierOf, crossOf, fragmentOf, entryOf, fragmentHash, hashesOk}
+use Rattle.record.specs.Record.{verifierOf, crossOf, entryOf, hashesOk}
 use Rattle.record.specs.Desk.{slotOf, fragmentIn, row, deskOf, stampMade}
 use Rattle.record.proofs.Desks.{part-row, cross-same, desk-same, entry-of}
 use Rattle.record.proofs.Records.{cross-at, start-of}
@@ -278,5 +278,5 @@ done-one-item p byzantine t i j r q unlike =
 
 -- UNDER EITHER CLIENT MODEL, SO DO TWO THAT END DONE WITH THE TIMESTAMP OF A WRITE
 pub written-one-item : (p : Plan) (time : ℕ) (item : List ℕ) → Octets item → length item ≡ p .m * p .f → (i j : List ℕ)
-    (r : ReadDone p (stampFor p time item) i) (q : ReadDone p (stampFor p time item) j) → NoClash p item (r .first ∷ r .rest) → NoClash p item (q .first ∷ q .rest) → i ≡ j
+    (r : ReadDone p (stampFor p time item) i) (q : ReadDone p (stampFor p time item) j) → NoClash p time item (r .first ∷ r .rest) → NoClash p time item (q .first ∷ q .rest) → i ≡ j
 written-one-item p time item bytes long i j r q n m = done-comes-back p time item bytes long i r n ∙ sym (done-comes-back p time item bytes long j q m)

@@ -44,7 +44,7 @@ use Rattle.recover.proofs.Records.{record-is}
 use Rattle.client.specs.Turns.{Turn, ReadTurn, Calls}
 use Rattle.client.specs.Repair.{EachTurn}
 use Rattle.client.specs.Sessions.{lastItem}
-use Rattle.client.specs.SameStamp.{Unlike, Bears, NoClash}
+use Rattle.client.specs.SameStamp.{Unlike, NoClash}
 use Rattle.client.specs.Held.{ReadDone}
 use Rattle.client.proofs.Bytes.{made-stamp, stamp-for}
 use Rattle.client.proofs.Held.{Closing, Found, Brings, run-finds}
@@ -85,8 +85,15 @@ module _ (p : Plan) (t : ℕ) (i : List ℕ) (whole : length i ≡ p .m * p .f) 
   record-written =
       parts-are ∙ (λ j. stamped j ++ (cross-is j ++ fragment-is j)) ∙ sym (record-is p t i whole z low)
 
+-- what slot z of a desk holds: the record bears the write's timestamp, refusal 6 does not apply to it, no clash
+record Bears (p : Plan) (t : ℕ) (i d : List ℕ) (z : ℕ) : Type 0 where
+  low : z < p .n
+  stamped : stampOf (slotOf p d z) ≡ stampMade t (crossFor p i)
+  hashed : hashesOk p z (slotOf p d z) ≡ true
+  unlike : Unlike p i z (slotOf p d z)
+
 -- slots that bear the write's timestamp, whose hashes hold, hold the records that were written
-pub slots-written : (p : Plan) (t : ℕ) (i : List ℕ) → length i ≡ p .m * p .f → (d nodes : List ℕ) → length d ≡ p .n * recordLength p → All (Bears p t i d) nodes
+slots-written : (p : Plan) (t : ℕ) (i : List ℕ) → length i ≡ p .m * p .f → (d nodes : List ℕ) → length d ≡ p .n * recordLength p → All (Bears p t i d) nodes
     → All (λ (z : ℕ). slotOf p d z ≡ slotOf p (recordsFor p t i) z) nodes
 slots-written p t i whole d nodes long held =
     all-map (λ z b. record-written p t i whole z (b .low) (slotOf p d z)
@@ -94,9 +101,6 @@ slots-written p t i whole d nodes long held =
 
 -- ---- the set of a closed round whose slots are of the kind P
 module _ (P : ℕ → List ℕ → Type 0) (p : Plan) (u : Session) (e : List ℕ) (a : ℕ) (c : Closing P p u e a) where
-  abbrev r : ℕ
-  r = recordLength p
-
   leading : Led p u e a
   leading = led p u e a (c .leads)
 
@@ -147,13 +151,13 @@ module _ (P : ℕ → List ℕ → Type 0) (p : Plan) (u : Session) (e : List �
 
 -- ---- a read that ends done with the timestamp of a write
 module _ (p : Plan) (t : ℕ) (i : List ℕ) (bytes : Octets i) (whole : length i ≡ p .m * p .f) where
-  -- a record whose hashes hold and do not clash with those of what was written
+  -- a record whose hashes hold and, under the write's timestamp, do not clash with those of what was written
   record Fair (k : ℕ) (rec : List ℕ) : Type 0 where
     hashes : hashesOk p k rec ≡ true
     octets : Octets rec
-    unlike : Unlike p i k rec
+    unlike : stampOf rec ≡ stampMade t (crossFor p i) → Unlike p i k rec
 
-  all-fair : (s : Session) (d : List ℕ) (cs : List Turn) → Calls (ReadTurn p) s d cs → NoClash p i cs → EachTurn (λ (c : Turn). Brings Fair p (c .reply)) cs
+  all-fair : (s : Session) (d : List ℕ) (cs : List Turn) → Calls (ReadTurn p) s d cs → NoClash p t i cs → EachTurn (λ (c : Turn). Brings Fair p (c .reply)) cs
   all-fair s d [] h n = tt
   all-fair s d (c ∷ cs) h n = (
     λ b q. record { hashes = q .hashes; octets = octets-drop (headBytes (versionOf (c .reply))) (c .reply) (h .0 .0); unlike = n .0 b },
@@ -176,12 +180,12 @@ module _ (p : Plan) (t : ℕ) (i : List ℕ) (bytes : Octets i) (whole : length 
       let slots : All (λ (z : ℕ). (z < p .n) × Fair z (slotOf p d z)) qs =
       all-map2 (λ z h k. (h, k)) qs (l .below) (lowest-slots Fair p (w .session) d (w .node) c) in
       let held : All (Bears p t i d) qs =
-      all-map2 (λ z h k. record { low = h .0; stamped = k; hashed = h .1 .hashes; unlike = h .1 .unlike }) qs slots stamps in
+      all-map2 (λ z h k. record { low = h .0; stamped = k; hashed = h .1 .hashes; unlike = h .1 .unlike k }) qs slots stamps in
       w .is
       ∙ slots-come-back p t i (c .plan) bytes whole (w .lent) (w .room) d qs (l .distinct) (l .below) (l .few) (slots-written p t i whole d qs (c .long) held)
 
   -- A READ THAT ENDS DONE WITH THE TIMESTAMP OF A WRITE LEAVES THE ITEM THAT WAS WRITTEN, whether its set was complete or was repaired
-  pub done-comes-back : (out : List ℕ) (r : ReadDone p (stampFor p t i) out) → NoClash p i (r .first ∷ r .rest) → out ≡ i
+  pub done-comes-back : (out : List ℕ) (r : ReadDone p (stampFor p t i) out) → NoClash p t i (r .first ∷ r .rest) → out ≡ i
   done-comes-back out r n =
       sym (r .left)
       ∙ found-written (lastItem (r .first) (r .rest))

@@ -145,10 +145,10 @@ pub written-comes-back : (p : Plan) (time : ℕ) (item : List ℕ) → planOk p 
 written-comes-back = block-comes-back
 
 -- A read, over any replies from an accepted opening on, that ends done with the timestamp of a write of an item leaves that item: whichever nodes it
--- heard, in whichever round, its set complete or repaired, under either client model. Where no record that a reply bore clashes with those that were
--- written: its cross checksum is the item's, or has another hash; its fragment is the one for its node, or has another hash.
+-- heard, in whichever round, its set complete or repaired, under either client model. Where no record that a reply bore under that timestamp
+-- clashes with those that were written: its cross checksum is the item's, or has another hash; its fragment is the one for its node, or has another.
 pub written-read-back : (p : Plan) (time : ℕ) (item : List ℕ) → Octets item → length item ≡ p .m * p .f → (out : List ℕ) (r : ReadDone p (stampFor p time item) out)
-    → NoClash p item (r .first ∷ r .rest) → out ≡ item
+    → NoClash p time item (r .first ∷ r .rest) → out ≡ item
 written-read-back = done-comes-back
 
 -- The report's Lemma 1: "If c_1 performs a read operation that returns <ts_1, v_1>, c_2 performs a read operation that returns <ts_2, v_2>, and
@@ -165,5 +165,5 @@ one-timestamp-one-item = done-one-item
 
 -- Under crash clients a read does not validate; for what our writer wrote the same holds, under either client model.
 pub one-write-one-item : (p : Plan) (time : ℕ) (item : List ℕ) → Octets item → length item ≡ p .m * p .f → (i j : List ℕ)
-    (r : ReadDone p (stampFor p time item) i) (q : ReadDone p (stampFor p time item) j) → NoClash p item (r .first ∷ r .rest) → NoClash p item (q .first ∷ q .rest) → i ≡ j
+    (r : ReadDone p (stampFor p time item) i) (q : ReadDone p (stampFor p time item) j) → NoClash p time item (r .first ∷ r .rest) → NoClash p time item (q .first ∷ q .rest) → i ≡ j
 one-write-one-item = written-one-item

@@ -14,8 +14,6 @@ use mathlib.Core.List.{List, [], _∷_}
 use native.Mathlib.Omega.{arith}
 use lib.ListN.{getD}
 use Rattle.octets.specs.Bytes.{part, num, numFrom, be, beOnto}
-use Rattle.sha256.specs.Sha256 as sha
-use Rattle.sha256.specs.Sha256.{sha256, compressOf, addedOf, roundsOf, roundOf, T1, T2, scheduleOf, words, padding, bigEndian, K}
 use Rattle.terms.specs.Stamp.{stampAt}
 use Rattle.terms.specs.Terms.{recordLength}
 use Rattle.terms.specs.declared.Timestamp.{Timestamp}
@@ -24,8 +22,9 @@ use Rattle.terms.proofs.Small.{small-octets}
 use Rattle.field.specs.Field.{xtime, mulN, mul}
 use Rattle.fragments.specs.Fragments.{from, fragment, tabulate, ratio, weightOf, blend, value}
 use Rattle.frame.specs.Frame.{bodyOf, frameNode}
-use Rattle.record.specs.Record.{crossOf, fragmentOf}
-use Rattle.recover.specs.Records.{stampFor}
+use Rattle.record.specs.Record.{stampOf, crossOf, fragmentOf}
+use Rattle.record.specs.Desk.{stampMade}
+use Rattle.recover.specs.Records.{crossFor, stampFor}
 use Rattle.session.specs.Session.{done}
 use Rattle.session.specs.Reply.{bears}
 use Rattle.client.specs.Held.{EverySlot, Held, ReadDone}
@@ -124,27 +123,6 @@ module _ where
   unfolding plan
   unlike-2 = record { cross = λ e. good-cross ∙ sym cross-so; fragments = λ e. good-2 }
 
-  -- the record of time 2: the hash of its cross checksum is another
-  poor-cross : getD (sha256 (crossOf plan poor)) 0 0 ≡ 123
-  unfolding plan poor hash part sha256 sha.after compressOf addedOf roundsOf roundOf T1 T2 scheduleOf words padding bigEndian K
-  poor-cross = refl
-
-  right-cross : getD (sha256 cross) 0 0 ≡ 252
-  unfolding hash sha256 sha.after compressOf addedOf roundsOf roundOf T1 T2 scheduleOf words padding bigEndian K
-  right-cross = refl
-
-  poor-0 : fragmentOf plan poor ≡ fragment 1 1 (7 ∷ []) 0
-  unfolding plan poor hash part fragment
-  poor-0 = refl
-
-  unlike-poor : Unlike plan (7 ∷ []) 0 poor
-  unfolding plan
-  unlike-poor =
-      record {
-        cross = λ e. absurd (let z : 123 ≡ 252 = sym poor-cross ∙ ap (λ (l : List ℕ). getD l 0 0) (e ∙ ap sha256 cross-so) ∙ right-cross in omega (arith, z));
-        fragments = λ e. poor-0;
-      }
-
 -- the frames: their nodes, and what they bear
 module _ where
   body-first-reply : bodyOf first-reply ≡ good
@@ -162,14 +140,6 @@ module _ where
   node-second-reply : frameNode second-reply ≡ 2
   unfolding second-reply good stamp-bytes hash be beOnto num numFrom part
   node-second-reply = refl
-
-  body-reply-1 : bodyOf reply-1 ≡ poor
-  unfolding reply-1 poor stamp-bytes hash be beOnto num numFrom part
-  body-reply-1 = refl
-
-  node-reply-1 : frameNode reply-1 ≡ 0
-  unfolding reply-1 poor stamp-bytes hash be beOnto num numFrom part
-  node-reply-1 = refl
 
   body-reply-3 : bodyOf reply-3 ≡ good
   unfolding reply-3 good stamp-bytes hash be beOnto num numFrom part
@@ -195,18 +165,32 @@ module _ where
   unfolding reply-6 plan bears recordLength stamp-bytes be beOnto num numFrom part
   bare-reply-6 = refl
 
-  given : (f rec : List ℕ) (z : ℕ) → frameNode f ≡ z → bodyOf f ≡ rec → Unlike plan (7 ∷ []) z rec → bears plan f ≡ true → Unlike plan (7 ∷ []) (frameNode f) (bodyOf f)
-  given f rec z n b u h = subst (λ (k : ℕ). Unlike plan (7 ∷ []) k (bodyOf f)) (sym n) (subst (Unlike plan (7 ∷ []) z) (sym b) u)
+  -- the record of time 2 is of another write
+  other-time : getD (stampOf (bodyOf reply-1)) 7 0 ≡ 2
+  unfolding reply-1 poor hash be beOnto num numFrom part
+  other-time = refl
 
-  bare : (f : List ℕ) → bears plan f ≡ false → bears plan f ≡ true → Unlike plan (7 ∷ []) (frameNode f) (bodyOf f)
-  bare f e h = absurd (clash (sym h ∙ e))
+  this-time : getD stamp-bytes 7 0 ≡ 1
+  unfolding stamp-bytes
+  this-time = refl
 
-pub complete-unlike : NoClash plan (7 ∷ []) (first-call ∷ call ∷ [])
+  other : bears plan reply-1 ≡ true → stampOf (bodyOf reply-1) ≡ stampMade 1 (crossFor plan (7 ∷ [])) → Unlike plan (7 ∷ []) (frameNode reply-1) (bodyOf reply-1)
+  other h s =
+      absurd (let z : 2 ≡ 1 = sym other-time ∙ ap (λ (l : List ℕ). getD l 7 0) (s ∙ ap (stampMade 1) cross-so ∙ read.stamp-so) ∙ this-time in omega (arith, z))
+
+  given : (f rec : List ℕ) (z : ℕ) → frameNode f ≡ z → bodyOf f ≡ rec → Unlike plan (7 ∷ []) z rec → bears plan f ≡ true
+      → stampOf (bodyOf f) ≡ stampMade 1 (crossFor plan (7 ∷ [])) → Unlike plan (7 ∷ []) (frameNode f) (bodyOf f)
+  given f rec z n b u h s = subst (λ (k : ℕ). Unlike plan (7 ∷ []) k (bodyOf f)) (sym n) (subst (Unlike plan (7 ∷ []) z) (sym b) u)
+
+  bare : (f : List ℕ) → bears plan f ≡ false → bears plan f ≡ true → stampOf (bodyOf f) ≡ stampMade 1 (crossFor plan (7 ∷ [])) → Unlike plan (7 ∷ []) (frameNode f) (bodyOf f)
+  bare f e h s = absurd (clash (sym h ∙ e))
+
+pub complete-unlike : NoClash plan 1 (7 ∷ []) (first-call ∷ call ∷ [])
 complete-unlike = (given first-reply good 1 node-first-reply body-first-reply unlike-1, (given second-reply good 2 node-second-reply body-second-reply unlike-2, tt))
 
-pub repaired-unlike : NoClash plan (7 ∷ []) (call-1 ∷ call-2 ∷ call-3 ∷ call-4 ∷ call-5 ∷ call-6 ∷ [])
+pub repaired-unlike : NoClash plan 1 (7 ∷ []) (call-1 ∷ call-2 ∷ call-3 ∷ call-4 ∷ call-5 ∷ call-6 ∷ [])
 repaired-unlike = (
-  given reply-1 poor 0 node-reply-1 body-reply-1 unlike-poor,
+  other,
   (
     bare reply-2 bare-reply-2,
     (

@@ -1,8 +1,9 @@
 -- What the slots of a read round hold, over the calls of a read: each slot that is marked record holds a record that passed the two hash checks at its
 -- node, and that a reply of that node bore; whatever else came.
---   Closing            a read round that closed on a set that is decoded or repaired, with what holds of its slots
---   Found              the item of a read that ended done is decoded from such a set, whether it was complete or repaired
---   Brings run-finds   so after any calls, of whatever the records that the replies bring have in common
+--   Closing            a read round that closed on a set of m nodes or more, with what holds of its slots
+--   Found              the item of a read that ended done is decoded from such a set that validates, whether it was complete or repaired
+--   lead-of            a candidate leads the close
+--   run-finds run-slots   so after any calls, of whatever the records that the replies bring have in common
 --   every-slot         the slots of the round that is open, after any calls
 -- Assumes nothing.
 use Prim.{Unit, tt}
@@ -52,39 +53,40 @@ use Rattle.client.proofs.Reading as reading
 use Rattle.client.proofs.Reading.{Taken, taken}
 use Rattle.client.proofs.Repair.{repaired-item}
 use Rattle.client.proofs.Round.Order.{length-after}
-use Rattle.client.proofs.Slots.{none-marked, first-heard, record-heard, accepted-passed}
+use Rattle.client.proofs.Slots.{none-marked, Brings, reply-heard}
 
 -- a candidate leads the close
-lead-of : (p : Plan) (s : Session) (f d : List ℕ) (a : ℕ) → Candidate p s f d a → closed p (afterReply p s f) (deskAfter p f d) .lead ≡ Node a
+pub lead-of : (p : Plan) (s : Session) (f d : List ℕ) (a : ℕ) → Candidate p s f d a → closed p (afterReply p s f) (deskAfter p f d) .lead ≡ Node a
 unfolding closeWith
 lead-of p s f d a h = ap (λ (x : Lead). closeWith (afterReply p s f .marks) (deskAfter p f d) (slotsOf p) (p .member) (thresholdsOf p) x .lead) h
 
--- ---- a read round that closed on a set that is decoded or repaired: the session and the desk with its last reply, and the node that leads the set
+-- ---- a read round that closed on a set of m nodes or more: the session and the desk with its last reply, and the node that leads the set
 pub record Closing (P : ℕ → List ℕ → Type 0) (p : Plan) (u : Session) (e : List ℕ) (a : ℕ) : Type 0 where
   pub plan : planOk p ≡ true
   pub long : length e ≡ p .n * recordLength p
   pub leads : closed p u e .lead ≡ Node a
   pub size : p .m ≤ length (closed p u e .nodes)
-  pub valid : sound p (closed p u e) a e ≡ true
   pub slots : EverySlot P p (u .marks) e
 
--- an item that was decoded from such a set, of this timestamp, into a buffer of m·F bytes
+-- an item that was decoded from such a set that validates, of this timestamp, into a buffer of m·F bytes
 pub record Found (P : ℕ → List ℕ → Type 0) (p : Plan) (stamp : Timestamp) (item : List ℕ) : Type 0 where
   pub session : Session
   pub desk : List ℕ
   pub node : ℕ
   pub closing : Closing P p session desk node
+  pub validates : sound p (closed p session desk) node desk ≡ true
   pub stamped : stamp ≡ closed p session desk .stamp
   pub lent : List ℕ
   pub room : length lent ≡ p .m * p .f
   pub is : item ≡ decoded p (closed p session desk) desk lent
 
--- the desk was filled for repair from such a set, and its timestamp is the one being written
+-- the desk was filled for repair from such a set that validates, and its timestamp is the one being written
 pub record Mended (P : ℕ → List ℕ → Type 0) (p : Plan) (s : Session) (d : List ℕ) : Type 0 where
   pub session : Session
   pub desk : List ℕ
   pub node : ℕ
   pub closing : Closing P p session desk node
+  pub validates : sound p (closed p session desk) node desk ≡ true
   pub stamped : s .stamp ≡ closed p session desk .stamp
   pub filled : d ≡ repaired p (closed p session desk) node desk
 
@@ -97,16 +99,12 @@ KeepsAt Ended P p s d = Unit {0}
 abbrev Keeps : (ℕ → List ℕ → Type 0) → Plan → Session → List ℕ → Type 0
 Keeps P p s d = KeepsAt (s .round .stage) P p s d
 
--- a reply whose record, where it bears one that passes, is of the kind P
-abbrev pub Brings : (ℕ → List ℕ → Type 0) → Plan → List ℕ → Type 0
-Brings P p f = bears p f ≡ true → Passed p (frameNode f) (bodyOf f) → P (frameNode f) (bodyOf f)
-
 at-asking : (x : Stage) → isStoring x ≡ false → isEnded x ≡ false → x ≡ Asking
 at-asking Asking e g = refl
 at-asking Storing e g = absurd (clash e)
 at-asking Ended e g = absurd (clash g)
 
-at-storing : (x : Stage) → isStoring x ≡ true → x ≡ Storing
+pub at-storing : (x : Stage) → isStoring x ≡ true → x ≡ Storing
 at-storing Asking e = absurd (clash (sym e))
 at-storing Storing e = refl
 at-storing Ended e = absurd (clash (sym e))
@@ -150,17 +148,10 @@ module _ (P : ℕ → List ℕ → Type 0) (p : Plan) (s : Session) (f d i : Lis
       before = subst (λ (x : Stage). KeepsAt x P p s d) stage k
 
       every : EverySlot P p (u .marks) e
-      every = go (bears p f) refl
-        where
-          go : (b : Bool) → bears p f ≡ b
-              → EverySlot P p (set (s .marks) (frameNode f) (record { is = cond b Record First })) (cond b (put d (frameNode f * recordLength p) (bodyOf f)) d)
-          go true b =
-              record-heard P p (s .marks) d before (frameNode f) (bodyOf f) (t .node) (t .desk) (long-body p f b)
-              (brings b (accepted-passed p s f d (length i) n b))
-          go false b = first-heard P p (s .marks) d before (frameNode f)
+      every = reply-heard P p s f d (length i) n before brings
 
-      closing : (a : ℕ) → Candidate p s f d a → p .m ≤ length (closed p u e .nodes) → valid p s f d a ≡ true → Closing P p u e a
-      closing a h m v = record { plan = t .plan; long = long; leads = lead-of p s f d a h; size = m; valid = v; slots = every }
+      closing : (a : ℕ) → Candidate p s f d a → p .m ≤ length (closed p u e .nodes) → Closing P p u e a
+      closing a h m = record { plan = t .plan; long = long; leads = lead-of p s f d a h; size = m; slots = every }
 
     waits : Waits p s f d (length i) → (x : Bool) → isStoring (s .round .stage) ≡ x → Leaves (readReply p s f d i)
     waits w true q =
@@ -171,7 +162,7 @@ module _ (P : ℕ → List ℕ → Type 0) (p : Plan) (s : Session) (f d i : Lis
         still =
             let m : Mended P p s d = subst (λ (x : Stage). KeepsAt x P p s d) (at-storing (s .round .stage) q) k in
             subst (λ (x : Stage). KeepsAt x P p (markedOf s (frameNode f) Record) d) (sym (at-storing (s .round .stage) q))
-            (record { session = m .session; desk = m .desk; node = m .node; closing = m .closing; stamped = m .stamped; filled = m .filled })
+            (record { session = m .session; desk = m .desk; node = m .node; closing = m .closing; validates = m .validates; stamped = m .stamped; filled = m .filled })
     waits w false q =
         subst Leaves (sym (reading.waits-read p s f d i n q (rw q at (w .few))))
         (other stillOpen refl u e
@@ -190,7 +181,8 @@ module _ (P : ℕ → List ℕ → Type 0) (p : Plan) (s : Session) (f d i : Lis
         session = u;
         desk = e;
         node = a;
-        closing = closing n q a (w .candidate) (sized p u e a g (t n .plan) (g .verdict-is ∙ v)) (w .validated);
+        closing = closing n q a (w .candidate) (sized p u e a g (t n .plan) (g .verdict-is ∙ v));
+        validates = w .validated;
         stamped = refl;
         filled = refl;
       }))
@@ -210,7 +202,8 @@ module _ (P : ℕ → List ℕ → Type 0) (p : Plan) (s : Session) (f d i : Lis
               session = u;
               desk = e;
               node = a;
-              closing = closing n q a (w .candidate) (sized-whole p u e a g (t n .plan) (g .verdict-is ∙ v)) (w .validated);
+              closing = closing n q a (w .candidate) (sized-whole p u e a g (t n .plan) (g .verdict-is ∙ v));
+              validates = w .validated;
               stamped = cc;
               lent = i;
               room = item-is n;
@@ -233,6 +226,7 @@ module _ (P : ℕ → List ℕ → Type 0) (p : Plan) (s : Session) (f d i : Lis
               desk = h .desk;
               node = h .node;
               closing = c;
+              validates = h .validates;
               stamped = one ∙ h .stamped;
               lent = i;
               room = item-is n;

@@ -5,6 +5,7 @@
 --   complete-read repaired-read   both reads; complete-unlike repaired-unlike: what their replies bore does not clash with what was written
 --   complete-so repaired-so   both leave the item that was written
 --   stamp-so one-so written-so   the timestamp is that of the item; so both leave one item
+--   round-two valid-so   round 2 of the second read comes to a set of node 0; it validates, as that of nodes 1 and 2 does
 -- Assumes nothing.
 use Prim.{tt}
 use Prim.Native.Nat.{ℕ}
@@ -13,27 +14,34 @@ use mathlib.Core.Bool.{true, false}
 use mathlib.Core.List.{List, [], _∷_}
 use native.Mathlib.Omega.{arith}
 use lib.ListN.{getD}
-use Rattle.octets.specs.Bytes.{part, num, numFrom, be, beOnto}
-use Rattle.terms.specs.Stamp.{stampAt}
-use Rattle.terms.specs.Terms.{recordLength}
+use Rattle.octets.specs.Bytes.{part, num, numFrom, be, beOnto, alike}
+use Rattle.terms.specs.Ladder.{all, None}
+use Rattle.terms.specs.Stamp.{then, stampAt, stampNumber}
+use Rattle.terms.specs.Terms.{planOk, countsOk, limitsOk, columnOf, recordLength, slotsOf}
 use Rattle.terms.specs.declared.Timestamp.{Timestamp}
 use Rattle.terms.proofs.Rungs.{clash}
 use Rattle.terms.proofs.Small.{small-octets}
 use Rattle.field.specs.Field.{xtime, mulN, mul}
 use Rattle.fragments.specs.Fragments.{from, fragment, tabulate, ratio, weightOf, blend, value}
-use Rattle.frame.specs.Frame.{bodyOf, frameNode}
+use Rattle.frame.specs.Frame.{bodyOf, frameNode, shaped, bodyFits, oneOf, forParty, goodFrame, goodReply, suits}
 use Rattle.record.specs.Record.{stampOf, crossOf, fragmentOf}
 use Rattle.record.specs.Desk.{stampMade}
+use Rattle.record.proofs.Desks.{time-made}
+use Rattle.rounds.specs.declared.Lead.the-variants.{Node}
+use Rattle.rounds.specs.Rounds.{heardCount, every, slotStamp, aheadOf, stepOf, leadOf, joinsOf, setOf, underOf, slotFits, slotsFit}
 use Rattle.recover.specs.Records.{crossFor, stampFor}
-use Rattle.session.specs.Session.{done}
-use Rattle.session.specs.Reply.{bears}
-use Rattle.client.specs.Held.{EverySlot, Held, ReadDone}
+use Rattle.session.specs.Session.{askNow, awaitsKind, done}
+use Rattle.session.specs.Ranges.{standingRules, openRules, inRange}
+use Rattle.session.specs.Reply.{lengthsOk, awaited, isHeard, bears, readLadder}
+use Rattle.client.specs.Endings.{afterReply, deskAfter, size}
+use Rattle.client.specs.Held.{EverySlot, Held, ReadDone, SetCloses, setValid}
 use Rattle.client.specs.SameStamp.{Unlike, NoClash, ItemsUnlike}
 use Rattle.client.proofs.Held.{every-slot}
 use Rattle.client.proofs.SameStamp.{done-comes-back}
 use Rattle.client.proofs.OneItem.{done-of-item, done-one-item, written-one-item}
+use Rattle.client.proofs.Validation.{valid-for-all}
 use Rattle.client.proofs.Instances.Read as read
-use Rattle.client.proofs.Instances.Read.{plan, ask, opened, opened-so, desk, hash, stamp-bytes, good, poor, desk-good, cross, cross-so, stamped-so, seven-small, second-heard, reply-1, reply-2, reply-3, reply-4, reply-5, reply-6, call-1, call-2, call-3, call-4, call-5, call-6}
+use Rattle.client.proofs.Instances.Read.{plan, ask, opened, opened-so, desk, hash, stamp-bytes, good, poor, desk-good, desk-poor, cross, cross-so, stamped-so, seven-small, second-heard, reply-1, reply-2, reply-3, reply-4, reply-5, reply-6, call-1, call-2, call-3, call-4, call-5, call-6}
 use Rattle.client.proofs.Instances.Stamp as stamp
 use Rattle.client.proofs.Instances.Stamp.{first-reply, second-reply, desk-one, first-call, call}
 
@@ -226,3 +234,58 @@ unfolding plan
 written-so =
     written-one-item plan 1 (7 ∷ []) (small-octets (7 ∷ []) seven-small) refl (call .itemLeft) (call-6 .itemLeft) complete-read repaired-read complete-unlike
     repaired-unlike
+
+-- ---- and so the set of the other read's round 2 validates
+module _ where
+  pub none-so : None (readLadder plan second-heard reply-4 desk-good 1)
+  unfolding reply-4 hash stamp-bytes good desk-good desk-poor poor plan planOk countsOk limitsOk columnOf all recordLength lengthsOk inRange standingRules openRules heardCount every
+      slotsFit slotFits slotStamp underOf num numFrom part goodReply goodFrame suits shaped forParty oneOf bodyFits awaited askNow awaitsKind isHeard bears be beOnto
+      stampAt stampNumber then
+  none-so = (refl, (refl, (refl, (refl, (refl, (refl, (refl, (refl, (refl, (refl, tt))))))))))
+
+  pub count-so : heardCount (afterReply plan second-heard reply-4 .marks) ≡ 2
+  unfolding reply-4 plan bears recordLength heardCount be beOnto num numFrom part
+  count-so = refl
+
+  pub lead-so : leadOf (afterReply plan second-heard reply-4 .marks) (deskAfter plan reply-4 desk-good) (slotsOf plan) 3 ≡ Node 0
+  unfolding reply-4 plan bears recordLength be beOnto num numFrom part leadOf stepOf aheadOf
+  lead-so = refl
+
+  pub size-so : size plan second-heard reply-4 desk-good 0 ≡ 1
+  unfolding reply-4 hash stamp-bytes good desk-good plan bears recordLength be beOnto num numFrom part setOf joinsOf alike
+  size-so = refl
+
+  pub after-so : deskAfter plan reply-4 desk-good ≡ desk-good
+  unfolding reply-4 plan bears recordLength be beOnto num numFrom part
+  after-so = refl
+
+abbrev pub round-two : SetCloses plan written
+unfolding plan recordLength
+round-two =
+    record {
+      ask = ask;
+      opened = opened;
+      opens = opened-so;
+      accepted = refl;
+      desk = desk;
+      before = call-1 ∷ call-2 ∷ call-3 ∷ [];
+      calls = (read.calls .0, (read.calls .1 .0, (read.calls .1 .1 .0, tt)));
+      last = call-4;
+      call = read.calls .1 .1 .1 .0;
+      closes = record { accepted = none-so; asks = refl; enough = omega (arith, count-so) };
+      node = 0;
+      candidate = lead-so;
+      enough = omega (arith, size-so);
+      of = sym stamp-is ∙ ap (λ (d : List ℕ). stampAt d 0) (sym after-so);
+    }
+
+time-so : written .time .0 ≡ 1
+unfolding stampFor stampAt
+time-so = time-made 1 (crossFor plan (7 ∷ [])) (omega arith)
+
+pub valid-so : setValid plan written round-two ≡ true
+unfolding plan recordLength
+valid-so =
+    valid-for-all plan refl written (7 ∷ []) complete-read round-two
+    (subst (λ (t : ℕ). NoClash plan t (7 ∷ []) (call-4 ∷ call-1 ∷ call-2 ∷ call-3 ∷ [])) (sym time-so)
+    (bare reply-4 bare-reply-4, (other, (bare reply-2 bare-reply-2, (given reply-3 good 0 node-reply-3 body-reply-3 unlike-0, tt)))))

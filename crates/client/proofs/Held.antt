@@ -9,12 +9,11 @@
 use Prim.{Unit, tt}
 use Prim.Native.Nat.{ℕ, _*_, _≤_}
 use mathlib.Core.Path.{_≡_, refl, sym, ap, _∙_, subst}
-use mathlib.Core.Bool.{Bool, true, false, cond}
+use mathlib.Core.Bool.{Bool, true, false}
 use mathlib.Core.List.{List, [], _∷_}
 use mathlib.Core.Logic.{inl, inr}
 use borrow.Author.Tests.{not-false}
-use lib.ListN.{length, set}
-use Rattle.octets.specs.Bytes.{put}
+use lib.ListN.{length}
 use Rattle.terms.specs.Ladder.{Rung, None}
 use Rattle.terms.specs.Terms.{planOk, recordLength, COMPLETE, INCOMPLETE, slotsOf, thresholdsOf}
 use Rattle.terms.specs.declared.Ask.{Ask}
@@ -23,8 +22,8 @@ use Rattle.terms.specs.declared.Timestamp.{Timestamp}
 use Rattle.terms.proofs.Down.{clear}
 use Rattle.terms.proofs.Ladders.{is-given}
 use Rattle.terms.proofs.Rungs.{clash}
-use Rattle.frame.specs.Frame.{frameNode, bodyOf}
-use Rattle.rounds.specs.declared.Heard.the-variants.{First, Record}
+use Rattle.frame.specs.Frame.{frameNode}
+use Rattle.rounds.specs.declared.Heard.the-variants.{Record}
 use Rattle.rounds.specs.declared.Lead.{Lead}
 use Rattle.rounds.specs.declared.Lead.the-variants.{Node}
 use Rattle.rounds.specs.Rounds.{closeWith}
@@ -37,17 +36,16 @@ use Rattle.session.specs.declared.opening.Opened.{Opened}
 use Rattle.session.specs.declared.opening.Opening.the-variants.{Accepted}
 use Rattle.session.specs.Opening.{OpenCall}
 use Rattle.session.specs.Session.{isAsking, isStoring, isEnded, markedOf, endedOf, nextOf, storingOf, Said, refused, stillOpen, done, neverWritten, aborted, roundsSpent, clockSpent, saidOf}
-use Rattle.session.specs.Reply.{bears, lengthsOk}
+use Rattle.session.specs.Reply.{lengthsOk}
 use Rattle.session.specs.Reader.{Outcome, outcome, closed, readReply}
 use Rattle.session.proofs.Closings.{led, sized, sized-whole}
 use Rattle.session.proofs.Openings.{accepted-session}
 use Rattle.session.proofs.Rules.{lengths-are}
-use Rattle.session.proofs.Slots.{long-body}
-use Rattle.client.specs.Endings.{readLadder, afterReply, deskAfter, Candidate, size, valid, DoneByRead, DoneByRepair, Waits, RepairOpens, ReadGives}
+use Rattle.client.specs.Endings.{readLadder, afterReply, deskAfter, Candidate, size, DoneByRead, DoneByRepair, Waits, RepairOpens, ReadGives}
 use Rattle.client.specs.Turns.{Turn, ReadTurn, Calls, lastSaid}
 use Rattle.client.specs.Sessions.{lastSession, lastDesk, lastItem}
 use Rattle.client.specs.Repair.{EachTurn}
-use Rattle.client.specs.Held.{EverySlot, Passed, Held}
+use Rattle.client.specs.Held.{EverySlot, Held}
 use Rattle.client.proofs.Endings.{isDone}
 use Rattle.client.proofs.Reading as reading
 use Rattle.client.proofs.Reading.{Taken, taken}

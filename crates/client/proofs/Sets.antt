@@ -1,4 +1,5 @@
--- The set that a read round closed on, whose slots are of a kind P: its m lowest are so, and of one timestamp, which is that of the close. Assumes nothing.
+-- The set that a read round closed on, whose slots are of a kind P: its m lowest are so, and of one timestamp, which is that of the close.
+-- Assumes nothing.
 --   lowest-so lowest-slots lowest-stamps   the m lowest: how they lie, what their slots are, their timestamps
 --   lead-slot lead-long lead-stamp lead-number   the slot of the lead
 use Prim.Native.Nat.{ℕ, _+_, _*_, _≤_}

@@ -3,14 +3,13 @@
 --   written-validates  a set of the timestamp of an item's write validates
 --   valid-for-all      where a read ended done with a timestamp, under Byzantine clients, every set of that timestamp validates, in whichever read
 -- Assumes nothing.
-use Prim.Native.Nat.{ℕ, _*_, _≤_, _<_}
+use Prim.Native.Nat.{ℕ, _*_, _<_}
 use mathlib.Core.Path.{_≡_, refl, sym, ap, _∙_}
 use mathlib.Core.Bool.{true}
-use mathlib.Core.List.{List, [], _∷_}
+use mathlib.Core.List.{List, _∷_}
 use native.Mathlib.Omega.{arith}
 use lib.ListN.{length}
-use Rattle.octets.specs.Bytes.{part, Octets}
-use Rattle.octets.proofs.Laws.{length-be, part-middle}
+use Rattle.octets.specs.Bytes.{Octets}
 use Rattle.octets.proofs.Meaning.{is-alike, octets-drop}
 use Rattle.terms.specs.Ladder.{None}
 use Rattle.terms.specs.Terms.{recordLength, slotsOf}
@@ -27,7 +26,7 @@ use Rattle.fragments.proofs.Laws.{all-among}
 use Rattle.fragments.proofs.Theorems.{any-fragment}
 use Rattle.frame.specs.Frame.{headBytes, versionOf}
 use Rattle.record.specs.Record.{crossOf, fragmentOf}
-use Rattle.record.specs.Desk.{slotOf, stampMade}
+use Rattle.record.specs.Desk.{slotOf}
 use Rattle.record.proofs.Desks.{cross-same, fragment-in}
 use Rattle.record.proofs.Records.{cross-at}
 use Rattle.recover.specs.Recover.{validates, lowest, trusted, sound}
@@ -37,7 +36,6 @@ use Rattle.session.specs.Reader.{closed}
 use Rattle.session.proofs.Closings.{Led, led}
 use Rattle.session.proofs.ReadKept.{asking}
 use Rattle.client.specs.Endings.{readLadder, afterReply, deskAfter}
-use Rattle.client.specs.Turns.{Turn}
 use Rattle.client.specs.Sessions.{lastSession, lastDesk}
 use Rattle.client.specs.Held.{ReadDone, SetCloses, setValid}
 use Rattle.client.specs.SameStamp.{NoClash}

@@ -1,5 +1,5 @@
--- What the slots of a read round hold, over the calls of a read; a whole read that ends done, and one that comes to a set. Document 01, "The client", reading: a record that
--- is accepted goes into its node's slot; "Refusal numbers": 5, time 0; 6, a hash check fails.
+-- What the slots of a read round hold, over the calls of a read; a whole read that ends done, and one that comes to a set. Document 01, "The client",
+-- reading: a record that is accepted goes into its node's slot; "Refusal numbers": 5, time 0; 6, a hash check fails.
 --   EverySlot          every slot that is marked record holds such a record
 --   Passed             a record that 5 and 6 do not refuse, for a node
 --   SomeTurn Gave      what holds of one of some calls; the reply of a call is node k's and bears the record

@@ -3,4 +3,5 @@ pub mod Read
 pub mod Write
 pub mod Repair
 pub mod Stamp
+pub mod Done
 pub mod Round

@@ -8,6 +8,12 @@ pub mod Repair
 pub mod RepairRound
 pub mod Sessions
 pub mod ComesBack
+pub mod Bytes
+pub mod Slots
+pub mod Held
+pub mod Sets
 pub mod SameStamp
+pub mod OneItem
+pub mod Validation
 pub mod Asks
 pub mod Instances

@@ -1,42 +1,48 @@
 -- A record that bears the timestamp of a write, and whose hashes hold, is the record that was written, where its cross checksum and its
 -- fragment share no hash with another string that was written: so a read that is done with that timestamp leaves that item. Document 01,
 -- "Fragments": a timestamp is a time, then the hash of the cross checksum; the cross checksum is the hashes of the fragments.
---   Unlike             no clash of SHA-256 between a record and what was written for its node
 --   record-written     the record is the one that was written
---   stamp-comes-back   a call of a read round that says done with the write's timestamp leaves the item that was written
+--   Fair set-written   records that pass and do not clash; a set of them of the write's timestamp is of the records that were written
+--   done-comes-back    a read, from its opening, that ends done with the write's timestamp leaves the item that was written
 -- Assumes nothing.
+use Prim.{tt}
 use Prim.Native.Nat.{ℕ, _+_, _*_, _<_}
 use mathlib.Core.Path.{_≡_, sym, ap, _∙_}
-use mathlib.Core.Bool.{true, false}
-use mathlib.Core.List.{List, [], _++_, append-nil}
+use mathlib.Core.Bool.{true}
+use mathlib.Core.List.{List, [], _∷_, _++_, append-nil}
 use native.Mathlib.Omega.{arith}
 use lib.ListN.{length}
 use Rattle.octets.specs.Bytes.{part, be, alike, Octets}
 use Rattle.octets.proofs.Laws.{length-part, length-be, part-part, part-all, part-middle, slot-fits}
-use Rattle.octets.proofs.Meaning.{part-add, alike-is}
+use Rattle.octets.proofs.Meaning.{part-add, alike-is, octets-drop}
 use Rattle.sha256.specs.Sha256.{sha256}
 use Rattle.sha256.proofs.Laws.{sha256-length}
-use Rattle.terms.specs.Terms.{planOk, recordLength, slotsOf}
+use Rattle.terms.specs.Stamp.{stampNumber}
+use Rattle.terms.specs.Terms.{recordLength, slotsOf}
 use Rattle.terms.specs.declared.Plan.{Plan}
-use Rattle.terms.specs.declared.Timestamp.{Timestamp}
 use Rattle.terms.proofs.Rungs.{both}
 use Rattle.fragments.specs.Fragments.{All, fragment}
-use Rattle.fragments.proofs.Interp.{all-map}
+use Rattle.fragments.proofs.Interp.{all-map, all-map2}
 use Rattle.record.specs.Record.{stampOf, verifierOf, crossOf, fragmentOf, entryOf, fragmentHash, hashesOk}
 use Rattle.record.specs.Desk.{slotOf, stampMade}
 use Rattle.terms.proofs.Places.{record-length}
+use Rattle.frame.specs.Frame.{headBytes, versionOf}
 use Rattle.record.proofs.Desks.{entry-of}
 use Rattle.session.specs.declared.Session.{Session}
-use Rattle.session.specs.declared.Took.{Took}
-use Rattle.standing.specs.Standing.{isStoring}
-use Rattle.session.specs.Session.{done, saidOf}
-use Rattle.recover.specs.Recover.{lowest}
-use Rattle.session.specs.Reader.{closed, ReadReplyCall}
-use Rattle.recover.specs.Records.{crossFor, recordsFor}
+use Rattle.recover.specs.Recover.{lowest, decoded}
+use Rattle.session.specs.Reader.{closed}
+use Rattle.recover.specs.Records.{crossFor, stampFor, recordsFor}
 use Rattle.recover.proofs.Records.{record-is}
-use Rattle.client.specs.Endings.{afterReply, deskAfter}
-use Rattle.client.proofs.ComesBack.{read-comes-back}
-use Rattle.client.specs.SameStamp.{Unlike, Bears}
+use Rattle.client.specs.Turns.{Turn, ReadTurn, Calls}
+use Rattle.client.specs.Repair.{EachTurn}
+use Rattle.client.specs.Sessions.{lastItem}
+use Rattle.client.specs.SameStamp.{Unlike, NoClash}
+use Rattle.client.specs.Held.{ReadDone}
+use Rattle.client.proofs.Bytes.{made-stamp, stamp-for}
+use Rattle.client.proofs.Slots.{Brings}
+use Rattle.client.proofs.Held.{Closing, Found, run-finds}
+use Rattle.client.proofs.Sets.{lowest-so, lowest-slots, lead-slot, lead-long, lead-number, lowest-stamps}
+use Rattle.client.proofs.ComesBack.{slots-come-back}
 
 module _ (p : Plan) (t : ℕ) (i : List ℕ) (whole : length i ≡ p .m * p .f) (z : ℕ) (low : z < p .n) (rec : List ℕ) (long : length rec ≡ recordLength p)
     (stamped : stampOf rec ≡ stampMade t (crossFor p i)) (hashed : hashesOk p z rec ≡ true) (unlike : Unlike p i z rec) where
@@ -73,19 +79,64 @@ module _ (p : Plan) (t : ℕ) (i : List ℕ) (whole : length i ≡ p .m * p .f) 
   record-written =
       parts-are ∙ (λ j. stamped j ++ (cross-is j ++ fragment-is j)) ∙ sym (record-is p t i whole z low)
 
-module _ (p : Plan) (t : ℕ) (i : List ℕ) (ok : planOk p ≡ true) (bytes : Octets i) (whole : length i ≡ p .m * p .f)
-    (out : List ℕ) (room : length out ≡ p .m * p .f) where
-  slots-written : (d nodes : List ℕ) → length d ≡ p .n * recordLength p → All (Bears p t i d) nodes
-      → All (λ (z : ℕ). slotOf p d z ≡ slotOf p (recordsFor p t i) z) nodes
-  slots-written d nodes long held =
-      all-map (λ z b. record-written p t i whole z (b .low) (slotOf p d z)
-      (length-part d (z * recordLength p) (recordLength p) (omega (arith, slot-fits z (p .n) (recordLength p) (b .low)))) (b .stamped) (b .hashed) (b .unlike)) nodes held
+-- what slot z of a desk holds: the record bears the write's timestamp, refusal 6 does not apply to it, no clash
+record Bears (p : Plan) (t : ℕ) (i d : List ℕ) (z : ℕ) : Type 0 where
+  low : z < p .n
+  stamped : stampOf (slotOf p d z) ≡ stampMade t (crossFor p i)
+  hashed : hashesOk p z (slotOf p d z) ≡ true
+  unlike : Unlike p i z (slotOf p d z)
 
-  -- A READ THAT IS DONE WITH THE TIMESTAMP OF A WRITE LEAVES ITS ITEM: the m lowest-numbered of its set, as their slots hold them with this reply,
-  -- bear that timestamp, and their hashes hold
-  pub stamp-comes-back : (s : Session) (f d : List ℕ) (took : Took) (d₂ i₂ : List ℕ) → ReadReplyCall p s f d out took d₂ i₂ → (stamp : Timestamp) (n : ℕ)
-      → saidOf (took .answer) ≡ done stamp n → isStoring (s .round .stage) ≡ false → length (deskAfter p f d) ≡ p .n * recordLength p
-      → All (Bears p t i (deskAfter p f d)) (lowest p (closed p (afterReply p s f) (deskAfter p f d))) → i₂ ≡ i
-  stamp-comes-back s f d took d₂ i₂ call stamp n says asks long held =
-      read-comes-back p t i ok bytes whole out room s f d took d₂ i₂ call stamp n says asks
-      (slots-written (deskAfter p f d) (lowest p (closed p (afterReply p s f) (deskAfter p f d))) long held)
+-- slots that bear the write's timestamp, whose hashes hold, hold the records that were written
+slots-written : (p : Plan) (t : ℕ) (i : List ℕ) → length i ≡ p .m * p .f → (d nodes : List ℕ) → length d ≡ p .n * recordLength p → All (Bears p t i d) nodes
+    → All (λ (z : ℕ). slotOf p d z ≡ slotOf p (recordsFor p t i) z) nodes
+slots-written p t i whole d nodes long held =
+    all-map (λ z b. record-written p t i whole z (b .low) (slotOf p d z)
+    (length-part d (z * recordLength p) (recordLength p) (omega (arith, slot-fits z (p .n) (recordLength p) (b .low)))) (b .stamped) (b .hashed) (b .unlike)) nodes held
+
+-- ---- a read that ends done with the timestamp of a write
+module _ (p : Plan) (t : ℕ) (i : List ℕ) (bytes : Octets i) (whole : length i ≡ p .m * p .f) where
+  -- a record whose hashes hold and, under the write's timestamp, do not clash with those of what was written
+  pub record Fair (k : ℕ) (rec : List ℕ) : Type 0 where
+    pub hashes : hashesOk p k rec ≡ true
+    pub octets : Octets rec
+    pub unlike : stampOf rec ≡ stampMade t (crossFor p i) → Unlike p i k rec
+
+  pub all-fair : (s : Session) (d : List ℕ) (cs : List Turn) → Calls (ReadTurn p) s d cs → NoClash p t i cs → EachTurn (λ (c : Turn). Brings Fair p (c .reply)) cs
+  all-fair s d [] h n = tt
+  all-fair s d (c ∷ cs) h n = (
+    λ b q. record { hashes = q .hashes; octets = octets-drop (headBytes (versionOf (c .reply))) (c .reply) (h .0 .0); unlike = n .0 b },
+    all-fair (c .took .session) (c .deskLeft) cs (h .1) (n .1),
+  )
+
+  -- a set of the write's timestamp is of the records that were written
+  pub set-written : (u : Session) (d : List ℕ) (a : ℕ) → Closing Fair p u d a → closed p u d .stamp ≡ stampFor p t i
+      → All (λ (z : ℕ). slotOf p d z ≡ slotOf p (recordsFor p t i) z) (lowest p (closed p u d))
+  set-written u d a c e =
+      let qs = lowest p (closed p u d) in
+      let lead : stampOf (slotOf p d a) ≡ stampMade t (crossFor p i) =
+      made-stamp t (crossFor p i) (slotOf p d a) (lead-slot Fair p u d a c .octets) (omega (arith, lead-long Fair p u d a c, record-length p))
+      (sym (lead-number Fair p u d a c) ∙ ap stampNumber e ∙ stamp-for p t i) in
+      let stamps : All (λ (z : ℕ). stampOf (slotOf p d z) ≡ stampMade t (crossFor p i)) qs = all-map (λ z h. h ∙ lead) qs (lowest-stamps Fair p u d a c) in
+      let slots : All (λ (z : ℕ). (z < p .n) × Fair z (slotOf p d z)) qs =
+      all-map2 (λ z h k. (h, k)) qs (lowest-so Fair p u d a c .below) (lowest-slots Fair p u d a c) in
+      let held : All (Bears p t i d) qs =
+      all-map2 (λ z h k. record { low = h .0; stamped = k; hashed = h .1 .hashes; unlike = h .1 .unlike k }) qs slots stamps in
+      slots-written p t i whole d qs (c .long) held
+
+  found-written : (item : List ℕ) → Found Fair p (stampFor p t i) item → item ≡ i
+  unfolding decoded
+  found-written item w =
+      let c = w .closing in
+      let d = w .desk in
+      let l = lowest-so Fair p (w .session) d (w .node) c in
+      w .is
+      ∙ slots-come-back p t i (c .plan) bytes whole (w .lent) (w .room) d (lowest p (closed p (w .session) d)) (l .distinct) (l .below) (l .few)
+      (set-written (w .session) d (w .node) c (sym (w .stamped)))
+
+  -- A READ THAT ENDS DONE WITH THE TIMESTAMP OF A WRITE LEAVES THE ITEM THAT WAS WRITTEN, whether its set was complete or was repaired
+  pub done-comes-back : (out : List ℕ) (r : ReadDone p (stampFor p t i) out) → NoClash p t i (r .first ∷ r .rest) → out ≡ i
+  done-comes-back out r n =
+      sym (r .left)
+      ∙ found-written (lastItem (r .first) (r .rest))
+      (run-finds Fair p (r .ask) (r .opened) (r .opens) (r .accepted) (r .desk) (r .first) (r .rest) (r .calls)
+      (all-fair (r .opened .session) (r .desk) (r .first ∷ r .rest) (r .calls) n) (stampFor p t i) (r .rounds) (r .says))

@@ -9,6 +9,12 @@ act-spec =
     tie.close
     (tie.spec
     (λ c. search needs) (λ c κs. search needs) (λ c. search needs) (λ c κs. search needs)
-    (λ c. laws.act-never (c .before .before .before .before .before .args .p) (c .before .before .before .before .before .args .self) (told (c .before .before .before .before .before .args .c)) _ _ _ (c .before .enum-told .given .1) (c .over .ensures))
+    (λ c.
+    let a = c .before .before .before .before .before .args in
+    laws.act-never (a .p) (a .self) (told (a .c)) _ _ _ (c .before .enum-told .given .1) (c .over .ensures))
     (λ c. search needs) (λ c. search needs)
-    (λ c. laws.act-led (c .before .before .before .before .before .before .before .before .before .before .before .before .args .p) (c .before .before .before .before .before .before .before .before .before .before .before .before .args .self) (told (c .before .before .before .before .before .before .before .before .before .before .before .before .args .c)) _ _ (c .before .before .before .before .before .before .before .before .l .given .0 .0) _ (c .before .before .before .before .before .before .before .before .l .given .1) (c .before .before .before .before .act-on .ensures)))
+    (λ c.
+    let act = c .before .before .before .before in
+    let lead = act .before .before .before .before in
+    let a = lead .before .before .before .before .args in
+    laws.act-led (a .p) (a .self) (told (a .c)) _ _ (lead .l .given .0 .0) _ (lead .l .given .1) (act .act-on .ensures)))

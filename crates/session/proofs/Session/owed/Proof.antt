@@ -25,9 +25,10 @@ owed-spec =
     (λ c. search needs)
     (λ c.
     let write-request = c .before .before .write-request in
-    let enum-told = c .before .before .before .before .enum-told in
-    let owed-check = c .before .before .before .before .before .before .owed-check in
-    let args = c .before .before .before .before .before .before .before .before .before .args in
+    let told = c .before .before .before .before in
+    let enum-told = told .enum-told in
+    let owed-check = told .before .before .owed-check in
+    let args = told .before .before .before .before .before .args in
     record {
       is = laws.owed-written (args .p) (args .self) _ _ _ _ _ (check-passed _ _ (owed-check .ensures) (ap checkNumber (enum-told .given .1)))
           (write-request .ensures);

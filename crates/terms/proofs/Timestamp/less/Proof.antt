@@ -6,6 +6,10 @@ use borrow.Author.Needs.{needs}
 use Rattle.terms.proofs.Timestamp.less.Statement.{statement}
 use Rattle.terms.proofs.Timestamp.less.Tie as tie
 
+-- the start, past the two comparisons
+abbrev past-2 : tie.Else2 → tie.Start
+past-2 c = c .before .before .before .before .before .before .before .before
+
 pub less-spec : {M : Type 1} → statement M
 less-spec =
     tie.close
@@ -20,5 +24,5 @@ less-spec =
     (laws.stamp-0 (s .other) (s .self) (record { w1 = omega arith; w2 = omega arith; w3 = omega arith }) (omega arith) (c .if2 .taken)))
     (λ c κs. search needs)
     (λ c.
-    let s = c .before .before .before .before .before .before .before .before .before .before .before .args in
+    let s = past-2 (c .before .before .before) .args in
     c .hash-less .ensures ∙ laws.stamp-1 (s .self) (s .other) (omega arith)))

@@ -20,7 +20,8 @@ use Rattle.terms.specs.Terms.{recordLength}
 use Rattle.terms.specs.declared.Plan.{Plan}
 use Rattle.terms.proofs.Rungs.{both}
 use Rattle.book.specs.Records.{timed, rising, below, insertRecord}
-use Rattle.book.specs.Book.{recordsFrom, recordsPast, joined, headed, filled, goodAs, header, laidAs, nodeOf, countOf, fixed, inserted}
+use Rattle.book.specs.Inside.{inserted}
+use Rattle.book.specs.Book.{recordsFrom, recordsPast, joined, headed, filled, goodAs, header, laidAs, nodeOf, countOf, fixed}
 use Rattle.book.proofs.Lists.{below-le, insert-is, length-insert}
 
 -- ---- records of r bytes each, and their bytes

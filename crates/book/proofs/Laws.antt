@@ -26,7 +26,8 @@ use Rattle.book.specs.Records.{timed, rising, below, lastOf, lastBelow, 
 use Rattle.book.specs.declared.Book.{Book}
 use Rattle.book.specs.declared.Shape.{Shape}
 use Rattle.book.specs.declared.Shape.the-variants.{Bad, Good}
-use Rattle.book.specs.Book.{fixed, bookHead, bookLent, bookIn, recordsFrom, recordsIn, recordsPast, recordsOf, headed, filled, goodBook, header, joined, laidAs, laidOut, versionIn, nodeOf, countOf, usedIn, usedOf, inserted, fateBy, Checked, Holds, Sound, Lies, Placed, Itself, grown, Grows}
+use Rattle.book.specs.Inside.{inserted, fateBy, Lies, Placed, Grows}
+use Rattle.book.specs.Book.{fixed, bookHead, bookLent, bookIn, recordsFrom, recordsIn, recordsPast, recordsOf, headed, filled, goodBook, header, joined, laidAs, laidOut, versionIn, nodeOf, countOf, usedIn, usedOf, Checked, Holds, Sound, Itself, grown}
 use Rattle.book.proofs.Lists as lists
 use Rattle.book.proofs.Turns as turns
 use Rattle.book.proofs.Laid as laid

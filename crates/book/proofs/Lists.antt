@@ -15,7 +15,7 @@ use Rattle.terms.proofs.Picks.{itself}
 use Rattle.book.specs.declared.Fate.{Fate}
 use Rattle.book.specs.declared.Fate.the-variants.{Held, Other, Free}
 use Rattle.book.specs.Records.{rising, above, below, those, some, lastOf, holds, holdsOther, insertRecord, fateOf}
-use Rattle.book.specs.Book.{fateBy}
+use Rattle.book.specs.Inside.{fateBy}
 
 pub above-rising : (low : ℕ) (rs : List (List ℕ)) → above low rs ≡ true → rising rs ≡ true
 unfolding above rising

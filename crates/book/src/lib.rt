@@ -10,7 +10,8 @@ ghost use Rattle.octets.specs.Bytes.{part, num, over};
 ghost use Rattle.terms.specs.Terms.{planOk};
 ghost use Rattle.terms.specs.Stamp.{time};
 ghost use Rattle.book.specs.Records.{timed, rising, below, lastOf, lastBelow, fateOf};
-ghost use Rattle.book.specs.Book.{fixed, bookHead, bookLent, bookIn, recordsIn, usedIn, headed, filled, laidOut, fateBy, Checked, Holds, Lies, Placed, Grows};
+ghost use Rattle.book.specs.Inside.{fateBy, Lies, Placed, Grows};
+ghost use Rattle.book.specs.Book.{fixed, bookHead, bookLent, bookIn, recordsIn, usedIn, headed, filled, laidOut, Checked, Holds};
 use terms::Plan;
 use terms::Time;
 

@@ -18,7 +18,8 @@ use Rattle.frame.specs.Frame.{frameNode}
 use Rattle.rounds.specs.declared.Heard.{Heard}
 use Rattle.rounds.specs.declared.Heard.the-variants.{Unheard, First, Record}
 use Rattle.rounds.specs.Rounds.{bitOf, heardCount, markOf, setOf}
-use Rattle.rounds.proofs.Closes.{Best, candidate, Members, members-are}
+use Rattle.rounds.specs.Closes.{Best, Members}
+use Rattle.rounds.proofs.Closes.{candidate, members-are}
 use Rattle.session.specs.declared.Session.{Session}
 use Rattle.session.specs.declared.Took.{Took}
 use Rattle.standing.specs.Standing.{isStoring}

@@ -26,7 +26,8 @@ use Rattle.book.specs.declared.Book.{Book}
 use Rattle.book.specs.declared.Fate.{Fate}
 use Rattle.book.specs.declared.Fate.the-variants as fates
 use Rattle.book.specs.Records.{lastOf, rising, lastBelow, holds, holdsOther, fateOf}
-use Rattle.book.specs.Book.{fixed, bookLent, nodeOf, laidOut, recordsIn, recordsOf, usedIn, usedOf, grown, Holds, Sound, Placed, Grows}
+use Rattle.book.specs.Inside.{Placed, Grows}
+use Rattle.book.specs.Book.{fixed, bookLent, nodeOf, laidOut, recordsIn, recordsOf, usedIn, usedOf, grown, Holds, Sound}
 use Rattle.book.proofs.Lists as lists
 use Rattle.book.proofs.Laws as books
 use Rattle.book.proofs.Back.{long}
@@ -36,7 +37,8 @@ use Rattle.node.specs.declared.Answer.the-variants.{Refused}
 use Rattle.node.specs.declared.Made.{Made}
 use Rattle.node.specs.Fresh.{freshLadder, freshOutcome, freshened, saidMade, made, FreshCall}
 use Rattle.node.specs.Fresh.{refused as notMade}
-use Rattle.node.specs.Node.{bookReplyOk, timeFails, hashFails, otherHeld, noRoom, workLadder, nodeLadder, saidServed, refused, replied, ServedOutcome, servedOutcome, replyTo, replyOf, sends, bookAfter, answered, responded, finished, served, NodeCall, Fitting, Admitted, Reply, writes}
+use Rattle.node.specs.Inside.{finished, Fitting, Admitted}
+use Rattle.node.specs.Node.{bookReplyOk, timeFails, hashFails, otherHeld, noRoom, workLadder, nodeLadder, saidServed, refused, replied, ServedOutcome, servedOutcome, replyTo, replyOf, sends, bookAfter, answered, responded, served, NodeCall, Reply, writes}
 
 -- a test that a negated `if` passed, and what it says of the definition that the test is of
 pub so : {r s : Bool} → r ≡ s → not r ≡ false → s ≡ true

@@ -10,24 +10,22 @@
 --   responded          the second part of the call: what is after the door
 --   served, NodeCall   the call, and its contract
 -- Assumes nothing.
-use Prim.Native.Nat.{ℕ, _+_, _≤_, _<_}
+use Prim.Native.Nat.{ℕ, _+_}
 use mathlib.Core.Path.{_≡_}
-use mathlib.Core.Bool.{Bool, true, cond, not}
+use mathlib.Core.Bool.{Bool, cond, not}
 use mathlib.Core.List.{List, [], _∷_, _++_}
 use lib.ListN.{length}
 use lib.Dec.{ltb, leb, eqb}
 use Rattle.octets.specs.Bytes.{be, over}
-use Rattle.terms.specs.Ladder.{Rung, on, first, since, _and_, _or_}
+use Rattle.terms.specs.Ladder.{Rung, on, first, _and_, _or_}
 use Rattle.terms.specs.Stamp.{stamp, time}
 use Rattle.terms.specs.Terms.{planOk, recordLength, refusalNumber}
 use Rattle.terms.specs.declared.Plan.{Plan}
 use Rattle.frame.specs.declared.Header.{Header}
-use Rattle.frame.specs.declared.Party.the-variants.{Node}
-use Rattle.frame.specs.Frame.{timeRequestKind, timeReplyKind, writeRequestKind, writeReplyKind, readLatestKind, readPreviousKind, readReplyKind, headBytes, framed, longest, headerIn, bodyOf, frameOf, replying, suits, goodRequest}
+use Rattle.frame.specs.Frame.{timeRequestKind, timeReplyKind, writeRequestKind, writeReplyKind, readLatestKind, readPreviousKind, readReplyKind, framed, longest, headerIn, bodyOf, frameOf, replying, goodRequest}
 use Rattle.record.specs.Record.{hashesOk, timeZero, stampOf}
 use Rattle.book.specs.Records.{lastOf, lastBelow, holds, holdsOther}
-use Rattle.book.specs.Book.{goodBook, nodeOf, recordsOf, usedOf, grown, bookLent, Sound}
-use Rattle.node.specs.declared.Asked.{Asked}
+use Rattle.book.specs.Book.{goodBook, nodeOf, recordsOf, usedOf, grown, bookLent}
 use Rattle.node.specs.declared.Answer.{Answer}
 use Rattle.node.specs.declared.Answer.the-variants.{Refused, Replied}
 
@@ -133,22 +131,3 @@ served p f b y = first (nodeLadder p f b y) (λ (k : ℕ). servedOutcome (refuse
 -- the contract of the call: its inputs, then its outcome
 pub record NodeCall (p : Plan) (f b y : List ℕ) (a : Answer) (b₂ y₂ : List ℕ) : Type 0 where
   pub is : servedOutcome (saidServed a) b₂ y₂ ≡ served p f b y
-
--- ---- for the functions below the call
--- h is the header of f, of a kind for a node, with a body of its kind, and for a node of the plan
-pub record Fitting (p : Plan) (h : Header) (f : List ℕ) : Type 0 where
-  pub is : h ≡ headerIn f
-  pub low : headBytes (h .version) ≤ length f
-  pub fit : suits Node p h (length f) ≡ true
-  pub node : h .node < p .n
-
--- what the door leaves: of a frame and a book of any version
-pub record Admitted (p : Plan) (a : Asked) (f b y : List ℕ) : Type 0 where
-  pub plan : planOk p ≡ true
-  pub room : longest (a .frame .version) p ≤ length y
-  pub book : Sound p (a .book) b
-  pub request : Fitting p (a .frame) f
-
--- the last two refusals, and the answer
-unfoldable pub finished : Plan → Header → List ℕ → List ℕ → List ℕ → ServedOutcome
-finished p h body b y = first (since 7 (workLadder p h body b)) (λ (k : ℕ). servedOutcome (refused k) b y) (answered p h body b y)

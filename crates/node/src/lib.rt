@@ -11,7 +11,8 @@ ghost use Rattle.frame.specs.Frame.{timeReplyKind, writeRequestKind, writeReply
 ghost use Rattle.record.specs.Record.{stampOf};
 ghost use Rattle.book.specs.Records.{lastOf, lastBelow};
 ghost use Rattle.book.specs.Book.{recordsIn, Holds};
-ghost use Rattle.node.specs.Node.{bookReplyOk, timeFails, hashFails, servedOutcome, saidServed, finished, responded, Fitting, Admitted, NodeCall};
+ghost use Rattle.node.specs.Inside.{finished, Fitting, Admitted};
+ghost use Rattle.node.specs.Node.{bookReplyOk, timeFails, hashFails, servedOutcome, saidServed, responded, NodeCall};
 ghost use Rattle.node.specs.Fresh.{FreshCall};
 use book::Book;
 use book::Fate;

@@ -17,7 +17,8 @@ use Rattle.terms.proofs.Places.{record-length}
 use Rattle.fragments.specs.Fragments.{from, laid, Sources, Room}
 use Rattle.rounds.specs.declared.Close.{Close}
 use Rattle.rounds.specs.Rounds.{told}
-use Rattle.recover.specs.Recover.{validates, refilled, lowest, sound, decoded, collected, repaired, Usable}
+use Rattle.recover.specs.Inside.{Usable}
+use Rattle.recover.specs.Recover.{validates, refilled, lowest, sound, decoded, collected, repaired}
 
 -- ---- a set that can be decoded
 module _ (p : Plan) (c : Close) (a : ℕ) (d : List ℕ) (u : Usable p c a d) where

@@ -9,20 +9,18 @@
 --   trusted sound      validation
 --   decoded collected repaired   the item from the set, and from the desk's first m slots; the desk with all N records of the set
 -- Assumes nothing.
-use Prim.Native.Nat.{ℕ, zero, suc, _+_, _*_, _≤_, _<_}
-use mathlib.Core.Path.{_≡_}
+use Prim.Native.Nat.{ℕ, zero, suc, _+_, _*_}
 use mathlib.Core.Bool.{Bool, true, cond}
 use mathlib.Core.List.{List, _++_}
-use lib.ListN.{length, getD, take}
+use lib.ListN.{take}
 use Rattle.octets.specs.Bytes.{part, put, alike}
 use Rattle.terms.specs.declared.Plan.{Plan}
 use Rattle.terms.specs.declared.Slots.{Slots}
 use Rattle.terms.specs.declared.Clients.{Clients}
 use Rattle.terms.specs.declared.Clients.the-variants.{Crash, Byzantine}
-use Rattle.terms.specs.Terms.{planOk, recordLength, slotsOf, runsOf, slotAt}
+use Rattle.terms.specs.Terms.{slotsOf, runsOf, slotAt}
 use Rattle.fragments.specs.Fragments.{among, regenerated, from, laid}
 use Rattle.record.specs.Desk.{crossMade}
-use Rattle.rounds.specs.declared.Close.{Close}
 use Rattle.rounds.specs.Rounds.{Closed}
 
 unfoldable pub validates : Plan → List ℕ → List ℕ → ℕ → Bool
@@ -61,12 +59,3 @@ collected p d i = laid d (slotsOf p) (from 0 (p .m)) (runsOf (p .m) (p .f)) (p .
 -- the desk with all N records of the set
 unfoldable pub repaired : Plan → Closed → ℕ → List ℕ → List ℕ
 repaired p c a d = refilled d (slotsOf p) (lowest p c) a (p .n)
-
--- a close of this plan whose set can be decoded: node a leads it, it has m nodes, and they and the desk are this plan's
-pub record Usable (p : Plan) (c : Close) (a : ℕ) (d : List ℕ) : Type 0 where
-  pub plan : planOk p ≡ true
-  pub desk : length d ≡ p .n * recordLength p
-  pub lead : a < p .n
-  pub nodes : length (c .set .nodes) ≡ 16
-  pub size : p .m ≤ c .set .size
-  pub below : (k : ℕ) → k < p .m → getD (c .set .nodes) k 0 < p .n

@@ -29,18 +29,13 @@ use Rattle.rounds.specs.declared.Mark.{Mark}
 use Rattle.rounds.specs.declared.Lead.{Lead}
 use Rattle.rounds.specs.declared.Lead.the-variants.{Nobody, Node}
 use Rattle.rounds.specs.Rounds.{slotStamp, markOf, aheadOf, stepOf, leadOf, leadIn, joinsOf, setOf}
+use Rattle.rounds.specs.Closes.{Best, Rising, Members}
 use Rattle.rounds.proofs.Laws.{lead-in}
 
 nonsense : {A : Type 0} → _≡_ {A = ℕ} 0 1 → A
 nonsense z = absurd (omega arith)
 
 -- ---- the candidate
--- what is known of the best among the first n nodes
-pub record Best (ms : List Mark) (d : List ℕ) (slots : Slots) (n a : ℕ) : Type 0 where
-  pub marked : markOf ms a ≡ Record
-  pub greatest : (i : ℕ) → i < n → markOf ms i ≡ Record → slotStamp d slots i ≤ slotStamp d slots a
-  pub lowest : (i : ℕ) → i < a → markOf ms i ≡ Record → slotStamp d slots i < slotStamp d slots a
-
 -- the first triple is the candidate only where no node is marked record; else it is the best
 abbrev pub Leads : List Mark → List ℕ → Slots → ℕ → Lead → Type 0
 Leads ms d slots n Nobody = (i : ℕ) → i < n → markOf ms i ≡ Record → ⊥
@@ -109,11 +104,7 @@ pub no-candidate : (ms : List Mark) (d : List ℕ) (slots : Slots) (n : ℕ) →
 no-candidate ms d slots n e = subst (Leads ms d slots n) e (leads ms d slots n)
 
 -- ---- the set
--- the numbers of a list rise
-abbrev pub Rising : List ℕ → Type 0
-Rising [] = Unit {0}
-Rising (x ∷ l) = All (λ (y : ℕ). x < y) l × Rising l
-
+-- a rising list has each number once
 pub rising-distinct : (l : List ℕ) → Rising l → Distinct l
 rising-distinct [] r = tt
 rising-distinct (x ∷ l) r = (all-map (λ y h e. omega arith) l (r .0), rising-distinct l (r .1))
@@ -144,15 +135,6 @@ among-more y i (x ∷ l) e = go (eqb x y) e (among-more y i l)
     go : (t : Bool) → cond t true (among y l) ≡ true → (among y l ≡ true → among y (l ++ (i ∷ [])) ≡ true) → cond t true (among y (l ++ (i ∷ []))) ≡ true
     go true k more = refl
     go false k more = more k
-
--- what a set is known to be, of the first i nodes: it rises, so that it has each node once; each node of it bears the timestamp and the
--- cross checksum of node a, and each that does is one of it
-pub record Members (d : List ℕ) (slots : Slots) (a i : ℕ) (ms : List Mark) (l : List ℕ) : Type 0 where
-  pub few : length l ≤ i
-  pub below : All (λ (y : ℕ). y < i) l
-  pub rises : Rising l
-  pub joined : All (λ (y : ℕ). joinsOf d slots a y (markOf ms y) ≡ true) l
-  pub all : (y : ℕ) → y < i → joinsOf d slots a y (markOf ms y) ≡ true → among y l ≡ true
 
 all-more : (l : List ℕ) (i : ℕ) → All (λ (y : ℕ). y < i) l → All (λ (y : ℕ). y < suc i) l
 all-more [] i b = tt

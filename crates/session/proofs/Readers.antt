@@ -35,7 +35,8 @@ use Rattle.rounds.specs.declared.Close.{Close}
 use Rattle.record.specs.Record.{hashesOk, timeZero}
 use Rattle.rounds.specs.Rounds.{listed, told, Closed, closeOf, underOf}
 use Rattle.rounds.proofs.Laws.{size-is}
-use Rattle.recover.specs.Recover.{sound, decoded, collected, repaired, Usable}
+use Rattle.recover.specs.Inside.{Usable}
+use Rattle.recover.specs.Recover.{sound, decoded, collected, repaired}
 use Rattle.session.specs.declared.Taken.{Taken}
 use Rattle.session.specs.declared.Taken.the-variants.{Refused, Reply}
 use Rattle.session.specs.declared.Session.{Session}
@@ -49,7 +50,8 @@ use Rattle.session.specs.Reply.{bears, replyLadder, recordLadder, checkN
 use Rattle.session.proofs.Known.{Known, known-reply}
 use Rattle.session.proofs.Checks.{goes-on as ladder-goes-on, check-passed, check-failed}
 use Rattle.session.proofs.Closings.{Led, led, lead-low, nodes-below, sized, sized-whole}
-use Rattle.session.specs.Reader.{Outcome, outcome, failing, actOn, actFor, acted, closed, settled, heard, stored, accepted, readReply, Acting}
+use Rattle.session.specs.Inside.{Acting}
+use Rattle.session.specs.Reader.{Outcome, outcome, failing, actOn, actFor, acted, closed, settled, heard, stored, accepted, readReply}
 
 -- ---- each way that a closed round can go
 module _ (p : Plan) (s : Session) (t : Timestamp) (d i : List ℕ) where

@@ -5,3 +5,4 @@ pub mod Reader
 pub mod Opening
 pub mod Owed
 pub mod Writer
+pub mod Inside

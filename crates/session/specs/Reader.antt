@@ -9,24 +9,23 @@
 -- Assumes nothing.
 use Prim.Native.Nat.{ℕ, _*_}
 use mathlib.Core.Path.{_≡_}
-use mathlib.Core.Bool.{true, cond}
+use mathlib.Core.Bool.{cond}
 use mathlib.Core.List.{List}
 use lib.ListN.{length}
 use lib.Dec.{leb}
 use Rattle.octets.specs.Bytes.{put}
 use Rattle.terms.specs.Ladder.{first}
-use Rattle.terms.specs.Terms.{planOk, recordLength, slotsOf, thresholdsOf}
+use Rattle.terms.specs.Terms.{recordLength, slotsOf, thresholdsOf}
 use Rattle.terms.specs.declared.Plan.{Plan}
 use Rattle.terms.specs.declared.Timestamp.{Timestamp}
 use Rattle.terms.specs.declared.Verdict.{Verdict}
 use Rattle.terms.specs.declared.Verdict.the-variants.{Complete, Repair, Aborted, Incomplete}
 use Rattle.frame.specs.Frame.{frameNode, bodyOf}
 use Rattle.rounds.specs.declared.Heard.the-variants.{First, Record}
-use Rattle.rounds.specs.declared.Close.{Close}
 use Rattle.rounds.specs.declared.Lead.{Lead}
 use Rattle.rounds.specs.declared.Lead.the-variants.{Nobody, Node}
 use Rattle.rounds.specs.Rounds.{Closed, closeOf}
-use Rattle.recover.specs.Recover.{sound, decoded, collected, repaired, Usable}
+use Rattle.recover.specs.Recover.{sound, decoded, collected, repaired}
 use Rattle.session.specs.declared.Session.{Session}
 use Rattle.session.specs.declared.Took.{Took}
 use Rattle.standing.specs.Standing.{isStoring}
@@ -90,11 +89,3 @@ readReply p s f d i = first (readLadder p s f d (length i)) (λ (k : ℕ). outco
 -- the contract of the call: its inputs, then its outcome
 pub record ReadReplyCall (p : Plan) (s : Session) (f d i : List ℕ) (t : Took) (d₂ i₂ : List ℕ) : Type 0 where
   pub is : outcome (saidOf (t .answer)) (t .session) d₂ i₂ ≡ readReply p s f d i
-
--- ---- for the functions below the call
--- a close that can be acted on: where it is to be decoded or repaired, it can be
-pub record Acting (p : Plan) (c : Close) (d i : List ℕ) : Type 0 where
-  pub plan : planOk p ≡ true
-  pub item : length i ≡ p .m * p .f
-  pub whole : (a : ℕ) → c .lead ≡ Node a → c .verdict ≡ Complete → Usable p c a d
-  pub half : (a : ℕ) → c .lead ≡ Node a → c .verdict ≡ Repair → Usable p c a d

@@ -25,7 +25,8 @@ ghost use Rattle.rounds.specs.declared.Lead.the-variants.{Node};
 ghost use Rattle.rounds.specs.Rounds.{told};
 ghost use Rattle.session.specs.Session.{saidOf};
 ghost use Rattle.session.specs.Reply.{bears, recordLadder, checkNumber};
-ghost use Rattle.session.specs.Reader.{outcome, failing, actOn, acted, settled, heard, stored, accepted, ReadReplyCall, Acting};
+ghost use Rattle.session.specs.Inside.{Acting};
+ghost use Rattle.session.specs.Reader.{outcome, failing, actOn, acted, settled, heard, stored, accepted, ReadReplyCall};
 
 // Whether a reply bears a record, and not the first triple.
 fn bears_record(p: Plan, h: Header, frame: &[u8]) -> bool

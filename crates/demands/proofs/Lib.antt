@@ -5,3 +5,5 @@ pub mod Demand1
 pub mod Refusals
 pub mod Demand2
 pub mod Demand3
+pub mod HostRuns
+pub mod HostInstances

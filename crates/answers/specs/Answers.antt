@@ -13,7 +13,7 @@ use lib.Dec.{leb, eqb}
 use lib.ListN.{getD}
 use Rattle.octets.specs.Bytes.{part, num, be}
 use Rattle.terms.specs.Ladder.{Rung, on, _and_}
-use Rattle.terms.specs.Stamp.{stampAt}
+use Rattle.terms.specs.Stamp.{stampNumber, stampAt}
 use Rattle.terms.specs.Terms.{planOk}
 use Rattle.terms.specs.declared.Plan.{Plan}
 use Rattle.terms.specs.declared.Refusal.{Refusal}
@@ -58,7 +58,7 @@ endingBytes t n = be 40 t ++ be 2 n
 unfoldable pub endingAfter : Said → List ℕ → List ℕ
 endingAfter (refused k) old = old
 endingAfter stillOpen old = old
-endingAfter (done t n) old = endingBytes t n
+endingAfter (done t n) old = endingBytes (stampNumber t) n
 endingAfter (neverWritten n) old = endingBytes 0 n
 endingAfter (aborted n) old = endingBytes 0 n
 endingAfter (roundsSpent n) old = endingBytes 0 n

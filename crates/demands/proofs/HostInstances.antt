@@ -1,6 +1,6 @@
 -- The hypotheses of HostRuns can be met. Every run of calls below is a host's (hosted-reads, hosted-writes): so are the runs of
 -- client/proofs/Instances, a read of two rounds that ends with a repair (host-counted-so) and a whole write (host-write-so). A read in bytes, with a
--- call that is lent a wrong ending and a frame that is refused: host-run, host-read-so, host-kept-so. Assumes nothing.
+-- call that is lent a wrong ending and a frame that is refused: host-run, host-read-so, host-kept-so, host-owed-so. Assumes nothing.
 use Prim.{tt}
 use Prim.Native.Nat.{ℕ, _*_, _≤_}
 use mathlib.Core.Path.{_≡_, refl, sym, ap, _∙_, subst}
@@ -9,14 +9,14 @@ use mathlib.Core.List.{List, [], _∷_, _++_}
 use mathlib.Core.Logic.{inl, inr}
 use borrow.Author.Tests.{eq-eqb}
 use lib.ListN.{length, replicate}
-use Rattle.octets.specs.Bytes.{part, num, numFrom, be, beOnto, alike, Octets}
+use Rattle.octets.specs.Bytes.{part, num, numFrom, be, beOnto, over, alike, Octets}
 use Rattle.terms.specs.Stamp.{stampAt, stampNumber, then}
 use Rattle.terms.specs.Ladder.{first, all}
 use Rattle.terms.specs.Terms.{planOk, openingOk, countsOk, limitsOk, columnOf, recordLength}
 use Rattle.terms.specs.declared.Plan.{Plan}
 use Rattle.terms.proofs.Ladders.{is-passed}
 use Rattle.terms.proofs.Small.{small, small-octets}
-use Rattle.frame.specs.Frame.{readReplyKind, frame, shaped, bodyFits, forParty, oneOf, suits, goodFrame, goodReply}
+use Rattle.frame.specs.Frame.{readReplyKind, readLatestKind, frame, shaped, bodyFits, forParty, oneOf, suits, goodFrame, goodReply}
 use Rattle.rounds.specs.Rounds.{heardCount, every, slotsFit, slotFits, leadOf, stepOf, aheadOf, closeWith}
 use Rattle.session.specs.declared.Operation.the-variants.{Write, Read}
 use Rattle.session.specs.declared.Session.{Session}
@@ -24,28 +24,30 @@ use Rattle.session.specs.Session.{askNow, awaitsKind, saidOf, isRefused}
 use Rattle.session.specs.Ranges.{standingRules, openRules, inRange}
 use Rattle.session.specs.Reply.{lengthsOk, awaited, isHeard, bears}
 use Rattle.session.specs.Opening.{openWith}
+use Rattle.session.specs.Owed.{roomOk, owedLadder, readRequest, requestOf, owedTo}
 use Rattle.session.specs.Reader.{outcome, actFor, settled, heard, accepted, readReply}
 use Rattle.session.specs.Writer.{Leaves}
 use Rattle.client.specs.Turns.{Turn, ReadTurn, WriteTurn, Calls, closedRounds}
 use Rattle.client.proofs.Instances.Read as reads
 use Rattle.client.proofs.Instances.Write as writes
-use Rattle.client.specs.Sessions.{lastSession, lastDesk}
 use Rattle.session.proofs.Kept.{Kept}
 use Rattle.report.specs.Triple.{Message}
 use Rattle.report.specs.Figure3.{VALIDATE, in-time, has, with-it, receives, DO-READ, READ, ResponseSet}
 use Rattle.report.specs.Ours.{family}
-use Rattle.report.specs.Run.{unpolled, messageOf, polls, polledOver, EachTells, AllFull, Apart, AllApart}
+use Rattle.report.specs.Sent.{Commands, inResponseSet, Owes}
+use Rattle.report.specs.Run.{Polled, unpolled, messageOf, polls, polledOver, EachTells, AllFull, Apart, AllApart}
 use Rattle.report.specs.WriteRun.{noneOf, untimed, EachWrites}
+use Rattle.client.specs.Sessions.{lastSession, lastDesk}
 use Rattle.packing.specs.PlanBytes.{memberOf, clientsOf, planBytes, planShaped, planAt, planOf}
 use Rattle.packing.specs.SessionBytes.{boundBytes, markBytes, roundBytes, askBytes, heardBytes, sessionBytes, operationOf, stageOf, heardOf, boundShaped, boundOf, marksShaped, marksOf, sessionShaped, roundAt, sessionAt, sessionOf}
 use Rattle.packing.proofs.Inverse.{plan-back, session-back}
 use Rattle.packing.proofs.Laws.{length-session}
 use Rattle.answers.specs.Answers.{bothFit, lentLadder, answerNumber, endingBytes, endingAfter, answerOf}
-use Rattle.pasis.specs.Client.{sessionAfter, withItem, openBytes, OpenServes, readBytes, ReadServes}
+use Rattle.pasis.specs.Client.{sessionAfter, withItem, openBytes, OpenServes, owedBytes, OwedServes, readBytes, ReadServes}
 use Rattle.pasis.proofs.Laws.{Lent, Handed, read-served, write-served}
 use Rattle.pasis.proofs.Carried.{Lasts, Carried, opened-lasts, read-carried, write-carried}
-use Rattle.demands.specs.HostRuns.{HostTurn, HostReads, HostWrites, HostCalls, below}
-use Rattle.demands.proofs.HostRuns.{host-read-as-the-report, host-write-as-the-report, host-counted-rounds, host-every-session}
+use Rattle.demands.specs.HostRuns.{HostTurn, HostReads, HostWrites, HostCalls, below, HostOwes}
+use Rattle.demands.proofs.HostRuns.{host-read-as-the-report, host-write-as-the-report, host-counted-rounds, host-every-session, host-read-requests-as-the-report}
 
 -- ---- every run of calls is a host's
 -- each call with an ending of 42 zeros
@@ -270,7 +272,32 @@ host-read-so =
     host-read-as-the-report y 5 (replicate 117 0) session-1 desk host-calls opens-so desk-long (small-octets desk zeros) host-run
     (subst (AllApart (planOf y)) (sym one-round) (subst Apart (sym gathered) apart, tt))
 
-pub host-kept-so : Kept (planOf y) (lastSession (sessionOf session-1) (below host-calls)) (lastDesk desk (below host-calls))
+pub host-kept-so : Kept (planOf y) (sessionOf session-2) desk
 host-kept-so =
     host-every-session y 5 (replicate 117 0) session-1 desk host-calls Read opens-so desk-long (small-octets desk zeros)
     (inr (host-run .0), (inr (host-run .1 .0), (inr (host-run .1 .1 .0), tt)))
+
+-- before the last call, the request owed to node 0 is READ_LATEST
+abbrev two-calls : List HostTurn
+two-calls = turn 5 (replicate 41 0) 2 session-1 (replicate 41 0) ∷ turn 9 (replicate 42 0) 10 session-1 (replicate 42 0) ∷ []
+
+owed-so : OwedServes y session-1 0 desk (replicate 88 0) 0 (over (frame readLatestKind 0 5 []) (replicate 88 0))
+unfolding y session-1 desk owedBytes owedTo roomOk requestOf readRequest first planOk countsOk limitsOk columnOf all planOf planShaped planAt memberOf clientsOf num numFrom part sessionOf sessionShaped sessionAt roundAt boundShaped boundOf marksShaped marksOf operationOf stageOf heardOf stampAt recordLength inRange standingRules openRules every heardCount slotsFit slotFits askNow isHeard
+owed-so = record { is = refl }
+
+no-round : polledOver (planOf y) (sessionOf session-1) desk unpolled (below two-calls) .rounds ≡ []
+unfolding below y session-1 nothing-held desk polls noneOf planOk countsOk limitsOk columnOf all planOf planShaped planAt memberOf clientsOf num numFrom part sessionOf sessionShaped sessionAt roundAt boundShaped boundOf marksShaped marksOf operationOf stageOf heardOf stampAt recordLength lengthsOk inRange standingRules openRules every heardCount slotsFit slotFits goodReply goodFrame suits shaped forParty oneOf bodyFits awaited askNow awaitsKind isHeard be beOnto bears
+no-round = refl
+
+abbrev at : Session
+at = lastSession (sessionOf session-1) (below two-calls)
+
+abbrev polled : Polled
+polled = polledOver (planOf y) (sessionOf session-1) desk unpolled (below two-calls)
+
+pub host-owed-so : HostOwes (Owes (Commands (planOf y) (READ (family (planOf y)) (polled .rounds)) 0 (askNow at))
+    (owedLadder (planOf y) at 0 (lastDesk desk (below two-calls)) 88) (inResponseSet (planOf y) (at .round .stage) polled 0))
+    0 (replicate 88 0) (over (frame readLatestKind 0 5 []) (replicate 88 0))
+host-owed-so =
+    host-read-requests-as-the-report y 5 (replicate 117 0) session-1 desk two-calls opens-so desk-long (small-octets desk zeros)
+    (host-run .0, (host-run .1 .0, tt)) (subst (AllApart (planOf y)) (sym no-round) tt) 0 (replicate 88 0) 0 (over (frame readLatestKind 0 5 []) (replicate 88 0)) owed-so

@@ -5,10 +5,13 @@
 --   HostCalls          calls one after another
 --   openedOf turnOf    an opening and a call as they are below: the session that the bytes are, the answer that number and ending are
 --   below              the calls below. One that was lent an ending of a wrong length is answered 2 and changes nothing: it is none of them
+--   hostSession hostDesk   what the last of some calls left
 --   RunBelow           the whole run below
+--   HostOwes           what the request owed to a node is, by its number and the buffer
 -- Assumes nothing.
 use Prim.{Unit}
 use Prim.Native.Nat.{ℕ}
+use mathlib.Core.Path.{_≡_}
 use mathlib.Core.Bool.{cond}
 use mathlib.Core.List.{List, [], _∷_}
 use mathlib.Core.Logic.{_⊎_}
@@ -20,10 +23,12 @@ use Rattle.session.specs.declared.opening.Opening.the-variants.{Accepted}
 use Rattle.session.specs.declared.Operation.{Operation}
 use Rattle.session.specs.declared.Session.{Session}
 use Rattle.session.specs.Opening.{OpenCall}
+use Rattle.session.specs.Owed.{Due}
 use Rattle.client.specs.Turns.{Turn, Calls}
+use Rattle.client.specs.Sessions.{lastSession, lastDesk}
 use Rattle.packing.specs.PlanBytes.{planOf}
 use Rattle.packing.specs.SessionBytes.{sessionOf}
-use Rattle.answers.specs.Answers.{answerOf}
+use Rattle.answers.specs.Answers.{dueNumber, answerOf}
 use Rattle.pasis.specs.Client.{WriteServes, ReadServes}
 
 pub record HostTurn : Type 0 where
@@ -71,6 +76,25 @@ unfoldable pub below : List HostTurn → List Turn
 below [] = []
 below (t ∷ ts) = cond (eqb (length (t .ending)) 42) (turnOf t ∷ below ts) (below ts)
 
--- the opening was accepted below too, and what followed is a run of calls below; a is the opening ask number
-abbrev pub RunBelow : (Session → List ℕ → Turn → Type 0) → Operation → List ℕ → ℕ → List ℕ → List ℕ → List HostTurn → Type 0
-RunBelow B op x a s d ts = OpenCall op (planOf x) (record { 0 = a }) (openedOf s) × Calls B (sessionOf s) d (below ts)
+-- the session bytes and the desk that the last of some calls left
+abbrev pub hostSession : List ℕ → List HostTurn → List ℕ
+hostSession s [] = s
+hostSession s (t ∷ ts) = hostSession (t .sessionLeft) ts
+
+abbrev pub hostDesk : List ℕ → List HostTurn → List ℕ
+hostDesk d [] = d
+hostDesk d (t ∷ ts) = hostDesk (t .deskLeft) ts
+
+-- the opening was accepted below too, what followed is a run of calls below, and it ends with the session and the desk that the host holds; a is the
+-- opening ask number
+pub record RunBelow (B : Session → List ℕ → Turn → Type 0) (op : Operation) (x : List ℕ) (a : ℕ) (s d : List ℕ) (ts : List HostTurn) : Type 0 where
+  pub opens : OpenCall op (planOf x) (record { 0 = a }) (openedOf s)
+  pub calls : Calls B (sessionOf s) d (below ts)
+  pub session : lastSession (sessionOf s) (below ts) ≡ sessionOf (hostSession s ts)
+  pub desk : lastDesk d (below ts) ≡ hostDesk d ts
+
+-- what pasis_owed answers to such a host: a number, and the request buffer as it is left, are what O says of a due
+pub record HostOwes (O : Due → List ℕ → List ℕ → Type 0) (r : ℕ) (q q₂ : List ℕ) : Type 0 where
+  pub due : Due
+  pub number : r ≡ dueNumber due
+  pub owes : O due q q₂

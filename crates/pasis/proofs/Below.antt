@@ -1,5 +1,5 @@
 -- A call on bytes is the call below on the plan and the session that the bytes are. What an accepted opening left is read back as the session
--- that it opened (opened-below); what a reply call left, as the answer and the session that the call below gives (read-below, write-below).
+-- that it opened (opened-below); a request owed is that of the session (owed-below); what a reply call left, as the answer and the session that the call below gives (read-below, write-below).
 --   Held         session bytes and a desk as the calls hand them on
 --   Came         what a reply call left is an outcome of the call below, and is held
 -- An ending that is not 42 bytes is refused 2, and nothing changes (read-unlent, write-unlent).
@@ -17,7 +17,7 @@ use Rattle.octets.proofs.Meaning.{octets-all}
 use Rattle.terms.specs.Ladder.{Rung, first, rung, None}
 use Rattle.terms.specs.Terms.{planOk, openingOk}
 use Rattle.terms.proofs.Down.{clear}
-use Rattle.terms.proofs.Ladders.{is-passed}
+use Rattle.terms.proofs.Ladders.{by-ladder, is-passed}
 use Rattle.terms.proofs.Picks.{either}
 use Rattle.terms.proofs.Rungs as rungs
 use Rattle.rounds.specs.declared.Bound.the-variants.{Free}
@@ -25,6 +25,10 @@ use Rattle.session.specs.declared.Operation.{Operation}
 use Rattle.session.specs.declared.Session.{Session}
 use Rattle.session.specs.Session.{isRead, Said, saidOf, isRefused}
 use Rattle.session.specs.Opening.{openingLadder, freshOf, noSession, Opens, opens, openWith}
+use Rattle.session.specs.declared.owed.Owed.{Owed}
+use Rattle.session.specs.declared.owed.Owed.the-variants.{Refused, Request}
+use Rattle.session.specs.Owed as owed
+use Rattle.session.specs.Owed.{owedLadder, dueOf, Dues, dues, owedTo, OwedCall}
 use Rattle.session.specs.Reader.{Outcome, outcome, readReply}
 use Rattle.session.specs.Writer.{writeReply}
 use Rattle.session.proofs.Checks.{first-map, none-applies}
@@ -32,9 +36,9 @@ use Rattle.packing.specs.PlanBytes.{planOf}
 use Rattle.packing.specs.SessionBytes.{sessionBytes, sessionOf}
 use Rattle.packing.proofs.Inverse.{session-back}
 use Rattle.packing.proofs.Laws.{length-session}
-use Rattle.answers.specs.Answers.{bothFit, lentLadder, answerNumber, endingAfter, answerOf}
-use Rattle.pasis.specs.Client.{sessionFits, sessionAfter, OpenedBytes, openedBytes, openedAs, openBytes, OpenServes, TookBytes, tookBytes, tookAs, withItem, readBytes, writeBytes, WriteServes, ReadServes}
-use Rattle.pasis.proofs.Carried.{Lasts, Carried, opened-lasts, read-carried, write-carried, answer-back}
+use Rattle.answers.specs.Answers.{bothFit, lentLadder, dueNumber, answerNumber, endingAfter, refusalAt, answerOf}
+use Rattle.pasis.specs.Client.{sessionFits, sessionAfter, OpenedBytes, openedBytes, openedAs, openBytes, OpenServes, Asked, asked, askedAs, owedBytes, OwedServes, TookBytes, tookBytes, tookAs, withItem, readBytes, writeBytes, WriteServes, ReadServes}
+use Rattle.pasis.proofs.Carried.{Lasts, Carried, opened-lasts, read-carried, write-carried, given-refusal, answer-back}
 use Rattle.pasis.proofs.Nine.{lent-none}
 
 pub record Held (s d : List ℕ) : Type 0 where
@@ -94,6 +98,35 @@ module _ (op : Operation) (x : List ℕ) (a : ℕ) (s₀ s : List ℕ) (c : Open
         plan = not-false (planOk (planOf x)) (past 1);
         opened = ap (opens 0) session-is ∙ sym opens-fresh;
         held = λ d o. record { long = ap length bytes-are ∙ length-session fresh refl; lasts = subst (λ (u : Session). Lasts u d) (sym session-is) (lasting d o) };
+      }
+
+-- ---- the request owed
+-- the answer of the call below, and its number
+pub record OwedBelow (x s : List ℕ) (n : ℕ) (d q : List ℕ) (r : ℕ) (q₂ : List ℕ) : Type 0 where
+  pub owed : Owed
+  pub call : OwedCall (planOf x) (sessionOf s) n d q owed q₂
+  pub number : r ≡ dueNumber (dueOf owed)
+
+record IsDue (o : Dues) : Type 0 where
+  answer : Owed
+  is : dueOf answer ≡ o .due
+
+module _ (x s : List ℕ) (n : ℕ) (d q : List ℕ) (r : ℕ) (q₂ : List ℕ) (ok : planOk (planOf x) ≡ true) (long : length s ≡ 117) (c : OwedServes x s n d q r q₂) where
+  due : IsDue (owedTo (planOf x) (sessionOf s) n d q)
+  unfolding owedTo
+  due =
+      by-ladder IsDue (owedLadder (planOf x) (sessionOf s) n d (length q)) (λ (k : ℕ). dues (owed.refused k) q) _
+      (λ k g. record { answer = Refused (refusalAt k); is = ap owed.refused (given-refusal (owedLadder (planOf x) (sessionOf s) n d (length q)) refl k g .1) })
+      (λ z. record { answer = Request _; is = refl })
+
+  pub owed-below : OwedBelow x s n d q r q₂
+  unfolding owedBytes
+  owed-below =
+      let e : asked r q₂ ≡ askedAs (owedTo (planOf x) (sessionOf s) n d q) = c .is ∙ sym (lent-none (planOf x) _ _ _ ok (eq-eqb (length s) 117 long) refl) in
+      record {
+        owed = due .answer;
+        call = record { is = λ j. dues (due .is j) (e j .request) };
+        number = ap (λ (a : Asked). a .number) e ∙ ap dueNumber (sym (due .is));
       }
 
 -- ---- a reply

@@ -174,12 +174,16 @@ refusal-at : (b a : List Rung) (k : ℕ) → areRefusals (b ++ (on k true ∷ a)
 refusal-at [] a k e = both (isRefusal k) _ e .0
 refusal-at (x ∷ b) a k e = refusal-at b a k (both (isRefusal (x .number)) _ e .1)
 
+pub given-refusal : (l : List Rung) → areRefusals l ≡ true → (k : ℕ) → Given l k → (isRefusal k ≡ true) × (refusalNumber (refusalAt k) ≡ k)
+given-refusal l e k g =
+    let h : isRefusal k ≡ true = refusal-at (g .before) (g .after) k (ap areRefusals (sym (g .is)) ∙ e) in
+    (h, eqb-true (refusalNumber (refusalAt k)) k (both (eqb (refusalNumber (refusalAt k)) k) _ h .0))
+
 module _ (s : Session) where
   refuses : (l : List Rung) → areRefusals l ≡ true → (d i : List ℕ) → Lasts s d → (k : ℕ) → Given l k → Carried s (outcome (refused k) s d i)
   refuses l e d i w k g =
-      let h : isRefusal k ≡ true = refusal-at (g .before) (g .after) k (ap areRefusals (sym (g .is)) ∙ e) in
-      let n = eqb-true (refusalNumber (refusalAt k)) k (both (eqb (refusalNumber (refusalAt k)) k) _ h .0) in
-      record { lasts = w; answer = answers.Refused (refusalAt k); said = ap refused n; wide = ap isRefusal n ∙ h; stays = λ z. refl }
+      let q = given-refusal l e k g in
+      record { lasts = w; answer = answers.Refused (refusalAt k); said = ap refused (q .1); wide = ap isRefusal (q .1) ∙ q .0; stays = λ z. refl }
 
   opens : (u : Session) (d i : List ℕ) → Lasts u d → Carried s (outcome stillOpen u d i)
   opens u d i w = record { lasts = w; answer = answers.Open; said = refl; wide = tt; stays = never }

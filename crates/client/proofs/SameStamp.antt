@@ -28,7 +28,8 @@ use Rattle.terms.proofs.Places.{record-length}
 use Rattle.record.proofs.Desks.{entry-of}
 use Rattle.session.specs.declared.Session.{Session}
 use Rattle.session.specs.declared.Took.{Took}
-use Rattle.session.specs.Session.{isStoring, done, saidOf}
+use Rattle.standing.specs.Standing.{isStoring}
+use Rattle.session.specs.Session.{done, saidOf}
 use Rattle.recover.specs.Recover.{lowest}
 use Rattle.session.specs.Reader.{closed, ReadReplyCall}
 use Rattle.recover.specs.Records.{crossFor, recordsFor}

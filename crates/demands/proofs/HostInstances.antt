@@ -18,13 +18,14 @@ use Rattle.terms.proofs.Ladders.{is-passed}
 use Rattle.terms.proofs.Small.{small, small-octets}
 use Rattle.frame.specs.Frame.{readReplyKind, readLatestKind, frame, shaped, bodyFits, forParty, oneOf, suits, goodFrame, goodReply}
 use Rattle.rounds.specs.Rounds.{heardCount, every, slotsFit, slotFits, leadOf, stepOf, aheadOf, closeWith}
-use Rattle.session.specs.declared.Operation.the-variants.{Write, Read}
+use Rattle.standing.specs.declared.Operation.the-variants.{Write, Read}
 use Rattle.session.specs.declared.Session.{Session}
-use Rattle.session.specs.Session.{askNow, awaitsKind, saidOf, isRefused}
+use Rattle.standing.specs.Standing.{askIn, awaitsIn, roundRules, lengthsOk, roomOk, readRequest}
+use Rattle.session.specs.Session.{askNow, saidOf, isRefused}
 use Rattle.session.specs.Ranges.{standingRules, openRules, inRange}
-use Rattle.session.specs.Reply.{lengthsOk, awaited, isHeard, bears}
+use Rattle.session.specs.Reply.{awaited, isHeard, bears}
 use Rattle.session.specs.Opening.{openWith}
-use Rattle.session.specs.Owed.{roomOk, owedLadder, readRequest, requestOf, owedTo}
+use Rattle.session.specs.Owed.{owedLadder, requestOf, owedTo}
 use Rattle.session.specs.Reader.{outcome, actFor, settled, heard, accepted, readReply}
 use Rattle.session.specs.Writer.{Leaves}
 use Rattle.client.specs.Turns.{Turn, ReadTurn, WriteTurn, Calls, closedRounds}
@@ -235,11 +236,11 @@ module _ where
   unlent-so = record { is = refl }
 
   refused-so : ReadServes y session-1 (nothing-held 9) desk (0 ∷ []) (replicate 42 0) 10 session-1 desk (0 ∷ []) (replicate 42 0)
-  unfolding y session-1 nothing-held desk readBytes bothFit first planOk countsOk limitsOk columnOf all planOf planShaped planAt memberOf clientsOf num numFrom part sessionOf sessionShaped sessionAt roundAt boundShaped boundOf marksShaped marksOf operationOf stageOf heardOf stampAt readReply recordLength lengthsOk inRange standingRules openRules every heardCount slotsFit slotFits goodReply goodFrame suits shaped forParty oneOf bodyFits awaited askNow awaitsKind isHeard be beOnto sessionAfter endingAfter
+  unfolding y session-1 nothing-held desk readBytes bothFit first planOk countsOk limitsOk columnOf all planOf planShaped planAt memberOf clientsOf num numFrom part sessionOf sessionShaped sessionAt roundAt boundShaped boundOf marksShaped marksOf operationOf stageOf heardOf stampAt readReply recordLength lengthsOk inRange roundRules standingRules openRules every heardCount slotsFit slotFits goodReply goodFrame suits shaped forParty oneOf bodyFits awaited askIn awaitsIn isHeard be beOnto sessionAfter endingAfter
   refused-so = record { is = refl }
 
   never-so : ReadServes y session-1 (nothing-held 5) desk (0 ∷ []) (replicate 42 0) 102 session-2 desk (0 ∷ []) (replicate 41 0 ++ (1 ∷ []))
-  unfolding y session-1 session-2 nothing-held desk readBytes bothFit first planOk countsOk limitsOk columnOf all planOf planShaped planAt memberOf clientsOf num numFrom part sessionOf sessionShaped sessionAt roundAt boundShaped boundOf marksShaped marksOf operationOf stageOf heardOf stampAt readReply recordLength lengthsOk inRange standingRules openRules every heardCount slotsFit slotFits goodReply goodFrame suits shaped forParty oneOf bodyFits awaited askNow awaitsKind isHeard be beOnto sessionAfter endingAfter bears accepted heard settled closeWith leadOf stepOf aheadOf actFor endingBytes sessionBytes askBytes roundBytes boundBytes heardBytes markBytes stampNumber then
+  unfolding y session-1 session-2 nothing-held desk readBytes bothFit first planOk countsOk limitsOk columnOf all planOf planShaped planAt memberOf clientsOf num numFrom part sessionOf sessionShaped sessionAt roundAt boundShaped boundOf marksShaped marksOf operationOf stageOf heardOf stampAt readReply recordLength lengthsOk inRange roundRules standingRules openRules every heardCount slotsFit slotFits goodReply goodFrame suits shaped forParty oneOf bodyFits awaited askIn awaitsIn isHeard be beOnto sessionAfter endingAfter bears accepted heard settled closeWith leadOf stepOf aheadOf actFor endingBytes sessionBytes askBytes roundBytes boundBytes heardBytes markBytes stampNumber then
   never-so = record { is = refl }
 
 pub host-run : HostCalls (HostReads y) session-1 desk host-calls
@@ -257,7 +258,7 @@ unfolding y nothing-held planOf planShaped planAt memberOf clientsOf all READ DO
 gathered = refl
 
 one-round : polledOver (planOf y) (sessionOf session-1) desk unpolled (below host-calls) .rounds ≡ (message ∷ []) ∷ []
-unfolding below y session-1 session-2 nothing-held desk polls noneOf planOk countsOk limitsOk columnOf all planOf planShaped planAt memberOf clientsOf num numFrom part sessionOf sessionShaped sessionAt roundAt boundShaped boundOf marksShaped marksOf operationOf stageOf heardOf stampAt recordLength lengthsOk inRange standingRules openRules every heardCount slotsFit slotFits goodReply goodFrame suits shaped forParty oneOf bodyFits awaited askNow awaitsKind isHeard be beOnto bears answerOf READ DO-READ receives VALIDATE in-time has with-it alike
+unfolding below y session-1 session-2 nothing-held desk polls noneOf planOk countsOk limitsOk columnOf all planOf planShaped planAt memberOf clientsOf num numFrom part sessionOf sessionShaped sessionAt roundAt boundShaped boundOf marksShaped marksOf operationOf stageOf heardOf stampAt recordLength lengthsOk inRange roundRules standingRules openRules every heardCount slotsFit slotFits goodReply goodFrame suits shaped forParty oneOf bodyFits awaited askIn awaitsIn isHeard be beOnto bears answerOf READ DO-READ receives VALIDATE in-time has with-it alike
 one-round = refl
 
 apart : Apart (message ∷ [])
@@ -282,11 +283,11 @@ abbrev two-calls : List HostTurn
 two-calls = turn 5 (replicate 41 0) 2 session-1 (replicate 41 0) ∷ turn 9 (replicate 42 0) 10 session-1 (replicate 42 0) ∷ []
 
 owed-so : OwedServes y session-1 0 desk (replicate 88 0) 0 (over (frame readLatestKind 0 5 []) (replicate 88 0))
-unfolding y session-1 desk owedBytes owedTo roomOk requestOf readRequest first planOk countsOk limitsOk columnOf all planOf planShaped planAt memberOf clientsOf num numFrom part sessionOf sessionShaped sessionAt roundAt boundShaped boundOf marksShaped marksOf operationOf stageOf heardOf stampAt recordLength inRange standingRules openRules every heardCount slotsFit slotFits askNow isHeard
+unfolding y session-1 desk owedBytes owedTo roomOk requestOf readRequest first planOk countsOk limitsOk columnOf all planOf planShaped planAt memberOf clientsOf num numFrom part sessionOf sessionShaped sessionAt roundAt boundShaped boundOf marksShaped marksOf operationOf stageOf heardOf stampAt recordLength inRange roundRules standingRules openRules every heardCount slotsFit slotFits askIn isHeard
 owed-so = record { is = refl }
 
 no-round : polledOver (planOf y) (sessionOf session-1) desk unpolled (below two-calls) .rounds ≡ []
-unfolding below y session-1 nothing-held desk polls noneOf planOk countsOk limitsOk columnOf all planOf planShaped planAt memberOf clientsOf num numFrom part sessionOf sessionShaped sessionAt roundAt boundShaped boundOf marksShaped marksOf operationOf stageOf heardOf stampAt recordLength lengthsOk inRange standingRules openRules every heardCount slotsFit slotFits goodReply goodFrame suits shaped forParty oneOf bodyFits awaited askNow awaitsKind isHeard be beOnto bears
+unfolding below y session-1 nothing-held desk polls noneOf planOk countsOk limitsOk columnOf all planOf planShaped planAt memberOf clientsOf num numFrom part sessionOf sessionShaped sessionAt roundAt boundShaped boundOf marksShaped marksOf operationOf stageOf heardOf stampAt recordLength lengthsOk inRange roundRules standingRules openRules every heardCount slotsFit slotFits goodReply goodFrame suits shaped forParty oneOf bodyFits awaited askIn awaitsIn isHeard be beOnto bears
 no-round = refl
 
 abbrev at : Session

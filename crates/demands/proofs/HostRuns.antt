@@ -13,8 +13,8 @@ use mathlib.Core.List.{List, _∷_}
 use lib.ListN.{length}
 use Rattle.octets.specs.Bytes.{Octets}
 use Rattle.terms.specs.Terms.{recordLength}
-use Rattle.session.specs.declared.Operation.{Operation}
-use Rattle.session.specs.declared.Operation.the-variants.{Write, Read}
+use Rattle.standing.specs.declared.Operation.{Operation}
+use Rattle.standing.specs.declared.Operation.the-variants.{Write, Read}
 use Rattle.session.specs.declared.Session.{Session}
 use Rattle.session.specs.Session.{askNow}
 use Rattle.session.specs.Owed.{owedLadder, dueOf}

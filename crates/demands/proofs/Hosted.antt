@@ -14,8 +14,8 @@ use Rattle.octets.specs.Bytes.{Octets}
 use Rattle.terms.specs.Terms.{planOk}
 use Rattle.terms.specs.declared.Plan.{Plan}
 use Rattle.terms.proofs.Rungs.{clash}
-use Rattle.session.specs.declared.Operation.{Operation}
-use Rattle.session.specs.declared.Operation.the-variants.{Write, Read}
+use Rattle.standing.specs.declared.Operation.{Operation}
+use Rattle.standing.specs.declared.Operation.the-variants.{Write, Read}
 use Rattle.session.specs.declared.Session.{Session}
 use Rattle.session.specs.declared.owed.Owed.{Owed}
 use Rattle.session.specs.Owed.{owedTo, OwedCall}

@@ -20,7 +20,7 @@ use lib.ListN.{length}
 use Rattle.octets.specs.Bytes.{Octets}
 use Rattle.session.specs.declared.opening.Opened.{Opened}
 use Rattle.session.specs.declared.opening.Opening.the-variants.{Accepted}
-use Rattle.session.specs.declared.Operation.{Operation}
+use Rattle.standing.specs.declared.Operation.{Operation}
 use Rattle.session.specs.declared.Session.{Session}
 use Rattle.session.specs.Opening.{OpenCall}
 use Rattle.session.specs.Owed.{Due}

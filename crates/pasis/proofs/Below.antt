@@ -21,9 +21,10 @@ use Rattle.terms.proofs.Ladders.{by-ladder, is-passed}
 use Rattle.terms.proofs.Picks.{either}
 use Rattle.terms.proofs.Rungs as rungs
 use Rattle.rounds.specs.declared.Bound.the-variants.{Free}
-use Rattle.session.specs.declared.Operation.{Operation}
+use Rattle.standing.specs.declared.Operation.{Operation}
 use Rattle.session.specs.declared.Session.{Session}
-use Rattle.session.specs.Session.{isRead, Said, saidOf, isRefused}
+use Rattle.standing.specs.Standing.{isRead}
+use Rattle.session.specs.Session.{Said, saidOf, isRefused}
 use Rattle.session.specs.Opening.{openingLadder, freshOf, noSession, Opens, opens, openWith}
 use Rattle.session.specs.declared.owed.Owed.{Owed}
 use Rattle.session.specs.declared.owed.Owed.the-variants.{Refused, Request}

@@ -45,9 +45,10 @@ use Rattle.recover.specs.Recover.{sound, decoded, collected, repaired}
 use Rattle.session.specs.declared.Answer.{Answer}
 use Rattle.session.specs.declared.Answer.the-variants as answers
 use Rattle.session.specs.declared.Session.{Session}
-use Rattle.session.specs.declared.Operation.{Operation}
-use Rattle.session.specs.declared.Operation.the-variants.{Write}
-use Rattle.session.specs.Session.{isRead, isAsking, isStoring, markedOf, endedOf, nextOf, storingOf, refused, stillOpen, roundsSpent, roundOpen, saidOf, isRefused}
+use Rattle.standing.specs.declared.Operation.{Operation}
+use Rattle.standing.specs.declared.Operation.the-variants.{Write}
+use Rattle.standing.specs.Standing.{isRead, isAsking, isStoring}
+use Rattle.session.specs.Session.{markedOf, endedOf, nextOf, storingOf, refused, stillOpen, roundsSpent, roundOpen, saidOf, isRefused}
 use Rattle.session.specs.Opening.{freshOf}
 use Rattle.session.specs.Ranges.{inRange}
 use Rattle.session.specs.Reply.{bears, replyLadder, readLadder}

@@ -3,20 +3,27 @@
 -- clock spent. An ending is 42 bytes: timestamp 40, rounds 2.
 --   madeNumber servedNumber dueNumber answerNumber   an answer as a number
 --   endingBytes endingAfter   the ending bytes; written at an ending only
+--   refusals refusalAt endingOf answerOf   the answer that a number and ending bytes are
 --   bothFit lentLadder        1 and 2 of the lengths, before the call's own order
 -- Assumes nothing.
-use Prim.Native.Nat.{ℕ}
-use mathlib.Core.Bool.{Bool, not}
+use Prim.Native.Nat.{ℕ, _-_}
+use mathlib.Core.Bool.{Bool, cond, not}
 use mathlib.Core.List.{List, [], _∷_, _++_}
-use lib.Dec.{eqb}
-use Rattle.octets.specs.Bytes.{be}
+use lib.Dec.{leb, eqb}
+use lib.ListN.{getD}
+use Rattle.octets.specs.Bytes.{part, num, be}
 use Rattle.terms.specs.Ladder.{Rung, on, _and_}
-use Rattle.terms.specs.Stamp.{stampNumber}
+use Rattle.terms.specs.Stamp.{stampNumber, stampAt}
 use Rattle.terms.specs.Terms.{planOk}
 use Rattle.terms.specs.declared.Plan.{Plan}
+use Rattle.terms.specs.declared.Refusal.{Refusal}
+use Rattle.terms.specs.declared.Refusal.the-variants.{OutsidePlan, WrongLength, WrongBook, WrongFrame, TimeZero, HashFails, OtherBytes, NoRoom, OutOfRange, NotAwaited, AlreadyHeard, NotBelow, AskTooHigh, HasEnded}
+use Rattle.terms.specs.declared.Timestamp.{Timestamp}
 use Rattle.node.specs.Fresh as fresh
 use Rattle.node.specs.Fresh.{SaidMade}
 use Rattle.node.specs.Node as node
+use Rattle.session.specs.declared.Answer.{Answer}
+use Rattle.session.specs.declared.Answer.the-variants.{Refused, Open, Done, NeverWritten, Aborted, RoundsSpent, ClockSpent}
 use Rattle.session.specs.Session.{Said, refused, stillOpen, done, neverWritten, aborted, roundsSpent, clockSpent}
 use Rattle.session.specs.Owed as owed
 use Rattle.session.specs.Owed.{Due}
@@ -56,6 +63,21 @@ endingAfter (neverWritten n) old = endingBytes 0 n
 endingAfter (aborted n) old = endingBytes 0 n
 endingAfter (roundsSpent n) old = endingBytes 0 n
 endingAfter clockSpent old = endingBytes 0 0
+
+-- ---- read back
+-- in the order of their numbers
+abbrev pub refusals : List Refusal
+refusals =
+    OutsidePlan ∷ WrongLength ∷ WrongBook ∷ WrongFrame ∷ TimeZero ∷ HashFails ∷ OtherBytes ∷ NoRoom ∷ OutOfRange ∷ NotAwaited ∷ AlreadyHeard ∷ NotBelow ∷ AskTooHigh ∷ HasEnded ∷ []
+
+abbrev pub refusalAt : ℕ → Refusal
+refusalAt k = getD refusals (k - 1) HasEnded
+
+abbrev pub endingOf : ℕ → Timestamp → ℕ → Answer
+endingOf k t n = cond (eqb k 101) (Done t n) (cond (eqb k 102) (NeverWritten n) (cond (eqb k 103) (Aborted n) (cond (eqb k 104) (RoundsSpent n) ClockSpent)))
+
+unfoldable pub answerOf : ℕ → List ℕ → Answer
+answerOf k e = cond (eqb k 0) Open (cond (leb k 100) (Refused (refusalAt k)) (endingOf k (stampAt e 0) (num (part e 40 2))))
 
 -- ---- lengths
 -- a session or an ending of a wrong length is 2

@@ -5,3 +5,6 @@ pub mod Demand1
 pub mod Refusals
 pub mod Demand2
 pub mod Demand3
+pub mod Hosted
+pub mod HostRuns
+pub mod HostInstances

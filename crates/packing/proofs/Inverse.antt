@@ -1,19 +1,21 @@
 -- Packing and unpacking are inverse. Of plans: plan-again (bytes that code a plan), plan-back (every accepted plan), no-plan (bytes that
 -- code none are outside the rules). Of sessions: session-again (bytes that code a session), session-back (every session whose numbers have
--- the widths of their fields), no-session (bytes that code none are in no range). Assumes nothing.
+-- the widths of their fields), no-session (bytes that code none are in no range). What is read from bytes has its width: field-small, wide-at.
+-- Assumes nothing.
 use Prim.{Unit, tt}
 use Prim.Native.Nat.{ℕ, zero, suc, _+_, _≤_, _<_, _^_}
 use mathlib.Core.Path.{_≡_, refl, sym, ap, _∙_}
 use mathlib.Core.Bool.{Bool, true, false, cond}
 use mathlib.Core.List.{List, [], _∷_, _++_, append-assoc, append-nil}
+use native.Mathlib.Nat.{lt-of-lt-of-le, pow-le-pow-right, min-le-left}
 use native.Mathlib.Omega.{arith}
 use borrow.Author.Tests.{le-leb, leb-true, eq-eqb, eqb-true}
-use lib.ListN.{length, take, drop, length-append}
+use lib.ListN.{length, take, drop, length-append, length-take}
 use lib.Seq.{take-at, take-all, drop-at, drop-drop}
 use lib.Dec.{leb, eqb, lit<}
 use Rattle.octets.specs.Bytes.{part, num, be, Octets}
 use Rattle.octets.proofs.Laws.{length-be, part-all}
-use Rattle.octets.proofs.Meaning.{num-be, be-part, part-add}
+use Rattle.octets.proofs.Meaning.{num-be, num-small, bytes-part, bytes-all, be-part, part-add}
 use Rattle.terms.specs.Ladder.{all}
 use Rattle.terms.specs.Terms.{planOk, countsOk}
 use Rattle.terms.specs.Stamp.{stampNumber, stampAt}
@@ -46,7 +48,7 @@ use Rattle.packing.proofs.Laws.{length-marks, length-session, plan-leng
 
 -- ---- fields that follow one another
 -- a number that was laid out is read back, and what follows it
-cut : (x : List ℕ) (at n to v : ℕ) (z : List ℕ) → at + n ≡ to → drop at x ≡ be n v ++ z → v < 256 ^ n → (field x at n ≡ v) × (drop to x ≡ z)
+pub cut : (x : List ℕ) (at n to v : ℕ) (z : List ℕ) → at + n ≡ to → drop at x ≡ be n v ++ z → v < 256 ^ n → (field x at n ≡ v) × (drop to x ≡ z)
 unfolding part
 cut x at n to v z k e h = (
   ap (λ (l : List ℕ). num (take n l)) e ∙ ap num (take-at (be n v) z n (length-be n v)) ∙ num-be n v h,
@@ -64,7 +66,23 @@ pub record Wide (t : Timestamp) : Type 0 where
   pub first : t .verifier .0 < 256 ^ 8
   pub rest : Words (t .verifier)
 
-cut-stamp : (x : List ℕ) (at : ℕ) (t : Timestamp) (z : List ℕ) → drop at x ≡ be 40 (stampNumber t) ++ z → Wide t → (stampAt x at ≡ t) × (drop (at + 40) x ≡ z)
+-- as is what was read from bytes
+pub field-small : (x : List ℕ) (at n : ℕ) → Octets x → field x at n < 256 ^ n
+unfolding part
+field-small x at n o =
+    lt-of-lt-of-le (num-small (part x at n) (bytes-part x at n (bytes-all x o)))
+    (pow-le-pow-right (lit< tt) (omega (arith, length-take n (drop at x), min-le-left n (length (drop at x)))))
+
+pub wide-at : (x : List ℕ) (at : ℕ) → Octets x → Wide (stampAt x at)
+unfolding stampAt
+wide-at x at o =
+    record {
+      time = field-small x at 8 o;
+      first = field-small x (at + 8) 8 o;
+      rest = record { w1 = field-small x (at + 16) 8 o; w2 = field-small x (at + 24) 8 o; w3 = field-small x (at + 32) 8 o };
+    }
+
+pub cut-stamp : (x : List ℕ) (at : ℕ) (t : Timestamp) (z : List ℕ) → drop at x ≡ be 40 (stampNumber t) ++ z → Wide t → (stampAt x at ≡ t) × (drop (at + 40) x ≡ z)
 unfolding stampAt
 cut-stamp x at t z e w =
     let v = t .verifier in

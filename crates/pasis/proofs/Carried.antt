@@ -1,108 +1,328 @@
--- Packing cuts nothing off a session that a call hands back. Its numbers have the widths of their fields by their types, but for the round,
--- a u64 in 2 bytes: a writer's stays as it was (write-round), a reader's stays below 2^16 (read-round). Assumes nothing.
-use Prim.Native.Nat.{ℕ, _<_}
-use mathlib.Core.Path.{_≡_, refl}
+-- Packing cuts nothing off what a call hands back: every number of the session has the width of its field, and so have the timestamp and the
+-- rounds of an answer. It is so of an accepted opening (opened-lasts), and a reply keeps it (write-carried, read-carried). So an answer is read
+-- back from its number and its ending (answer-back); a session that fits its bytes is (session-back of packing).
+--   Lasts         a session that fits its 117 bytes; in a read round its desk is bytes, of which the next timestamp is read
+--   WideAnswer    an answer that fits its number and its 42 bytes
+--   Carried       what a call leaves of a session: such a session and such an answer, and the same session at a refusal
+-- Assumes nothing.
+use Prim.{Unit, tt}
+use Prim.Native.Nat.{ℕ, zero, suc, _+_, _*_, _/_, _%_, _<_, _^_}
+use mathlib.Core.Path.{_≡_, refl, sym, ap, _∙_}
 use mathlib.Core.Bool.{Bool, true, false, cond}
-use mathlib.Core.List.{List}
+use mathlib.Core.List.{List, [], _∷_, _++_, append-nil}
+use native.Mathlib.Nat.{mod-lt}
 use native.Mathlib.Omega.{arith}
-use borrow.Author.Tests.{leb-false}
-use lib.ListN.{length}
-use lib.Dec.{leb, eqb}
-use Rattle.terms.specs.Ladder.{first}
-use Rattle.terms.specs.Terms.{planOk}
-use Rattle.terms.proofs.Picks.{either}
-use Rattle.terms.specs.Stamp.{time, top}
+use borrow.Author.Tests.{leb-true, leb-false, eqb-true, ne-eqb, not-false}
+use lib.ListN.{length, length-set}
+use lib.Dec.{leb, eqb, ltb, lit<}
+use Rattle.octets.specs.Bytes.{be, beOnto, put, Octets}
+use Rattle.octets.proofs.Meaning.{octets-all, octets-append, octets-drop, octets-put}
+use Rattle.sha256.specs.declared.State.{State}
+use Rattle.sha256.specs.Sha256.{sha256, bytesOf}
+use Rattle.terms.specs.Ladder.{Rung, on, rung, Given, None, _and_}
+use Rattle.terms.specs.Terms.{planOk, openingOk, recordLength, slotsOf, slotAt, thresholdsOf, refusalNumber}
+use Rattle.terms.specs.Stamp.{stampAt, stampNumber, zeroStamp, time, top}
 use Rattle.terms.specs.declared.Plan.{Plan}
+use Rattle.terms.specs.declared.Refusal.{Refusal}
 use Rattle.terms.specs.declared.Timestamp.{Timestamp}
 use Rattle.terms.specs.declared.Verdict.{Verdict}
 use Rattle.terms.specs.declared.Verdict.the-variants.{Complete, Repair, Aborted, Incomplete}
+use Rattle.terms.proofs.Down.{clear}
+use Rattle.terms.proofs.Ladders.{by-ladder}
+use Rattle.terms.proofs.Picks.{either}
 use Rattle.terms.proofs.Plans.{plan-is}
-use Rattle.frame.specs.Frame.{frameNode, bodyOf}
+use Rattle.terms.proofs.Rungs.{both, clash, refusal-one}
+use Rattle.terms.proofs.Stamps.{zero-number}
+use Rattle.frame.specs.Frame.{frameNode, bodyOf, headBytes, versionOf}
+use Rattle.rounds.specs.declared.Bound.the-variants.{Free}
+use Rattle.rounds.specs.declared.Heard.{Heard}
 use Rattle.rounds.specs.declared.Heard.the-variants.{First, Record}
 use Rattle.rounds.specs.declared.Lead.{Lead}
 use Rattle.rounds.specs.declared.Lead.the-variants.{Nobody, Node}
-use Rattle.rounds.specs.Rounds.{Closed}
+use Rattle.rounds.specs.Rounds.{Closed, leadOf, closeWith}
+use Rattle.recover.specs.Records.{crossFor, stampFor, recordsFor}
+use Rattle.recover.specs.Recover.{sound, decoded, collected, repaired}
+use Rattle.session.specs.declared.Answer.{Answer}
+use Rattle.session.specs.declared.Answer.the-variants as answers
 use Rattle.session.specs.declared.Session.{Session}
-use Rattle.standing.specs.declared.Operation.the-variants.{Write, Read}
-use Rattle.standing.specs.Standing.{isStoring}
-use Rattle.session.specs.Session.{markedOf, endedOf, nextOf, refused, stillOpen, roundsSpent, roundOpen}
-use Rattle.session.specs.Reply.{bears, replyLadder, recordLadder}
-use Rattle.recover.specs.Recover.{sound}
+use Rattle.standing.specs.declared.Operation.{Operation}
+use Rattle.standing.specs.declared.Operation.the-variants.{Write}
+use Rattle.standing.specs.Standing.{isRead, isAsking, isStoring}
+use Rattle.session.specs.Session.{markedOf, endedOf, nextOf, storingOf, refused, stillOpen, roundsSpent, roundOpen, saidOf, isRefused}
+use Rattle.session.specs.Opening.{freshOf}
+use Rattle.session.specs.Ranges.{inRange}
+use Rattle.session.specs.Reply.{bears, replyLadder, readLadder}
 use Rattle.session.specs.Reader.{Outcome, outcome, failing, actOn, actFor, closed, settled, heard, stored, accepted, readReply}
-use Rattle.session.specs.Writer.{Leaves, leaves, timedOf, timeEnd, timeTurn, writeTurn, acceptedWrite, writeReply}
-use Rattle.session.proofs.Checks.{outcome-all}
+use Rattle.session.specs.Writer.{Leaves, leaves, timedOf, newTime, timeEnd, timeTurn, writeTurn, acceptedWrite, writeReply}
+use Rattle.session.proofs.ReadKept.{asking}
+use Rattle.packing.specs.PlanBytes.{field}
+use Rattle.packing.proofs.Inverse.{Wide, Fits, wide-at, field-small, cut, cut-stamp}
+use Rattle.answers.specs.Answers.{refusalAt, answerNumber, endingBytes, endingAfter, answerOf}
+use Rattle.pasis.specs.Client.{withItem}
+
+never : {A : Type 0} → false ≡ true → A
+never z = absurd (clash (sym z))
+
+-- ---- what is kept
+pub record Lasts (s : Session) (d : List ℕ) : Type 0 where
+  pub fits : Fits s
+  pub desk : isAsking (s .round .stage) ≡ true → isRead (s .operation) ≡ true → Octets d
+
+-- one of the document's refusals
+abbrev isRefusal : ℕ → Bool
+isRefusal k = eqb (refusalNumber (refusalAt k)) k and (leb 1 k and leb k 100)
+
+abbrev pub WideAnswer : Answer → Type 0
+WideAnswer (answers.Refused r) = isRefusal (refusalNumber r) ≡ true
+WideAnswer answers.Open = Unit {0}
+WideAnswer (answers.Done t n) = Wide t × (n < 256 ^ 2)
+WideAnswer (answers.NeverWritten n) = n < 256 ^ 2
+WideAnswer (answers.Aborted n) = n < 256 ^ 2
+WideAnswer (answers.RoundsSpent n) = n < 256 ^ 2
+WideAnswer answers.ClockSpent = Unit {0}
+
+pub record Carried (s : Session) (o : Outcome) : Type 0 where
+  pub lasts : Lasts (o .session) (o .desk)
+  pub answer : Answer
+  pub said : saidOf answer ≡ o .said
+  pub wide : WideAnswer answer
+  pub stays : isRefused (o .said) ≡ true → o .session ≡ s
+
+-- ---- sessions with one field set
+module _ (s : Session) (w : Fits s) where
+  fits-marked : (n : ℕ) (h : Heard) → Fits (markedOf s n h)
+  fits-marked n h =
+      record {
+        round = w .round;
+        bound = w .bound;
+        opening = w .opening;
+        greatest = w .greatest;
+        stamp = w .stamp;
+        marks = length-set (s .marks) n (record { is = h }) ∙ w .marks;
+      }
+
+  fits-timed : (n t : ℕ) → t < 256 ^ 8 → Fits (timedOf s n t)
+  fits-timed n t h =
+      record {
+        round = w .round;
+        bound = w .bound;
+        opening = w .opening;
+        greatest = either (λ (x : ℕ). x < 256 ^ 8) (ltb (s .greatest .0) t) h (w .greatest);
+        stamp = w .stamp;
+        marks = length-set (s .marks) n (record { is = Record }) ∙ w .marks;
+      }
+
+  fits-ended : Fits (endedOf s)
+  fits-ended =
+      record { round = w .round; bound = w .bound; opening = w .opening; greatest = w .greatest; stamp = w .stamp; marks = w .marks }
+
+  fits-next : (t : Timestamp) → Wide t → s .round .number + 1 < 256 ^ 2 → Fits (nextOf s t)
+  fits-next t h k = record { round = k; bound = h; opening = w .opening; greatest = w .greatest; stamp = w .stamp; marks = refl }
+
+  fits-storing : (t : Timestamp) → Wide t → Fits (storingOf s t)
+  fits-storing t h = record { round = w .round; bound = w .bound; opening = w .opening; greatest = w .greatest; stamp = h; marks = refl }
+
+zero-wide : Wide zeroStamp
+zero-wide =
+    let z : 0 < 256 ^ 8 = lit< tt in
+    record { time = z; first = z; rest = record { w1 = z; w2 = z; w3 = z } }
+
+-- an accepted opening's: its ask number leaves room for W more
+pub opened-lasts : (op : Operation) (p : Plan) (a : ℕ) (d : List ℕ) → openingOk p a ≡ true → (isRead op ≡ true → Octets d)
+    → Lasts (freshOf op 1 Free (record { 0 = a })) d
+opened-lasts op p a d k o =
+    let h = leb-true (a + p .w) top k in
+    record {
+      fits = record { round = lit< tt; bound = tt; opening = omega arith; greatest = lit< tt; stamp = zero-wide; marks = refl };
+      desk = λ b. o;
+    }
+
+-- ---- timestamps: the one of a write, and a candidate's
+octets-be : (n x : ℕ) (s : List ℕ) → Octets s → Octets (beOnto n x s)
+unfolding beOnto
+octets-be zero x s o = o
+octets-be (suc n) x s o = octets-be n (x / 256) (x % 256 ∷ s) (octets-append (x % 256 ∷ []) s (octets-all (x % 256 ∷ []) (mod-lt x (lit< tt), tt)) o)
+
+word : {A : Type 0} (x : ℕ) → A → (x / 2 ^ 24 % 256 < 256) × ((x / 2 ^ 16 % 256 < 256) × ((x / 2 ^ 8 % 256 < 256) × ((x % 256 < 256) × A)))
+word x a = (mod-lt _ (lit< tt), (mod-lt _ (lit< tt), (mod-lt _ (lit< tt), (mod-lt _ (lit< tt), a))))
+
+octets-state : (h : State) → Octets (bytesOf h)
+octets-state h =
+    octets-all (bytesOf h) (word (h .a) (word (h .b) (word (h .c) (word (h .d) (word (h .e) (word (h .f) (word (h .g) (word (h .h) tt))))))))
+
+stamp-wide : (p : Plan) (t : ℕ) (i : List ℕ) → Wide (stampFor p t i)
+unfolding stampFor sha256 be
+stamp-wide p t i = wide-at _ 0 (octets-append (be 8 t) (sha256 (crossFor p i)) (octets-be 8 t [] (octets-all [] tt)) (octets-state _))
+
+close-wide : (p : Plan) (s : Session) (d : List ℕ) → Octets d → Wide (closed p s d .stamp)
+unfolding closeWith
+close-wide p s d o = go (leadOf (s .marks) d (slotsOf p) (p .n))
+  where
+    go : (l : Lead) → Wide (closeWith (s .marks) d (slotsOf p) (p .member) (thresholdsOf p) l .stamp)
+    go Nobody = zero-wide
+    go (Node a) = wide-at d (slotAt (slotsOf p) a) o
+
+body-small : (f : List ℕ) → Octets f → time (bodyOf f) < 256 ^ 8
+body-small f o = field-small (bodyOf f) 0 8 (octets-drop (headBytes (versionOf f)) f o)
+
+-- ---- answers
+-- every refusal of a ladder is one of the document's
+abbrev areRefusals : List Rung → Bool
+areRefusals [] = true
+areRefusals (x ∷ l) = isRefusal (x .number) and areRefusals l
+
+refusal-at : (b a : List Rung) (k : ℕ) → areRefusals (b ++ (on k true ∷ a)) ≡ true → isRefusal k ≡ true
+refusal-at [] a k e = both (isRefusal k) _ e .0
+refusal-at (x ∷ b) a k e = refusal-at b a k (both (isRefusal (x .number)) _ e .1)
+
+pub given-refusal : (l : List Rung) → areRefusals l ≡ true → (k : ℕ) → Given l k → (isRefusal k ≡ true) × (refusalNumber (refusalAt k) ≡ k)
+given-refusal l e k g =
+    let h : isRefusal k ≡ true = refusal-at (g .before) (g .after) k (ap areRefusals (sym (g .is)) ∙ e) in
+    (h, eqb-true (refusalNumber (refusalAt k)) k (both (eqb (refusalNumber (refusalAt k)) k) _ h .0))
+
+module _ (s : Session) where
+  refuses : (l : List Rung) → areRefusals l ≡ true → (d i : List ℕ) → Lasts s d → (k : ℕ) → Given l k → Carried s (outcome (refused k) s d i)
+  refuses l e d i w k g =
+      let q = given-refusal l e k g in
+      record { lasts = w; answer = answers.Refused (refusalAt k); said = ap refused (q .1); wide = ap isRefusal (q .1) ∙ q .0; stays = λ z. refl }
+
+  opens : (u : Session) (d i : List ℕ) → Lasts u d → Carried s (outcome stillOpen u d i)
+  opens u d i w = record { lasts = w; answer = answers.Open; said = refl; wide = tt; stays = never }
+
+  -- a write or repair round opens
+  stores : (u : Session) (t : Timestamp) (d i : List ℕ) → Fits u → Wide t → Carried s (outcome stillOpen (storingOf u t) d i)
+  stores u t d i w h = opens (storingOf u t) d i (record { fits = fits-storing u w t h; desk = never })
+
+  ends : (u : Session) (a : Answer) (d i : List ℕ) → isRefused (saidOf a) ≡ false → WideAnswer a → Fits u → Carried s (outcome (saidOf a) (endedOf u) d i)
+  ends u a d i e h w =
+      record { lasts = record { fits = fits-ended u w; desk = never }; answer = a; said = refl; wide = h; stays = λ z. never (sym e ∙ z) }
 
 -- ---- a writer's
-record Same (n : ℕ) (o : Leaves) : Type 0 where
-  same : o .session .round .number ≡ n
+module _ (p : Plan) (s : Session) (i : List ℕ) where
+  abbrev Leaving : Leaves → Type 0
+  Leaving x = Carried s (withItem x i)
 
-module _ (p : Plan) where
-  write-turn-same : (s : Session) (d : List ℕ) → Same (s .round .number) (writeTurn p s d)
-  unfolding writeTurn
-  write-turn-same s d = either (Same (s .round .number)) (roundOpen p s) (record { same = refl }) (record { same = refl })
+  module _ (u : Session) (d : List ℕ) (w : Lasts u d) where
+    write-turn : Leaving (writeTurn p u d)
+    unfolding writeTurn
+    write-turn =
+        either Leaving (roundOpen p u) (opens s u d i w)
+        (ends s u (answers.Done (u .stamp) 0) d i refl (w .fits .stamp, omega arith) (w .fits))
 
-  time-end-same : (s : Session) (d i : List ℕ) → Same (s .round .number) (timeEnd p s d i)
-  unfolding timeEnd
-  time-end-same s d i = either (Same (s .round .number)) (eqb (s .greatest .0) top) (record { same = refl }) (record { same = refl })
+    time-turn : Leaving (timeTurn p u d i)
+    unfolding timeTurn timeEnd
+    time-turn =
+        either Leaving (roundOpen p u) (opens s u d i w)
+        (either Leaving (eqb (u .greatest .0) top) (ends s u answers.ClockSpent d i refl tt (w .fits))
+        (stores s u (stampFor p (newTime (u .greatest .0)) i) (recordsFor p (newTime (u .greatest .0)) i) i (w .fits) (stamp-wide p (newTime (u .greatest .0)) i)))
 
-  time-turn-same : (s : Session) (d i : List ℕ) → Same (s .round .number) (timeTurn p s d i)
-  unfolding timeTurn
-  time-turn-same s d i = either (Same (s .round .number)) (roundOpen p s) (record { same = refl }) (time-end-same s d i)
-
-  accepted-same : (s : Session) (f d i : List ℕ) → Same (s .round .number) (acceptedWrite p s f d i)
-  unfolding acceptedWrite
-  accepted-same s f d i =
-      either (Same (s .round .number)) (isStoring (s .round .stage)) (write-turn-same (markedOf s (frameNode f) Record) d)
-      (time-turn-same (timedOf s (frameNode f) (time (bodyOf f))) d i)
-
-  pub write-round : (s : Session) (f d i : List ℕ) → writeReply p s f d i .session .round .number ≡ s .round .number
-  unfolding writeReply
-  write-round s f d i =
-      outcome-all (Same (s .round .number)) (replyLadder Write p s f d (length i)) (λ (k : ℕ). leaves (refused k) s d) (acceptedWrite p s f d i)
-      (λ k. record { same = refl }) (λ e. accepted-same s f d i) .same
+  pub write-carried : (f d : List ℕ) → Octets f → Lasts s d → Carried s (withItem (writeReply p s f d i) i)
+  unfolding writeReply acceptedWrite
+  write-carried f d o w =
+      by-ladder Leaving (replyLadder Write p s f d (length i)) (λ (k : ℕ). leaves (refused k) s d) (acceptedWrite p s f d i)
+      (refuses s (replyLadder Write p s f d (length i)) refl d i w)
+      (λ n. either Leaving (isStoring (s .round .stage)) (write-turn (markedOf s (frameNode f) Record) d (record { fits = fits-marked s (w .fits) (frameNode f) Record; desk = w .desk }))
+      (time-turn (timedOf s (frameNode f) (time (bodyOf f))) d (record { fits = fits-timed s (w .fits) (frameNode f) _ (body-small f o); desk = w .desk })))
 
 -- ---- a reader's
-record Low (o : Outcome) : Type 0 where
-  low : o .session .round .number < 65536
+module _ (p : Plan) (ok : planOk p ≡ true) (s₀ s : Session) (w : Fits s) (i : List ℕ) where
+  module _ (d : List ℕ) (o : Octets d) where
+    fails : (t : Timestamp) → Wide t → Carried s₀ (failing p s t d i)
+    unfolding failing
+    fails t h = go (leb (p .w) (s .round .number)) refl
+      where
+        go : (c : Bool) → leb (p .w) (s .round .number) ≡ c → Carried s₀ (cond c (outcome (roundsSpent (s .round .number)) (endedOf s) d i) (outcome stillOpen (nextOf s t) d i))
+        go true e = ends s₀ s (answers.RoundsSpent (s .round .number)) d i refl (w .round) w
+        go false e =
+            let k : s .round .number < p .w = leb-false (p .w) (s .round .number) e in
+            let q = plan-is p ok in
+            opens s₀ (nextOf s t) d i (record { fits = fits-next s w t h (omega arith); desk = λ a b. o })
 
-module _ (p : Plan) (ok : planOk p ≡ true) where
-  failing-low : (s : Session) (t : Timestamp) (d i : List ℕ) → s .round .number < 65536 → Low (failing p s t d i)
-  unfolding failing
-  failing-low s t d i h = go (leb (p .w) (s .round .number)) refl
+    acts : (v : Verdict) (c : Closed) (a : ℕ) → Wide (c .stamp) → Carried s₀ (actOn v p s c a d i)
+    unfolding actOn
+    acts Complete c a h =
+        either (Carried s₀) (sound p c a d) (ends s₀ s (answers.Done (c .stamp) (s .round .number)) d (decoded p c d i) refl (h, w .round) w) (fails (c .stamp) h)
+    acts Repair c a h = either (Carried s₀) (sound p c a d) (stores s₀ s (c .stamp) (repaired p c a d) i w h) (fails (c .stamp) h)
+    acts Aborted c a h = ends s₀ s (answers.Aborted (s .round .number)) d i refl (w .round) w
+    acts Incomplete c a h = fails (c .stamp) h
+
+    acts-for : (l : Lead) (c : Closed) → Wide (c .stamp) → Carried s₀ (actFor l p s c d i)
+    unfolding actFor
+    acts-for Nobody c h = ends s₀ s (answers.NeverWritten (s .round .number)) d i refl (w .round) w
+    acts-for (Node a) c h = acts (c .verdict) c a h
+
+    settles : Carried s₀ (settled p s d i)
+    unfolding settled
+    settles =
+        either (Carried s₀) (roundOpen p s) (opens s₀ s d i (record { fits = w; desk = λ a b. o }))
+        (acts-for (closed p s d .lead) (closed p s d) (close-wide p s d o))
+
+  rests : (d : List ℕ) → Lasts s d → Carried s₀ (stored p s d i)
+  unfolding stored
+  rests d l =
+      either (Carried s₀) (roundOpen p s) (opens s₀ s d i l)
+      (ends s₀ s (answers.Done (s .stamp) (s .round .number)) d (collected p d i) refl (w .stamp, w .round) w)
+
+module _ (p : Plan) (s : Session) (f d i : List ℕ) (o : Octets f) (w : Lasts s d) where
+  accepts : None (readLadder p s f d (length i)) → Carried s (accepted p s f d i)
+  unfolding accepted heard
+  accepts n = go (isStoring (s .round .stage)) refl
     where
-      go : (c : Bool) → leb (p .w) (s .round .number) ≡ c → Low (cond c (outcome (roundsSpent (s .round .number)) (endedOf s) d i) (outcome stillOpen (nextOf s t) d i))
-      go true e = record { low = h }
+      past : (k : ℕ) → rung k (readLadder p s f d (length i)) ≡ false
+      past = clear (readLadder p s f d (length i)) n
+
+      ok : planOk p ≡ true
+      ok = not-false (planOk p) (past 1)
+
+      reads : isRead (s .operation) ≡ true
+      reads = both (isRead (s .operation)) (inRange p s d) (not-false (isRead (s .operation) and inRange p s d) (past 9)) .0
+
+      marked : (h : Heard) → Fits (markedOf s (frameNode f) h)
+      marked = fits-marked s (w .fits) (frameNode f)
+
+      go : (c : Bool) → isStoring (s .round .stage) ≡ c → Carried s (cond c (stored p (markedOf s (frameNode f) Record) d i) (heard p s f d i))
+      go true e = rests p ok s (markedOf s (frameNode f) Record) (marked Record) i d (record { fits = marked Record; desk = w .desk })
       go false e =
-          let k : s .round .number < p .w = leb-false (p .w) (s .round .number) e in
-          let q = plan-is p ok in
-          record { low = omega arith }
+          let od : Octets d = w .desk (asking (s .round .stage) e (past 14)) reads in
+          either (Carried s) (bears p f)
+          (settles p ok s (markedOf s (frameNode f) Record) (marked Record) i (put d (frameNode f * recordLength p) (bodyOf f))
+          (octets-put d (frameNode f * recordLength p) (bodyOf f) od (octets-drop (headBytes (versionOf f)) f o)))
+          (settles p ok s (markedOf s (frameNode f) First) (marked First) i d od)
 
-  act-on-low : (v : Verdict) (s : Session) (c : Closed) (a : ℕ) (d i : List ℕ) → s .round .number < 65536 → Low (actOn v p s c a d i)
-  unfolding actOn
-  act-on-low Complete s c a d i h = either Low (sound p c a d) (record { low = h }) (failing-low s (c .stamp) d i h)
-  act-on-low Repair s c a d i h = either Low (sound p c a d) (record { low = h }) (failing-low s (c .stamp) d i h)
-  act-on-low Aborted s c a d i h = record { low = h }
-  act-on-low Incomplete s c a d i h = failing-low s (c .stamp) d i h
+  pub read-carried : Carried s (readReply p s f d i)
+  unfolding readReply
+  read-carried =
+      by-ladder (Carried s) (readLadder p s f d (length i)) (λ (k : ℕ). outcome (refused k) s d i) (accepted p s f d i)
+      (refuses s (readLadder p s f d (length i)) refl d i w) accepts
 
-  act-for-low : (l : Lead) (s : Session) (c : Closed) (d i : List ℕ) → s .round .number < 65536 → Low (actFor l p s c d i)
-  unfolding actFor
-  act-for-low Nobody s c d i h = record { low = h }
-  act-for-low (Node a) s c d i h = act-on-low (c .verdict) s c a d i h
+-- ---- read back
+-- an ending's timestamp and rounds
+ending-back : (t : Timestamp) (n : ℕ) → Wide t → n < 256 ^ 2 → (stampAt (endingBytes (stampNumber t) n) 0 ≡ t) × (field (endingBytes (stampNumber t) n) 40 2 ≡ n)
+unfolding endingBytes
+ending-back t n h k =
+    let x : List ℕ = be 40 (stampNumber t) ++ be 2 n in
+    let c = cut-stamp x 0 t (be 2 n) refl h in
+    (c .0, cut x 40 2 42 n [] refl (c .1 ∙ sym (append-nil (be 2 n))) k .0)
 
-  settled-low : (s : Session) (d i : List ℕ) → s .round .number < 65536 → Low (settled p s d i)
-  unfolding settled
-  settled-low s d i h = either Low (roundOpen p s) (record { low = h }) (act-for-low (closed p s d .lead) s (closed p s d) d i h)
+rounds-back : (n : ℕ) → n < 256 ^ 2 → field (endingBytes 0 n) 40 2 ≡ n
+rounds-back n k = ap (λ (t : ℕ). field (endingBytes t n) 40 2) (sym zero-number) ∙ ending-back zeroStamp n zero-wide k .1
 
-  accepted-low : (s : Session) (f d i : List ℕ) → s .round .number < 65536 → Low (accepted p s f d i)
-  unfolding accepted stored heard
-  accepted-low s f d i h =
-      either Low (isStoring (s .round .stage))
-      (either Low (roundOpen p (markedOf s (frameNode f) Record)) (record { low = h }) (record { low = h }))
-      (either Low (bears p f) (settled-low (markedOf s (frameNode f) Record) _ i h) (settled-low (markedOf s (frameNode f) First) d i h))
+refusal-back : (r : Refusal) (e : List ℕ) → isRefusal (refusalNumber r) ≡ true → answerOf (refusalNumber r) e ≡ answers.Refused r
+unfolding answerOf
+refusal-back r e h =
+    let k = refusalNumber r in
+    let q = both (eqb (refusalNumber (refusalAt k)) k) _ h in
+    let l = both (leb 1 k) (leb k 100) (q .1) in
+    let one = leb-true 1 k (l .0) in
+    rw (ne-eqb k 0 (λ z. omega arith), l .1) (ap answers.Refused (refusal-one (refusalAt k) r (eqb-true (refusalNumber (refusalAt k)) k (q .0))))
 
-  pub read-round : (s : Session) (f d i : List ℕ) → s .round .number < 65536 → readReply p s f d i .session .round .number < 65536
-  unfolding readReply first
-  read-round s f d i h =
-      outcome-all Low (replyLadder Read p s f d (length i)) (λ (k : ℕ). outcome (refused k) s d i) _ (λ k. record { low = h })
-      (λ e. outcome-all Low (recordLadder p s f) (λ (k : ℕ). outcome (refused k) s d i) (accepted p s f d i) (λ k. record { low = h })
-      (λ g. accepted-low s f d i h)) .low
+-- an answer is read back from its number and its ending
+pub answer-back : (a : Answer) → WideAnswer a → (e : List ℕ) → answerOf (answerNumber (saidOf a)) (endingAfter (saidOf a) e) ≡ a
+unfolding answerOf endingAfter
+answer-back (answers.Refused r) h e = refusal-back r e h
+answer-back answers.Open h e = refl
+answer-back (answers.Done t n) h e = let q = ending-back t n (h .0) (h .1) in λ j. answers.Done (q .0 j) (q .1 j)
+answer-back (answers.NeverWritten n) h e = ap answers.NeverWritten (rounds-back n h)
+answer-back (answers.Aborted n) h e = ap answers.Aborted (rounds-back n h)
+answer-back (answers.RoundsSpent n) h e = ap answers.RoundsSpent (rounds-back n h)
+answer-back answers.ClockSpent h e = refl

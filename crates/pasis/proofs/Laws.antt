@@ -79,9 +79,14 @@ module _ {A : Type 0} (x : List ℕ) (fits : Bool) (k : ℕ) (l : Lent x fits k)
 pub lent-fits : (x : List ℕ) (fits : Bool) (k : ℕ) → Lent x fits k → k ≡ 0 → fits ≡ true
 lent-fits x fits k l e = not-false fits (none-applies (lentLadder (planOf x) fits) refl (l .came ∙ e) .1 .0)
 
-pub both-are : (s e : ℕ) → bothFit s e ≡ true → (s ≡ 117) × (e ≡ 42)
+both-are : (s e : ℕ) → bothFit s e ≡ true → (s ≡ 117) × (e ≡ 42)
 unfolding bothFit
 both-are s e h = let q = both (eqb s 117) (eqb e 42) h in (eqb-true s 117 (q .0), eqb-true e 42 (q .1))
+
+-- where it passes, session and ending have their lengths
+pub both-lent : (x : List ℕ) (s e : ℕ) (p : Plan) (b : Bool) (k : ℕ) → p ≡ planOf x → b ≡ bothFit s e → k ≡ first (lentLadder p b) (λ (j : ℕ). j) 0 → k ≡ 0
+    → (s ≡ 117) × (e ≡ 42)
+both-lent x s e p b k f g h z = both-are s e (lent-fits x _ k (lent-both x s e p b k f g h) z)
 
 -- ---- opening
 pub told : (op o : Operation) (p : Plan) (a : ℕ) (r : Opened) → op ≡ o → OpenCall o p (record { 0 = a }) r → OpenCall op p (record { 0 = a }) r

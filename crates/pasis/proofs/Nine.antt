@@ -25,7 +25,7 @@ use Rattle.answers.specs.Answers.{bothFit, endingAfter, lentLadder}
 use Rattle.pasis.specs.Client.{sessionFits, sessionAfter, asked, askedAs, owedBytes, tookBytes, tookAs, withItem, writeBytes, readBytes}
 
 -- 1 and 2 of the lengths of session and ending do not apply
-lent-none : {A : Type 0} (p : Plan) (fits : Bool) (refuse : ℕ → A) (pass : A) {z : A} → planOk p ≡ true → fits ≡ true → z ≡ pass
+pub lent-none : {A : Type 0} (p : Plan) (fits : Bool) (refuse : ℕ → A) (pass : A) {z : A} → planOk p ≡ true → fits ≡ true → z ≡ pass
     → z ≡ first (lentLadder p fits) refuse pass
 lent-none p fits refuse pass k f e = rungs.go-on 1 _ refuse pass (ap not k) (rungs.go-on 2 _ refuse pass (ap not f) (rungs.passed refuse pass e))
 

@@ -8,4 +8,4 @@ write-ending-spec =
     tie.close
     (tie.spec
     (λ c κs. search needs) (λ c κs. search needs) (λ c. search needs)
-    (λ c. laws.ending-put _ _ _ _ _ (c .before .before .before .before .before .before .before .before .before .pre) (c .before .before .before .before .before .before .put-stamp .ensures) (c .before .before .put-num .ensures)))
+    (λ c. let z = c .before .before .before .before .before .before in laws.ending-put _ _ _ _ _ (z .before .before .before .pre) (z .put-stamp .ensures) (c .before .before .put-num .ensures)))

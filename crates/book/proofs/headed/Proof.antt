@@ -35,7 +35,8 @@ headed-spec =
     (λ c κs. search needs)
     (λ c. laws.head-no _ _ _ _ (λ i. c .if3 .taken (c .before .get2 .ensures .0 ∙ i .nodes)))
     (λ c.
-    let z = c .before .before .before .before .before .before .before .before .before .before .before in
+    let y = c .before .before .before .before in
+    let z = y .before .before .before .before .before .before .before in
     let n = laws.node-of (z .args .p) (z .args .book .now) (z .args .k) (z .pre .1) in
     laws.head-no _ _ _ _ (λ i. let h = i .node in let t = c .if4 .taken in omega arith))
     (λ c κs. search needs)

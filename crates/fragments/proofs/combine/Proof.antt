@@ -50,23 +50,16 @@ combine-spec =
     (l .inv .2 .same, omega arith, λ j h. blend-start (a .qs .now) (a .x) _ _ (l .inv .2 .done j (omega arith))))
     (λ c. search needs) (λ c κs. search needs)
     (λ c. omega (arith, c .before .shared-slice-known3 .given (c .before .before .before .loop2 .k)))
-    (λ c.
-    let k = c .before .before .before .loop2 .k in
-    omega (arith, c .before .before .before .before .before .before .before .before .before .pre .0 k (omega arith)))
-    (λ c.
-    let k = c .before .before .before .loop2 .k in
-    omega (arith, c .before .before .before .before .before .before .before .before .before .pre .0 k (omega arith)))
-    (λ c.
-    let k = c .before .before .before .loop2 .k in
-    omega (arith, c .before .before .before .before .before .before .before .before .before .pre .0 k (omega arith)))
+    (λ c. let l = c .before .before .before in omega (arith, l .before .before .before .before .before .before .pre .0 (l .loop2 .k) (omega arith)))
+    (λ c. let l = c .before .before .before in omega (arith, l .before .before .before .before .before .before .pre .0 (l .loop2 .k) (omega arith)))
+    (λ c. let l = c .before .before .before in omega (arith, l .before .before .before .before .before .before .pre .0 (l .loop2 .k) (omega arith)))
     (λ c. search needs) (λ c. search needs)
-    (λ c.
-    let k = c .before .before .before .before .loop2 .k in
-    omega (arith, c .before .before .before .before .before .before .before .before .before .before .pre .0 k (omega arith)))
+    (λ c. let l = c .before .before .before .before in omega (arith, l .before .before .before .before .before .before .pre .0 (l .loop2 .k) (omega arith)))
     (λ c κs. search needs) (λ c. search needs) (λ c. search needs)
     (λ c.
-    let l = c .before .before .before .before .before .before .before .before .loop2 in
-    let a = c .before .before .before .before .before .before .before .before .before .before .before .before .before .before .args in
+    let z = c .before .before .before .before .before .before .before .before in
+    let l = z .loop2 in
+    let a = z .before .before .before .before .before .before .args in
     let p = getD (a .qs .now) (l .k) 0 in
     let h : l .k < length (a .qs .now) = omega arith in (
       omega arith,

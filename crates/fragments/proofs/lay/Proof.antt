@@ -34,14 +34,15 @@ lay-spec =
     (e .pre .0, part-length (fragmentAt (e .args .to) (l .loop .k)) (e .args .to .fragment) (l .loop .out) (omega (arith, h)) ∙ sym (e .pre .1)))
     (λ c. omega arith) (λ c. omega arith)
     (λ c.
-    let l = c .before .before .before .before .before .before .before .before .before in
+    let r = c .before .before in
+    let l = r .before .before .before .before .before .before .before in
     let e = l .before .before .before .before in
     let a = e .args in
     let at = fragmentAt (a .to) (l .loop .k) in (
       omega arith,
       search needs,
       laid-more (a .src .now) (a .s) (a .qs .now) (a .to) (l .loop .k) (at + a .to .fragment - at) (a .out .now) (l .loop .out) _ (e .pre .0) (e .pre .1) (omega arith)
-          (l .loop .inv .2) (c .before .before .regenerate .ensures),
+          (l .loop .inv .2) (r .regenerate .ensures),
     ))
     (λ c. c .before .before .loop .inv .1)
     (λ c.

@@ -6,12 +6,14 @@ use Rattle.packing.proofs.plan_at.Tie as tie
 
 returns : tie.Need-returns
 unfolding planAt
-returns c = let n = c .before .before .before .before .before .before .before .before .before .before .get .ensures .0 in
-    let t = c .before .before .before .before .before .before .before .before .before .get2 .ensures .0 in
-    let b = c .before .before .before .before .before .before .before .before .get3 .ensures .0 in
-    let q = c .before .before .before .before .before .before .before .get4 .ensures .0 in
-    let m = c .before .before .before .before .before .before .get5 .ensures .0 in
-    let f = c .before .before .before .before .before .get6 .ensures .0 in
+returns c =
+    let z = c .before .before .before .before .before in
+    let n = z .before .before .before .before .before .get .ensures .0 in
+    let t = z .before .before .before .before .get2 .ensures .0 in
+    let b = z .before .before .before .get3 .ensures .0 in
+    let q = z .before .before .get4 .ensures .0 in
+    let m = z .before .get5 .ensures .0 in
+    let f = z .get6 .ensures .0 in
     let member = c .before .before .before .member-of .ensures ∙ ap memberOf (c .before .before .before .before .get7 .ensures .0) in
     let clients = c .before .clients-of .ensures ∙ ap clientsOf (c .before .before .get8 .ensures .0) in
     let w = c .get9 .ensures .0 in

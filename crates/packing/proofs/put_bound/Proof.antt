@@ -9,4 +9,4 @@ put-bound-spec =
     tie.close
     (tie.spec
     (λ c κs. search needs) (λ c κs. search needs) (λ c. search needs)
-    (λ c. laws.bound-put _ _ _ _ (c .before .before .before .before .before .before .before .before .before .args .t) (omega arith) (c .before .before .before .before .before .before .put-num .ensures) (c .before .before .put-stamp .ensures)))
+    (λ c. let z = c .before .before .before .before .before .before in laws.bound-put _ _ _ _ (z .before .before .before .args .t) (omega arith) (z .put-num .ensures) (c .before .before .put-stamp .ensures)))

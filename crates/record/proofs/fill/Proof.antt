@@ -18,13 +18,14 @@ fill-spec =
     (λ c κs. let s = c .before .before .before .before .before .before .before .pre in
     let h = laws.room _ _ (s .0) (s .1) in
     (omega arith, omega arith))
-    (λ c κs. let s = c .before .before .before .before .before .before .before .before .before .before .before .pre in
+    (λ c κs. let z = c .before .before .before .before in let s = z .before .before .before .before .before .before .before .pre in
     let q = plan-is _ (s .0) in
     (s .0, omega arith, omega arith))
     (λ c. search needs)
-    (λ c. let p = c .before .before .before .before .before .before .before .before .before .before in
+    (λ c. let k = c .before .before .before .before .before .before in
+    let p = k .before .before .before .before in
     let s = p .before .before .before .before in
     let a = s .args in
     let h = laws.room _ _ (s .pre .0) (s .pre .1) in
     c .before .before .spread .ensures
-    ∙ laws.fill-is (a .p) (a .desk .now) _ _ _ _ _ h (length-be 40 _) (length-part _ _ _ (omega arith)) (p .put-stamp .ensures) (c .before .before .before .before .before .before .copy .ensures)))
+    ∙ laws.fill-is (a .p) (a .desk .now) _ _ _ _ _ h (length-be 40 _) (length-part _ _ _ (omega arith)) (p .put-stamp .ensures) (k .copy .ensures)))

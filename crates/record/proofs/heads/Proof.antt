@@ -46,9 +46,10 @@ heads-spec =
     (omega arith, omega arith))
     (λ c. omega arith) (λ c. omega arith)
     (λ c.
-    let l = c .before .before .before .before .before .before .before .before .loop in
-    let t = c .before .before .before .before .before .before .if1 .taken in
-    let e = c .before .before .before .before .before .before .before .before .before .before in
+    let o = c .before .before .before .before .before .before in
+    let t = o .if1 .taken in
+    let l = o .before .before .loop in
+    let e = o .before .before .before .before in
     let a = e .args in
     let s = a .slots in
     let i = l .inv in

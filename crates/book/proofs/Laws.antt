@@ -27,21 +27,21 @@ use Rattle.book.specs.declared.Book.{Book}
 use Rattle.book.specs.declared.Shape.{Shape}
 use Rattle.book.specs.declared.Shape.the-variants.{Bad, Good}
 use Rattle.book.specs.Inside.{inserted, fateBy, Lies, Placed, Grows}
-use Rattle.book.specs.Book.{fixed, bookHead, bookLent, bookIn, recordsFrom, recordsIn, recordsPast, recordsOf, headed, filled, goodBook, header, joined, laidAs, laidOut, versionIn, nodeOf, countOf, usedIn, usedOf, Checked, Holds, Sound, Itself, grown}
+use Rattle.book.specs.Book.{fixed, blank, bookHead, bookLent, bookIn, recordsFrom, recordsIn, recordsPast, recordsOf, headed, filled, goodBook, header, joined, laidAs, laidOut, versionIn, nodeOf, countOf, usedIn, usedOf, Checked, Holds, Sound, Itself, grown}
 use Rattle.book.proofs.Lists as lists
 use Rattle.book.proofs.Turns as turns
 use Rattle.book.proofs.Laid as laid
 use Rattle.book.proofs.Back.{long}
 
 -- ---- the lent length
-pub lent-low : (n : ℕ) → n < fixed → false ≡ bookLent n
-lent-low n h = rw (lt-leb fixed n h)
+pub lent-low : (n : ℕ) → n < bookHead 1 → false ≡ bookLent n
+lent-low n h = rw (lt-leb (bookHead 1) n h)
 
-pub lent-last : (n : ℕ) → fixed ≤ n → leb n 65536 ≡ bookLent n
-lent-last n h = rw (le-leb fixed n h)
+pub lent-last : (n : ℕ) → bookHead 1 ≤ n → leb n 65536 ≡ bookLent n
+lent-last n h = rw (le-leb (bookHead 1) n h)
 
-pub lent-is : (n : ℕ) → bookLent n ≡ true → (fixed ≤ n) × (n ≤ 65536)
-lent-is n e = let q = both (leb fixed n) _ e in (leb-true _ _ (q .0), leb-true _ _ (q .1))
+pub lent-is : (n : ℕ) → bookLent n ≡ true → (bookHead 1 ≤ n) × (n ≤ 65536)
+lent-is n e = let q = both (leb (bookHead 1) n) _ e in (leb-true _ _ (q .0), leb-true _ _ (q .1))
 
 -- ---- the shape
 pub good-is : (p : Plan) (b : List ℕ) → goodBook p b ≡ true → laid.BookIs 1 (bookHead 1) p b
@@ -300,7 +300,7 @@ of-plan p b src x from i P g w e =
     let e₂ : usedOf p b ≡ h + length rs * R = ap (λ (c : ℕ). h + c * R) (sym n) in
     let rm : h + length rs * R + R ≤ length b = subst (λ (c : ℕ). h + c * R + R ≤ length b) (sym n) (P .room) in
     e ∙ (λ j. inserted b (h + P .place j * R) (e₂ j) rec R (sym n j + 1))
-    ∙ laid.inserted-laid 1 [] p (nodeOf b) h b rec rs refl sz (length-part src from R (P .inside)) rm w
+    ∙ laid.inserted-laid 1 blank p (nodeOf b) h b rec rs refl sz (length-part src from R (P .inside)) rm w
 
 -- what the code writes, one after the other
 pub steps : (b b₁ b₂ b₃ x : List ℕ) (at end : ℕ) (rec : List ℕ) (r count : ℕ) → b₁ ≡ put b (at + r) (part b at (end - at)) → b₂ ≡ put b₁ at rec

@@ -2,7 +2,7 @@
 -- node number, F (2 bytes), count (2 bytes), then records in strictly rising timestamp, all times 1 or more. The node number is below N;
 -- length = 7 + count·R, within the lent book."
 -- A version has a number v and a header of h bytes: the fixed ones above and what it has more. Version 1 has no more; record k lies at h + k·R.
---   fixed, bookHead                  the bytes up to the count, which every version has; the bytes of a version's header
+--   fixed, blank, bookHead           the bytes up to the count, which every version has; what version 1 has past them; the bytes of a version's header
 --   bookLent                         a lent book may have n bytes
 --   countOf, nodeOf, versionIn       the count, the node number and the version in some bytes
 --   bookIn                           the header of a book of a plan as a value
@@ -32,12 +32,15 @@ abbrev pub fixed : ℕ
 fixed = 11
 
 -- there is version 1 alone, whose header has no more
+abbrev pub blank : List ℕ
+blank = []
+
 abbrev pub bookHead : ℕ → ℕ
-bookHead version = fixed
+bookHead version = fixed + length blank
 
 -- "Lent book: 11 to 65,536 bytes"
 abbrev pub bookLent : ℕ → Bool
-bookLent n = leb fixed n and leb n 65536
+bookLent n = leb (bookHead 1) n and leb n 65536
 
 abbrev pub countOf : List ℕ → ℕ
 countOf b = num (part b 9 2)
@@ -103,7 +106,7 @@ abbrev pub recordsOf : Plan → List ℕ → List (List ℕ)
 recordsOf p b = recordsIn (bookIn p b) b
 
 abbrev pub laidOut : Plan → ℕ → List (List ℕ) → List ℕ
-laidOut p node rs = laidAs 1 [] p node rs
+laidOut p node rs = laidAs 1 blank p node rs
 
 abbrev pub usedOf : Plan → List ℕ → ℕ
 usedOf p b = usedIn (bookIn p b)

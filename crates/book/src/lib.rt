@@ -15,8 +15,8 @@ ghost use Rattle.book.specs.Book.{fixed, bookHead, bookLent, bookIn, rec
 use terms::Plan;
 use terms::Time;
 
-// The bytes up to the count, which every version has.
-const FIXED: usize = 11;
+// The bytes of the header of version 1: up to the count, which every version has, and no more.
+const HEAD: usize = 11;
 
 // What was read of a book, once: its version, the bytes of its header, its node number, its count, and the bytes of each record.
 pub struct Book {
@@ -51,7 +51,7 @@ pub enum Fate {
 pub fn lent(n: usize) -> bool
     ensures { λ r. ⌜ r ≡ bookLent n ⌝ }
 {
-    if n < FIXED {
+    if n < HEAD {
         return false;
     }
     n <= 65536
@@ -68,7 +68,7 @@ fn header_of(p: Plan, book: &[u8]) -> Book
     let each = terms::record_length(p);
     Book {
         version: version,
-        head: FIXED,
+        head: HEAD,
         node: node,
         count: count,
         each: each,
@@ -294,7 +294,7 @@ pub fn fresh(p: Plan, node: u64, book: &mut [u8])
     requires { ⌜ bookHead 1 ≤ length (now book) ⌝ }
     ensures { λ _. ⌜ now (book .exit) ≡ over (laidOut p node []) (now (book .entry)) ⌝ }
 {
-    octets::put_num(book, 0, 4, (FIXED - 4) as u64);
+    octets::put_num(book, 0, 4, (HEAD - 4) as u64);
     octets::put_num(book, 4, 1, 1);
     octets::put_num(book, 5, 1, p.n);
     octets::put_num(book, 6, 1, node);

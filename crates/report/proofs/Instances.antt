@@ -39,7 +39,7 @@ use Rattle.session.specs.Reader.{Outcome, outcome, actOn, actFor, settled, hear
 use Rattle.standing.specs.declared.Stage.the-variants.{Storing}
 use Rattle.session.specs.Writer.{Leaves, leaves, timeEnd, timeTurn, acceptedWrite, writeReply, WriteReplyCall}
 use Rattle.book.specs.Records.{timed, rising, some}
-use Rattle.book.specs.Book.{recordsFrom, header, joined, laidAs, laidOut, headed, filled, goodBook}
+use Rattle.book.specs.Book.{bookHead, recordsFrom, header, joined, laidAs, laidOut, headed, filled, goodBook}
 use Rattle.node.specs.declared.Answer.the-variants.{Replied}
 use Rattle.node.specs.Node as node
 use Rattle.node.specs.Node.{NodeCall, served, answered, sends, replyTo, replied, timeFails, hashFails, otherHeld, noRoom}
@@ -191,7 +191,7 @@ storing-is = refl
 
 -- ---- a node
 pub book : List ℕ
-book = over (laidOut plan 0 []) (replicate 84 0)
+book = over (laidOut plan 0 []) (replicate (bookHead 1 + 73) 0)
 
 book-small : small book ≡ true
 unfolding book small over laidAs header joined recordLength be beOnto
@@ -238,7 +238,7 @@ added =
     }
 
 -- the book is a fresh one
-made-so : FreshCall plan 0 (replicate 84 0) Fresh book
+made-so : FreshCall plan 0 (replicate (bookHead 1 + 73) 0) Fresh book
 unfolding book freshened first planOk countsOk limitsOk columnOf all
 made-so = record { is = refl }
 
@@ -250,5 +250,5 @@ node-call =
 pub node-so : Same (history plan (taken .book)) (received plan 0 INITIALIZE book (node-call ∷ []))
 unfolding node-call
 node-so =
-    fresh-run plan 0 (replicate 84 0) book (node-call ∷ []) made-so (small-octets book book-small, node-met, tt)
+    fresh-run plan 0 (replicate (bookHead 1 + 73) 0) book (node-call ∷ []) made-so (small-octets book book-small, node-met, tt)
     (refl, small-octets request request-small, tt)

@@ -240,8 +240,8 @@ module _ (p : Plan) (node : ℕ) (b b₂ : List ℕ) (c : FreshCall p node b Fre
       ladders.by-ladder (λ (o : FreshOutcome). freshOutcome made b₂ ≡ o → one.Laid p node b b₂ []) (freshLadder p node b) refuse done
       (λ k g h. absurd (let s : made ≡ fresh.refused k = ap (λ (o : FreshOutcome). o .answer) h in let z : _≡_ {A = ℕ} 0 1 = cc in omega arith))
       (λ n h.
-      let l = both (leb 11 (length b)) (leb (length b) 65536) (not-false _ (down.clear (freshLadder p node b) n 2)) in
-      let low : 11 ≤ length b = leb-true _ _ (l .0) in
+      let l = both (leb (bookHead 1) (length b)) (leb (length b) 65536) (not-false _ (down.clear (freshLadder p node b) n 2)) in
+      let low : bookHead 1 ≤ length b = leb-true _ _ (l .0) in
       record {
         plan = not-false _ (down.clear (freshLadder p node b) n 1);
         low = ltb-true _ _ (not-false _ (down.clear (freshLadder p node b) n 4));

@@ -10,7 +10,7 @@ use Rattle.octets.specs.Bytes.{over}
 use Rattle.terms.specs.Terms.{planOk, recordLength}
 use Rattle.terms.specs.declared.Plan.{Plan}
 use Rattle.book.specs.Records.{rising}
-use Rattle.book.specs.Book.{recordsOf, laidOut, usedOf, bookHead}
+use Rattle.book.specs.Book.{recordsOf, blank, laidOut, usedOf, bookHead}
 use Rattle.book.proofs.Laid as laid
 use Rattle.store.specs.Deliver.{Among, acceptedAt, keptAll, gathered, finalBook, Delivery, sent, delivered, Ready, Delivers, Contents, Setting}
 use Rattle.store.proofs.Order as order
@@ -69,7 +69,7 @@ module _ (p : Plan) (books : ℕ → List ℕ) (fs : List (List ℕ)) (i : ℕ) 
       let k : order.KeptAll (recordsOf p (books i)) (acceptedAt p i fs) = order.kept-all (acceptedAt p i fs) (recordsOf p (books i))
       (start .rise) agree in
       let e : recordsOf p F ≡ K = one.is-records q in
-      let ln : length (laidOut p i K) ≡ usedOf p F = laid.length-laid 1 [] p i K (q .sizes)
+      let ln : length (laidOut p i K) ≡ usedOf p F = laid.length-laid 1 blank p i K (q .sizes)
       ∙ ap (λ (c : ℕ). bookHead 1 + c * recordLength p) (sym (one.is-count q)) in
       record {
         good = one.is-good q;

@@ -63,27 +63,30 @@ unfolding zeros
 length-zeros zero = refl
 length-zeros (suc k) = ap suc (length-zeros k)
 
--- ---- a fresh book of 157 bytes
-pub book : List ℕ
-book = over (laidOut plan 0 []) (zeros 157)
+-- ---- a fresh book with room for 146 bytes of records
+abbrev room : ℕ
+room = bookHead 1 + 146
 
-fresh : one.Laid plan 0 (zeros 157) book []
+pub book : List ℕ
+book = over (laidOut plan 0 []) (zeros room)
+
+fresh : one.Laid plan 0 (zeros room) book []
 unfolding book timed rising plan
 fresh = record {
   plan = accepted-plan;
   low = omega arith;
-  high = omega (arith, length-zeros 157);
+  high = omega (arith, length-zeros room);
   bytes = refl;
   sizes = tt;
   times = refl;
   rise = refl;
-  fits = omega (arith, length-zeros 157);
+  fits = omega (arith, length-zeros room);
 }
 
 -- it is what the making of a fresh book leaves
-pub made-so : FreshCall plan 0 (zeros 157) Fresh book
+pub made-so : FreshCall plan 0 (zeros room) Fresh book
 unfolding freshened first book plan
-made-so = record { is = rw (accepted-plan, length-zeros 157) }
+made-so = record { is = rw (accepted-plan, length-zeros room) }
 
 book-small : small book ≡ true
 unfolding book small zeros over laidAs header joined be beOnto plan recordLength
@@ -227,7 +230,7 @@ unfolding books gathered
 ready =
     let n : nodeOf book ≡ 0 = one.is-node fresh in
     let e : recordsOf plan book ≡ [] = one.is-records fresh in
-    let l : length book ≡ 157 = one.is-length fresh ∙ length-zeros 157 in
+    let l : length book ≡ room = one.is-length fresh ∙ length-zeros room in
     let g : gathered plan book set ≡ keptAll (record-of 1 ∷ record-of 2 ∷ []) [] = (λ i. keptAll ((ap (λ (k : ℕ). acceptedAt plan k set) n ∙ accepted-is) i) (e i)) in
     let m = kept-most (record-of 1 ∷ record-of 2 ∷ []) [] in
     record {
@@ -307,8 +310,8 @@ left = served plan (request 1) book (zeros 88)
 pub acknowledged : NodeCall plan (request 1) book (zeros 88) (Replied (framed 1 40)) (left .book) (left .reply)
 unfolding left
 acknowledged =
-    let fits : bookHead 1 + length (kept (bodyOf (request 1)) []) * recordLength plan ≤ length (zeros 157) = rw r-is
-    (omega (arith, length-zeros 157, alone (bodyOf (request 1)))) in
+    let fits : bookHead 1 + length (kept (bodyOf (request 1)) []) * recordLength plan ≤ length (zeros room) = rw r-is
+    (omega (arith, length-zeros room, alone (bodyOf (request 1)))) in
     let s = one.served-is fresh (request 1) (zeros 88) roomy (passing 1 (omega arith) (omega arith)) (λ z h e. absurd (order.among-none z h)) fits in
     record { is = λ i. servedOutcome ((sym (ap (λ (x : ServedOutcome). x .answer) s ∙ reply-length)) i) (left .book) (left .reply) }
 

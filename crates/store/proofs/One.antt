@@ -22,7 +22,7 @@ use Rattle.frame.specs.Frame.{kindOf, bodyOf, goodRequest, headerIn, longest, w
 use Rattle.frame.proofs.Frames as frames
 use Rattle.record.specs.Record.{timeZero}
 use Rattle.book.specs.Records.{rising, some, holds, holdsOther, insertRecord, timed, kept}
-use Rattle.book.specs.Book.{recordsOf, nodeOf, countOf, laidOut, goodBook, bookHead}
+use Rattle.book.specs.Book.{recordsOf, nodeOf, countOf, blank, laidOut, goodBook, bookHead}
 use Rattle.book.proofs.Lists.{length-insert}
 use Rattle.book.proofs.Laid as laid
 use Rattle.book.proofs.Back as back
@@ -143,21 +143,21 @@ module _ {p : Plan} {node : ℕ} {old b : List ℕ} {rs : List (List ℕ)} (i : 
   is-good =
       ap (λ (x : List ℕ). goodBook p x) (i .bytes)
       ∙ laid.book-back 1 (bookHead 1) p (over (laidOut p node rs) old)
-      (back.good-back 1 [] p node rs old one-low (i .plan) (i .low) (i .sizes) (i .fits) (i .high) (i .times) (i .rise))
+      (back.good-back 1 blank p node rs old one-low (i .plan) (i .low) (i .sizes) (i .fits) (i .high) (i .times) (i .rise))
 
   pub is-records : recordsOf p b ≡ rs
   is-records =
-      ap (λ (x : List ℕ). recordsOf p x) (i .bytes) ∙ back.records-back 1 [] p node rs old one-low (i .plan) (i .low) (i .sizes) (i .fits) (i .high)
+      ap (λ (x : List ℕ). recordsOf p x) (i .bytes) ∙ back.records-back 1 blank p node rs old one-low (i .plan) (i .low) (i .sizes) (i .fits) (i .high)
 
   pub is-node : nodeOf b ≡ node
-  is-node = ap (λ (x : List ℕ). nodeOf x) (i .bytes) ∙ back.node-back 1 [] p node rs old one-low (i .plan) (i .low) (i .sizes) (i .fits) (i .high)
+  is-node = ap (λ (x : List ℕ). nodeOf x) (i .bytes) ∙ back.node-back 1 blank p node rs old one-low (i .plan) (i .low) (i .sizes) (i .fits) (i .high)
 
   pub is-count : countOf b ≡ length rs
-  is-count = ap (λ (x : List ℕ). countOf x) (i .bytes) ∙ back.count-back 1 [] p node rs old one-low (i .plan) (i .low) (i .sizes) (i .fits) (i .high)
+  is-count = ap (λ (x : List ℕ). countOf x) (i .bytes) ∙ back.count-back 1 blank p node rs old one-low (i .plan) (i .low) (i .sizes) (i .fits) (i .high)
 
   pub is-length : length b ≡ length old
   is-length =
-      ap length (i .bytes) ∙ length-over (laidOut p node rs) old (let q = i .fits in omega (arith, laid.length-laid 1 [] p node rs (i .sizes)))
+      ap length (i .bytes) ∙ length-over (laidOut p node rs) old (let q = i .fits in omega (arith, laid.length-laid 1 blank p node rs (i .sizes)))
 
   lengths-ok : (y : List ℕ) → longest 1 p ≤ length y → bookReplyOk p (length b) (length y) ≡ true
   unfolding bookReplyOk all
@@ -225,8 +225,8 @@ module _ {p : Plan} {node : ℕ} {old b : List ℕ} {rs : List (List ℕ)} (i : 
             let up : rising (insertRecord (bodyOf f) rs) ≡ true = subst (λ (l : List (List ℕ)). rising l ≡ true) k (kk .up) in
             let rm : bookHead 1 + length (insertRecord (bodyOf f) rs) * recordLength p ≤ length old = subst
             (λ (l : List (List ℕ)). bookHead 1 + length l * recordLength p ≤ length old) k room in
-            let a = laid.length-laid 1 [] p node (insertRecord (bodyOf f) rs) sz in
-            let d = laid.length-laid 1 [] p node rs (i .sizes) in
+            let a = laid.length-laid 1 blank p node (insertRecord (bodyOf f) rs) sz in
+            let d = laid.length-laid 1 blank p node rs (i .sizes) in
             let ml : length rs * recordLength p ≤ length (insertRecord (bodyOf f) rs) * recordLength p = mul-le-mul-right (recordLength p)
             (omega (arith, length-insert (bodyOf f) rs)) in
             rw k (record {

@@ -1,3 +1,4 @@
+use Rattle.book.specs.Book.{bookHead}
 use borrow.Author.Needs.{needs}
 use Rattle.book.proofs.header_of.Statement.{statement}
 use Rattle.book.proofs.header_of.Tie as tie
@@ -12,7 +13,7 @@ header-of-spec =
     let r = c .record-length .ensures in (
       (λ i. record {
         version = c .before .before .before .get .ensures .0 i;
-        head = 11;
+        head = bookHead 1;
         node = c .before .before .get2 .ensures .0 i;
         count = get3 .ensures .0 i;
         each = r .0 i;

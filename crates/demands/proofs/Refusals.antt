@@ -11,11 +11,11 @@ use mathlib.Core.Bool.{Bool, true, false, cond}
 use mathlib.Core.List.{List, [], _∷_, _++_}
 use lib.ListN.{length}
 use Rattle.octets.specs.Bytes.{over}
-use Rattle.terms.specs.Ladder.{Rung, on, first, Given, _and_}
+use Rattle.terms.specs.Ladder.{Rung, first, Given}
 use Rattle.terms.specs.declared.Ask.{Ask}
 use Rattle.terms.specs.declared.Plan.{Plan}
 use Rattle.terms.proofs.Ladders as ladders
-use Rattle.terms.proofs.Rungs.{clash, both}
+use Rattle.terms.proofs.Rungs.{clash}
 use Rattle.frame.specs.Frame.{headerIn, bodyOf, oneOf}
 use Rattle.book.specs.Book.{laidOut}
 use Rattle.rounds.specs.declared.Bound.the-variants.{Free}
@@ -43,6 +43,7 @@ use Rattle.packing.specs.PlanBytes.{planOf}
 use Rattle.packing.specs.SessionBytes.{sessionOf}
 use Rattle.answers.specs.Answers.{lentLadder, bothFit, madeNumber, servedNumber, dueNumber, answerNumber}
 use Rattle.pasis.specs.Store.{FreshBook, NodeServes}
+use Rattle.pasis.proofs.Laws.{numbers, of-given}
 use Rattle.pasis.specs.Client.{sessionFits, OpenedBytes, openedBytes, openBytes, OpenServes, Asked, asked, owedBytes, OwedServes, TookBytes, tookBytes, writeBytes, readBytes, WriteServes, ReadServes}
 use Rattle.demands.proofs.Demand1.{accepted-taken, write-taken}
 use Rattle.demands.proofs.Hosts.{not-between}
@@ -135,15 +136,10 @@ by-number l v r k e past a b =
 
 -- every number of a ladder stands in a list; then so does a refusal that is given, and what the ladder comes to
 abbrev within : List ℕ → List Rung → Bool
-within set [] = true
-within set (x ∷ l) = oneOf (x .number) set and within set l
-
-given-within : (set : List ℕ) (b a : List Rung) (k : ℕ) → within set (b ++ (on k true ∷ a)) ≡ true → oneOf k set ≡ true
-given-within set [] a k e = both (oneOf k set) _ e .0
-given-within set (x ∷ b) a k e = given-within set b a k (both (oneOf (x .number) set) _ e .1)
+within set = numbers (λ (k : ℕ). oneOf k set)
 
 is-within : (set : List ℕ) (l : List Rung) → within set l ≡ true → (k : ℕ) → Given l k → oneOf k set ≡ true
-is-within set l e k g = given-within set (g .before) (g .after) k (ap (within set) (sym (g .is)) ∙ e)
+is-within set = of-given (λ (k : ℕ). oneOf k set)
 
 number-within : (set : List ℕ) (l : List Rung) (v : ℕ) → within set l ≡ true → oneOf v set ≡ true → oneOf (first l (λ (k : ℕ). k) v) set ≡ true
 number-within set l v e h = ladders.by-ladder (λ (x : ℕ). oneOf x set ≡ true) l (λ (k : ℕ). k) v (is-within set l e) (λ n. h)

@@ -19,7 +19,7 @@ use Rattle.octets.specs.Bytes.{be, beOnto, put, Octets}
 use Rattle.octets.proofs.Meaning.{octets-all, octets-append, octets-drop, octets-put}
 use Rattle.sha256.specs.declared.State.{State}
 use Rattle.sha256.specs.Sha256.{sha256, bytesOf}
-use Rattle.terms.specs.Ladder.{Rung, on, rung, Given, None, _and_}
+use Rattle.terms.specs.Ladder.{Rung, rung, Given, None, _and_}
 use Rattle.terms.specs.Terms.{planOk, openingOk, recordLength, slotsOf, slotAt, thresholdsOf, refusalNumber}
 use Rattle.terms.specs.Stamp.{stampAt, stampNumber, zeroStamp, time, top}
 use Rattle.terms.specs.declared.Plan.{Plan}
@@ -59,6 +59,7 @@ use Rattle.packing.specs.PlanBytes.{field}
 use Rattle.packing.proofs.Inverse.{Wide, Fits, wide-at, field-small, cut, cut-stamp}
 use Rattle.answers.specs.Answers.{refusalAt, answerNumber, endingBytes, endingAfter, answerOf}
 use Rattle.pasis.specs.Client.{withItem}
+use Rattle.pasis.proofs.Laws.{numbers, of-given}
 
 never : {A : Type 0} → false ≡ true → A
 never z = absurd (clash (sym z))
@@ -167,21 +168,13 @@ body-small f o = field-small (bodyOf f) 0 8 (octets-drop (headBytes (versionOf f
 
 -- ---- answers
 -- every refusal of a ladder is one of the document's
-abbrev areRefusals : List Rung → Bool
-areRefusals [] = true
-areRefusals (x ∷ l) = isRefusal (x .number) and areRefusals l
-
-refusal-at : (b a : List Rung) (k : ℕ) → areRefusals (b ++ (on k true ∷ a)) ≡ true → isRefusal k ≡ true
-refusal-at [] a k e = both (isRefusal k) _ e .0
-refusal-at (x ∷ b) a k e = refusal-at b a k (both (isRefusal (x .number)) _ e .1)
-
-pub given-refusal : (l : List Rung) → areRefusals l ≡ true → (k : ℕ) → Given l k → (isRefusal k ≡ true) × (refusalNumber (refusalAt k) ≡ k)
+pub given-refusal : (l : List Rung) → numbers isRefusal l ≡ true → (k : ℕ) → Given l k → (isRefusal k ≡ true) × (refusalNumber (refusalAt k) ≡ k)
 given-refusal l e k g =
-    let h : isRefusal k ≡ true = refusal-at (g .before) (g .after) k (ap areRefusals (sym (g .is)) ∙ e) in
+    let h = of-given isRefusal l e k g in
     (h, eqb-true (refusalNumber (refusalAt k)) k (both (eqb (refusalNumber (refusalAt k)) k) _ h .0))
 
 module _ (s : Session) where
-  refuses : (l : List Rung) → areRefusals l ≡ true → (d i : List ℕ) → Lasts s d → (k : ℕ) → Given l k → Carried s (outcome (refused k) s d i)
+  refuses : (l : List Rung) → numbers isRefusal l ≡ true → (d i : List ℕ) → Lasts s d → (k : ℕ) → Given l k → Carried s (outcome (refused k) s d i)
   refuses l e d i w k g =
       let q = given-refusal l e k g in
       record { lasts = w; answer = answers.Refused (refusalAt k); said = ap refused (q .1); wide = ap isRefusal (q .1) ∙ q .0; stays = λ z. refl }

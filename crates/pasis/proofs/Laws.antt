@@ -2,12 +2,12 @@
 use Prim.Native.Nat.{ℕ, zero, suc, _≤_}
 use mathlib.Core.Path.{_≡_, refl, sym, ap, _∙_, subst}
 use mathlib.Core.Bool.{Bool, true, cond}
-use mathlib.Core.List.{List}
+use mathlib.Core.List.{List, [], _∷_, _++_}
 use native.Mathlib.Omega.{arith}
 use borrow.Author.Tests.{eqb-true, ne-eqb, not-false}
 use lib.ListN.{length}
 use lib.Dec.{eqb}
-use Rattle.terms.specs.Ladder.{first}
+use Rattle.terms.specs.Ladder.{Rung, on, first, Given, _and_}
 use Rattle.terms.specs.Terms.{refusalNumber}
 use Rattle.terms.specs.declared.Plan.{Plan}
 use Rattle.terms.specs.declared.Refusal.{Refusal}
@@ -52,6 +52,19 @@ node-serves x f b y p a r b₂ y₂ e c k =
       book = ap (λ (o : node.ServedOutcome). o .book) q;
       reply = ap (λ (o : node.ServedOutcome). o .reply) q;
     }
+
+-- ---- ladders
+-- what holds of every number of a ladder holds of a refusal that is given
+abbrev pub numbers : (ℕ → Bool) → List Rung → Bool
+numbers P [] = true
+numbers P (x ∷ l) = P (x .number) and numbers P l
+
+pub of-given : (P : ℕ → Bool) (l : List Rung) → numbers P l ≡ true → (k : ℕ) → Given l k → P k ≡ true
+of-given P l e k g = go (g .before) (ap (numbers P) (sym (g .is)) ∙ e)
+  where
+    go : (b : List Rung) → numbers P (b ++ (on k true ∷ g .after)) ≡ true → P k ≡ true
+    go [] h = both (P k) _ h .0
+    go (x ∷ b) h = go b (both (P (x .number)) _ h .1)
 
 -- ---- 1 and 2
 -- how the ladder came out for the plan that was read: k refuses, or 0 passes

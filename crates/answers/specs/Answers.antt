@@ -26,6 +26,7 @@ use Rattle.session.specs.declared.Answer.{Answer}
 use Rattle.session.specs.declared.Answer.the-variants.{Refused, Open, Done, NeverWritten, Aborted, RoundsSpent, ClockSpent}
 use Rattle.session.specs.Session.{Said, refused, stillOpen, done, neverWritten, aborted, roundsSpent, clockSpent}
 use Rattle.session.specs.Owed as owed
+use Rattle.packing.specs.SessionBytes.{sessionLength}
 use Rattle.session.specs.Owed.{Due}
 
 -- ---- answers
@@ -82,7 +83,7 @@ answerOf k e = cond (eqb k 0) Open (cond (leb k 100) (Refused (refusalAt k)) (en
 -- ---- lengths
 -- a session or an ending of a wrong length is 2
 unfoldable pub bothFit : ℕ → ℕ → Bool
-bothFit s e = eqb s 117 and eqb e 42
+bothFit s e = eqb s sessionLength and eqb e 42
 
 abbrev pub lentLadder : Plan → Bool → List Rung
 lentLadder p fits = on 1 (not (planOk p)) ∷ on 2 (not fits) ∷ []

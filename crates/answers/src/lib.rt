@@ -113,7 +113,7 @@ pub fn lent(p: Plan, fits: bool) -> u32
 pub fn both_fit(session: usize, ending: usize) -> bool
     ensures { λ r. ⌜ r ≡ bothFit session ending ⌝ }
 {
-    if session != 117 {
+    if session != packing::SESSION {
         return false;
     }
     ending == 42

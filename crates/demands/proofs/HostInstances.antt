@@ -40,7 +40,7 @@ use Rattle.report.specs.Run.{Polled, unpolled, messageOf, polls, polledOver, Ea
 use Rattle.report.specs.WriteRun.{noneOf, untimed, EachWrites}
 use Rattle.client.specs.Sessions.{lastSession, lastDesk}
 use Rattle.packing.specs.PlanBytes.{memberOf, clientsOf, planBytes, planShaped, planAt, planOf}
-use Rattle.packing.specs.SessionBytes.{boundBytes, markBytes, roundBytes, askBytes, heardBytes, sessionBytes, operationOf, stageOf, heardOf, boundShaped, boundOf, marksShaped, marksOf, sessionShaped, roundAt, sessionAt, sessionOf}
+use Rattle.packing.specs.SessionBytes.{sessionLength, boundBytes, markBytes, roundBytes, askBytes, heardBytes, sessionBytes, operationOf, stageOf, heardOf, boundShaped, boundOf, marksShaped, marksOf, sessionShaped, roundAt, sessionAt, sessionOf}
 use Rattle.packing.proofs.Inverse.{plan-back, session-back}
 use Rattle.packing.proofs.Laws.{length-session}
 use Rattle.answers.specs.Answers.{bothFit, lentLadder, answerNumber, endingBytes, endingAfter, answerOf}
@@ -78,7 +78,7 @@ module _ (p : Plan) (ok : planOk p ≡ true) (s : Session) (d : List ℕ) (w : L
   lent =
       record {
         came = is-passed (lentLadder (planOf (planBytes p)) (bothFit (length (sessionBytes s)) 42)) (λ (k : ℕ). k) 0
-            (ap (λ (q : Plan). not (planOk q)) back ∙ ap not ok, (rw (eq-eqb (length (sessionBytes s)) 117 (length-session s (w .fits .marks))), tt));
+            (ap (λ (q : Plan). not (planOk q)) back ∙ ap not ok, (rw (eq-eqb (length (sessionBytes s)) sessionLength (length-session s (w .fits .marks))), tt));
       }
 
   -- the bytes that a call leaves, and what it keeps
@@ -138,11 +138,11 @@ plan-so : planBytes reads.plan ≡ x
 unfolding x planBytes reads.plan be beOnto
 plan-so = refl
 
-read-opens : OpenServes Read x 5 (replicate 117 0) 0 (sessionBytes reads.start)
+read-opens : OpenServes Read x 5 (replicate sessionLength 0) 0 (sessionBytes reads.start)
 unfolding x openBytes openWith first planOk countsOk limitsOk columnOf all planOf planShaped planAt memberOf clientsOf num numFrom part
 read-opens = record { is = refl }
 
-write-opens : OpenServes Write x 5 (replicate 117 0) 0 (sessionBytes writes.start)
+write-opens : OpenServes Write x 5 (replicate sessionLength 0) 0 (sessionBytes writes.start)
 unfolding x openBytes openWith first planOk countsOk limitsOk columnOf all planOf planShaped planAt memberOf clientsOf num numFrom part
 write-opens = record { is = refl }
 
@@ -177,11 +177,11 @@ write-run =
 pub host-counted-so : (2 ≡ closedRounds (planOf x) 0 (sessionOf (sessionBytes reads.start)) (below (hostsOf read-calls))) × (2 ≤ planOf x .w)
 unfolding below hostsOf answerOf endingAfter endingBytes num numFrom part be beOnto
 host-counted-so =
-    host-counted-rounds x 5 (replicate 117 0) (sessionBytes reads.start) reads.desk (hostsOf read-calls) read-opens desk-octets read-run _ _ refl 2 refl
+    host-counted-rounds x 5 (replicate sessionLength 0) (sessionBytes reads.start) reads.desk (hostsOf read-calls) read-opens desk-octets read-run _ _ refl 2 refl
 
 pub host-write-so : EachWrites (planOf x) (sessionOf (sessionBytes writes.start)) reads.desk untimed (below (hostsOf write-calls))
 host-write-so =
-    host-write-as-the-report x 5 (replicate 117 0) (sessionBytes writes.start) reads.desk (hostsOf write-calls) write-opens write-run
+    host-write-as-the-report x 5 (replicate sessionLength 0) (sessionBytes writes.start) reads.desk (hostsOf write-calls) write-opens write-run
 
 -- ---- a read of real bytes, at N1 t0 b0 Q1 m1 F1 W1: a call with 41 bytes for its ending is answered 2; one with a frame that bears another ask number
 -- 10; node 0 has nothing: 102, never written, in one round
@@ -211,7 +211,7 @@ host-calls =
     ∷ turn 5 (replicate 42 0) 102 session-2 (replicate 41 0 ++ (1 ∷ [])) ∷ []
 
 module _ where
-  opens-so : OpenServes Read y 5 (replicate 117 0) 0 session-1
+  opens-so : OpenServes Read y 5 (replicate sessionLength 0) 0 session-1
   unfolding y session-1 openBytes openWith first planOk countsOk limitsOk columnOf all planOf planShaped planAt memberOf clientsOf num numFrom part sessionBytes askBytes roundBytes boundBytes heardBytes markBytes be beOnto stampNumber then
   opens-so = record { is = refl }
 
@@ -270,12 +270,12 @@ apart a b (inr u) v t e = absurd u
 pub host-read-so : EachTells (planOf y) (sessionOf session-1) desk unpolled (below host-calls)
     × AllFull (planOf y) (polledOver (planOf y) (sessionOf session-1) desk unpolled (below host-calls) .rounds)
 host-read-so =
-    host-read-as-the-report y 5 (replicate 117 0) session-1 desk host-calls opens-so desk-long (small-octets desk zeros) host-run
+    host-read-as-the-report y 5 (replicate sessionLength 0) session-1 desk host-calls opens-so desk-long (small-octets desk zeros) host-run
     (subst (AllApart (planOf y)) (sym one-round) (subst Apart (sym gathered) apart, tt))
 
 pub host-kept-so : Kept (planOf y) (sessionOf session-2) desk
 host-kept-so =
-    host-every-session y 5 (replicate 117 0) session-1 desk host-calls Read opens-so desk-long (small-octets desk zeros)
+    host-every-session y 5 (replicate sessionLength 0) session-1 desk host-calls Read opens-so desk-long (small-octets desk zeros)
     (inr (host-run .0), (inr (host-run .1 .0), (inr (host-run .1 .1 .0), tt)))
 
 -- before the last call, the request owed to node 0 is READ_LATEST
@@ -300,5 +300,5 @@ pub host-owed-so : HostOwes (Owes (Commands (planOf y) (READ (family (planOf y))
     (owedLadder (planOf y) at 0 (lastDesk desk (below two-calls)) 88) (inResponseSet (planOf y) (at .round .stage) polled 0))
     0 (replicate 88 0) (over (frame readLatestKind 0 5 []) (replicate 88 0))
 host-owed-so =
-    host-read-requests-as-the-report y 5 (replicate 117 0) session-1 desk two-calls opens-so desk-long (small-octets desk zeros)
+    host-read-requests-as-the-report y 5 (replicate sessionLength 0) session-1 desk two-calls opens-so desk-long (small-octets desk zeros)
     (host-run .0, (host-run .1 .0, tt)) (subst (AllApart (planOf y)) (sym no-round) tt) 0 (replicate 88 0) 0 (over (frame readLatestKind 0 5 []) (replicate 88 0)) owed-so

@@ -43,7 +43,7 @@ use Rattle.session.specs.Opening.{noSession}
 use Rattle.session.specs.Ranges.{inRange}
 use Rattle.session.proofs.Openings.{none-in-range}
 use Rattle.packing.specs.PlanBytes.{field, memberByte, clientsByte, memberOf, clientsOf, planBytes, planShaped, planAt, planOf}
-use Rattle.packing.specs.SessionBytes.{operationByte, stageByte, markByte, boundBytes, markBytes, roundBytes, askBytes, heardBytes, sessionBytes, operationOf, stageOf, heardOf, boundShaped, boundOf, marksShaped, marksOf, sessionShaped, roundAt, sessionAt, sessionOf}
+use Rattle.packing.specs.SessionBytes.{sessionLength, operationByte, stageByte, markByte, boundBytes, markBytes, roundBytes, askBytes, heardBytes, sessionBytes, operationOf, stageOf, heardOf, boundShaped, boundOf, marksShaped, marksOf, sessionShaped, roundAt, sessionAt, sessionOf}
 use Rattle.packing.proofs.Laws.{length-marks, length-session, plan-length, session-length}
 
 -- ---- fields that follow one another
@@ -319,8 +319,8 @@ stage-most Ended = refl
 pub session-again : (x : List ℕ) → Octets x → sessionShaped x ≡ true → sessionBytes (sessionOf x) ≡ x
 unfolding sessionOf sessionBytes askBytes heardBytes roundBytes sessionAt roundAt sessionShaped all
 session-again x o e =
-    let l : length x ≡ 117 = session-length x e in
-    let a = both (eqb (length x) 117) _ e in
+    let l : length x ≡ sessionLength = session-length x e in
+    let a = both (eqb (length x) sessionLength) _ e in
     let b = both (leb (field x 0 1) 1) _ (a .1) in
     let c = both (leb (field x 1 1) 2) _ (b .1) in
     let d = both (boundShaped (field x 4 1) (field x 5 40)) _ (c .1) in
@@ -383,7 +383,7 @@ session-back s w =
     let marks = ap marksOf marks-at ∙ marks-back (s .marks) in
     let shaped0 = ap (λ (k : ℕ). leb k 1) (c0 .0) ∙ operation-most (s .operation) in
     let shaped4 = ap marksShaped marks-at ∙ marks-shape (s .marks) in
-    rw (eq-eqb (length x) 117 (length-session s (w .marks)), shaped0, c1 .stage, c1 .bound, shaped4)
+    rw (eq-eqb (length x) sessionLength (length-session s (w .marks)), shaped0, c1 .stage, c1 .bound, shaped4)
     (λ i. record { operation = operation i; round = c1 .is i; opening = record { 0 = c2 .0 i }; greatest = record { 0 = c3 .0 i }; stamp = c4 .0 i; marks = marks i })
 
 -- bytes that code no session are in no range

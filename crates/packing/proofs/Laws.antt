@@ -24,7 +24,7 @@ use Rattle.standing.specs.declared.Round.{Round}
 use Rattle.session.specs.declared.Session.{Session}
 use Rattle.standing.proofs.Rules.{or-holds, or-last, and-fails, and-last}
 use Rattle.packing.specs.PlanBytes.{field, planShaped}
-use Rattle.packing.specs.SessionBytes.{operationByte, stageByte, markByte, boundBytes, markBytes, roundBytes, askBytes, heardBytes, sessionBytes, heardOf, boundShaped, marksShaped, marksOf, sessionShaped}
+use Rattle.packing.specs.SessionBytes.{sessionLength, operationByte, stageByte, markByte, boundBytes, markBytes, roundBytes, askBytes, heardBytes, sessionBytes, heardOf, boundShaped, marksShaped, marksOf, sessionShaped}
 
 -- ---- a case by its number
 module _ {A : Type 0} (k c : ℕ) (x y : A) where
@@ -39,9 +39,9 @@ pub plan-length : (x : List ℕ) → planShaped x ≡ true → length x ≡ 11
 unfolding planShaped all
 plan-length x e = eqb-true _ _ (both (eqb (length x) 11) _ e .0)
 
-pub session-length : (x : List ℕ) → sessionShaped x ≡ true → length x ≡ 117
+pub session-length : (x : List ℕ) → sessionShaped x ≡ true → length x ≡ sessionLength
 unfolding sessionShaped all
-session-length x e = eqb-true _ _ (both (eqb (length x) 117) _ e .0)
+session-length x e = eqb-true _ _ (both (eqb (length x) sessionLength) _ e .0)
 
 -- ---- the bound's shape: 1; neither 0 nor 1; 0
 module _ (k u : ℕ) where
@@ -150,7 +150,7 @@ length-ask : (s : Session) → length (askBytes s) ≡ 53
 unfolding askBytes
 length-ask s = simp (length-append, length-be, length-round)
 
-pub length-session : (s : Session) → length (s .marks) ≡ 16 → length (sessionBytes s) ≡ 117
+pub length-session : (s : Session) → length (s .marks) ≡ 16 → length (sessionBytes s) ≡ sessionLength
 unfolding sessionBytes heardBytes
 length-session s e = simp (length-append, length-be, length-ask, length-marks, e)
 
@@ -168,13 +168,13 @@ asks-put s o x x₁ x₂ x₃ eo e1 e2 e3 =
     three x x₁ x₂ x₃ (be 1 (operationByte (s .operation))) (roundBytes (s .round)) (be 8 (s .opening .0)) 0 1 45 (simp length-be) (simp length-round) (omega arith)
     (e1 ∙ ap (λ (k : ℕ). put x 0 (be 1 k)) eo) e2 e3
 
-pub heard-put : (s : Session) (x x₁ x₂ x₃ : List ℕ) → 117 ≤ length x → x₁ ≡ put x 53 (be 8 (s .greatest .0)) → x₂ ≡ put x₁ 61 (be 40 (stampNumber (s .stamp)))
+pub heard-put : (s : Session) (x x₁ x₂ x₃ : List ℕ) → sessionLength ≤ length x → x₁ ≡ put x 53 (be 8 (s .greatest .0)) → x₂ ≡ put x₁ 61 (be 40 (stampNumber (s .stamp)))
     → x₃ ≡ put x₂ 101 (markBytes (s .marks)) → x₃ ≡ put x 53 (heardBytes s)
 unfolding heardBytes
 heard-put s x x₁ x₂ x₃ l e1 e2 e3 =
     three x x₁ x₂ x₃ (be 8 (s .greatest .0)) (be 40 (stampNumber (s .stamp))) (markBytes (s .marks)) 53 61 101 (simp length-be) (simp length-be) (omega arith) e1 e2 e3
 
-pub session-put : (s : Session) (x x₁ x₂ : List ℕ) → length (s .marks) ≡ 16 → length x ≡ 117 → x₁ ≡ put x 0 (askBytes s) → x₂ ≡ put x₁ 53 (heardBytes s)
+pub session-put : (s : Session) (x x₁ x₂ : List ℕ) → length (s .marks) ≡ 16 → length x ≡ sessionLength → x₁ ≡ put x 0 (askBytes s) → x₂ ≡ put x₁ 53 (heardBytes s)
     → x₂ ≡ sessionBytes s
 session-put s x x₁ x₂ k l e1 e2 =
     let whole : askBytes s ++ heardBytes s ≡ sessionBytes s = unfold sessionBytes in refl in

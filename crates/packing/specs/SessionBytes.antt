@@ -2,6 +2,7 @@
 -- round, 2 ended), round 2, bound 41 (0 and forty zeros: none; 1 and the timestamp), opening ask number 8, greatest time 8, timestamp being
 -- written 40, 16 marks (0 unheard, 1 first triple, 2 record). Document 01, "The client": "Beside the marks a session holds operation,
 -- stage, round, bound, opening ask number, and the greatest time so far or the timestamp being written."
+--   sessionLength                      117
 --   operationByte stageByte markByte   the cases as bytes; operationOf stageOf heardOf, bytes as cases
 --   boundBytes markBytes roundBytes askBytes heardBytes sessionBytes   laid out
 --   boundShaped marksShaped sessionShaped   whether some bytes code a bound, marks, a session
@@ -30,6 +31,9 @@ use Rattle.standing.specs.declared.Round.{Round}
 use Rattle.session.specs.declared.Session.{Session}
 use Rattle.session.specs.Opening.{noSession}
 use Rattle.packing.specs.PlanBytes.{field}
+
+abbrev pub sessionLength : ℕ
+sessionLength = 117
 
 -- ---- laid out
 abbrev pub operationByte : Operation → ℕ
@@ -96,7 +100,7 @@ marksOf (x ∷ l) = record { is = heardOf x } ∷ marksOf l
 unfoldable pub sessionShaped : List ℕ → Bool
 sessionShaped x =
     all (
-    eqb (length x) 117 ∷
+    eqb (length x) sessionLength ∷
     leb (field x 0 1) 1 ∷
     leb (field x 1 1) 2 ∷
     boundShaped (field x 4 1) (field x 5 40) ∷

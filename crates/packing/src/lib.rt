@@ -20,7 +20,10 @@ ghost use lib.ListN.{length};
 ghost use Rattle.octets.specs.Bytes.{put, be};
 ghost use Rattle.terms.specs.Stamp.{stampNumber, stampAt};
 ghost use Rattle.packing.specs.PlanBytes.{field, memberOf, clientsOf, planShaped, planAt, noPlan, planOf};
-ghost use Rattle.packing.specs.SessionBytes.{operationByte, stageByte, markByte, boundBytes, markBytes, roundBytes, askBytes, heardBytes, sessionBytes, operationOf, stageOf, heardOf, boundShaped, boundOf, marksShaped, marksOf, sessionShaped, roundAt, sessionAt, sessionOf};
+ghost use Rattle.packing.specs.SessionBytes.{sessionLength, operationByte, stageByte, markByte, boundBytes, markBytes, roundBytes, askBytes, heardBytes, sessionBytes, operationOf, stageOf, heardOf, boundShaped, boundOf, marksShaped, marksOf, sessionShaped, roundAt, sessionAt, sessionOf};
+
+// The bytes of a session.
+pub const SESSION: usize = 117;
 
 fn member_of(k: u64) -> Member
     ensures { λ r. ⌜ r ≡ memberOf k ⌝ }
@@ -201,7 +204,7 @@ fn marks_of(b: &[u8]) -> [Mark; 16]
 fn session_shaped(x: &[u8]) -> bool
     ensures { λ r. ⌜ r ≡ sessionShaped (now (x .entry)) ⌝ }
 {
-    if x.len() != 117 {
+    if x.len() != SESSION {
         return false;
     }
     if octets::get(x, 0, 1) > 1 {
@@ -214,7 +217,7 @@ fn session_shaped(x: &[u8]) -> bool
         return false;
     }
     let from: usize = 101;
-    let to: usize = 117;
+    let to: usize = SESSION;
     marks_shaped(&x[from..to])
 }
 
@@ -233,9 +236,9 @@ fn round_at(x: &[u8]) -> Round
     }
 }
 
-// The session of 117 bytes.
+// The session of its bytes.
 fn session_at(x: &[u8]) -> Session
-    requires { ⌜ length (now x) ≡ 117 ⌝ }
+    requires { ⌜ length (now x) ≡ sessionLength ⌝ }
     ensures { λ r. ⌜ r ≡ sessionAt (now (x .entry)) ⌝ }
 {
     let operation = operation_of(octets::get(x, 0, 1));
@@ -244,7 +247,7 @@ fn session_at(x: &[u8]) -> Session
     let greatest = Time(octets::get(x, 53, 8));
     let stamp = terms::stamp_at(x, 61);
     let from: usize = 101;
-    let to: usize = 117;
+    let to: usize = SESSION;
     let marks = marks_of(&x[from..to]);
     Session {
         operation: operation,
@@ -322,7 +325,7 @@ fn write_bound(x: &mut [u8], b: Bound)
 
 // The marks, in their place. The second fact is for the session that they are of.
 fn write_marks(x: &mut [u8], marks: [Mark; 16])
-    requires { ⌜ 117 ≤ length (now x) ⌝ }
+    requires { ⌜ sessionLength ≤ length (now x) ⌝ }
     ensures { λ _. ⌜ (now (x .exit) ≡ put (now (x .entry)) 101 (markBytes marks)) × (length marks ≡ 16) ⌝ }
 {
     let mut i: usize = 0;
@@ -348,7 +351,7 @@ fn write_round(x: &mut [u8], r: Round)
 
 // What a session asks with: the first 53 bytes.
 fn write_asks(x: &mut [u8], s: Session)
-    requires { ⌜ 117 ≤ length (now x) ⌝ }
+    requires { ⌜ sessionLength ≤ length (now x) ⌝ }
     ensures { λ _. ⌜ now (x .exit) ≡ put (now (x .entry)) 0 (askBytes s) ⌝ }
 {
     let operation = s.operation;
@@ -361,7 +364,7 @@ fn write_asks(x: &mut [u8], s: Session)
 
 // What it has heard: the other 64. The second fact is for the length of the whole.
 fn write_heard(x: &mut [u8], s: Session)
-    requires { ⌜ 117 ≤ length (now x) ⌝ }
+    requires { ⌜ sessionLength ≤ length (now x) ⌝ }
     ensures { λ _. ⌜ (now (x .exit) ≡ put (now (x .entry)) 53 (heardBytes s)) × (length (s .marks) ≡ 16) ⌝ }
 {
     let greatest = s.greatest;
@@ -372,9 +375,9 @@ fn write_heard(x: &mut [u8], s: Session)
     write_marks(x, marks);
 }
 
-// A session as 117 bytes.
+// A session as its bytes.
 pub fn write_session(s: Session, x: &mut [u8])
-    requires { ⌜ length (now x) ≡ 117 ⌝ }
+    requires { ⌜ length (now x) ≡ sessionLength ⌝ }
     ensures { λ _. ⌜ now (x .exit) ≡ sessionBytes s ⌝ }
 {
     write_asks(x, s);

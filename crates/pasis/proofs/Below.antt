@@ -34,7 +34,7 @@ use Rattle.session.specs.Reader.{Outcome, outcome, readReply}
 use Rattle.session.specs.Writer.{writeReply}
 use Rattle.session.proofs.Checks.{first-map, none-applies}
 use Rattle.packing.specs.PlanBytes.{planOf}
-use Rattle.packing.specs.SessionBytes.{sessionBytes, sessionOf}
+use Rattle.packing.specs.SessionBytes.{sessionLength, sessionBytes, sessionOf}
 use Rattle.packing.proofs.Inverse.{session-back}
 use Rattle.packing.proofs.Laws.{length-session}
 use Rattle.answers.specs.Answers.{bothFit, lentLadder, dueNumber, answerNumber, endingAfter, refusalAt, answerOf}
@@ -43,7 +43,7 @@ use Rattle.pasis.proofs.Carried.{Lasts, Carried, opened-lasts, read-car
 use Rattle.pasis.proofs.Nine.{lent-none}
 
 pub record Held (s d : List ℕ) : Type 0 where
-  pub long : length s ≡ 117
+  pub long : length s ≡ sessionLength
   pub lasts : Lasts (sessionOf s) d
 
 -- the answer, the session, the desk and the item that the bytes are: o
@@ -112,7 +112,7 @@ record IsDue (o : Dues) : Type 0 where
   answer : Owed
   is : dueOf answer ≡ o .due
 
-module _ (x s : List ℕ) (n : ℕ) (d q : List ℕ) (r : ℕ) (q₂ : List ℕ) (ok : planOk (planOf x) ≡ true) (long : length s ≡ 117) (c : OwedServes x s n d q r q₂) where
+module _ (x s : List ℕ) (n : ℕ) (d q : List ℕ) (r : ℕ) (q₂ : List ℕ) (ok : planOk (planOf x) ≡ true) (long : length s ≡ sessionLength) (c : OwedServes x s n d q r q₂) where
   due : IsDue (owedTo (planOf x) (sessionOf s) n d q)
   unfolding owedTo
   due =
@@ -123,7 +123,7 @@ module _ (x s : List ℕ) (n : ℕ) (d q : List ℕ) (r : ℕ) (q₂ : List ℕ)
   pub owed-below : OwedBelow x s n d q r q₂
   unfolding owedBytes
   owed-below =
-      let e : asked r q₂ ≡ askedAs (owedTo (planOf x) (sessionOf s) n d q) = c .is ∙ sym (lent-none (planOf x) _ _ _ ok (eq-eqb (length s) 117 long) refl) in
+      let e : asked r q₂ ≡ askedAs (owedTo (planOf x) (sessionOf s) n d q) = c .is ∙ sym (lent-none (planOf x) _ _ _ ok (eq-eqb (length s) sessionLength long) refl) in
       record {
         owed = due .answer;
         call = record { is = λ j. dues (due .is j) (e j .request) };
@@ -132,7 +132,7 @@ module _ (x s : List ℕ) (n : ℕ) (d q : List ℕ) (r : ℕ) (q₂ : List ℕ)
 
 -- ---- a reply
 -- s and e are the session and the ending that a call was lent, o what the call below gives
-module _ (s e : List ℕ) (o : Outcome) (long : length s ≡ 117) (c : Carried (sessionOf s) o) where
+module _ (s e : List ℕ) (o : Outcome) (long : length s ≡ sessionLength) (c : Carried (sessionOf s) o) where
   session-kept : sessionOf (sessionAfter (o .said) (o .session) s) ≡ o .session
   unfolding sessionAfter
   session-kept = go (isRefused (o .said)) refl
@@ -141,9 +141,9 @@ module _ (s e : List ℕ) (o : Outcome) (long : length s ≡ 117) (c : Carried (
       go true q = sym (c .stays q)
       go false q = session-back (o .session) (c .lasts .fits)
 
-  session-long : length (sessionAfter (o .said) (o .session) s) ≡ 117
+  session-long : length (sessionAfter (o .said) (o .session) s) ≡ sessionLength
   unfolding sessionAfter
-  session-long = either (λ (l : List ℕ). length l ≡ 117) (isRefused (o .said)) long (length-session (o .session) (c .lasts .fits .marks))
+  session-long = either (λ (l : List ℕ). length l ≡ sessionLength) (isRefused (o .said)) long (length-session (o .session) (c .lasts .fits .marks))
 
   answer-kept : saidOf (answerOf (answerNumber (o .said)) (endingAfter (o .said) e)) ≡ o .said
   answer-kept =
@@ -165,11 +165,11 @@ module _ (s e : List ℕ) (o : Outcome) (long : length s ≡ 117) (c : Carried (
 module _ (x s d : List ℕ) (ok : planOk (planOf x) ≡ true) (h : Held s d) (f i e : List ℕ) where
   both-fit : eqb (length e) 42 ≡ true → bothFit (length s) (length e) ≡ true
   unfolding bothFit
-  both-fit t = rw (eq-eqb (length s) 117 (h .long), t)
+  both-fit t = rw (eq-eqb (length s) sessionLength (h .long), t)
 
   not-both : eqb (length e) 42 ≡ false → bothFit (length s) (length e) ≡ false
   unfolding bothFit
-  not-both t = rw (eq-eqb (length s) 117 (h .long), t)
+  not-both t = rw (eq-eqb (length s) sessionLength (h .long), t)
 
   none-lent : (pass : TookBytes) → eqb (length e) 42 ≡ false
       → first (lentLadder (planOf x) (bothFit (length s) (length e))) (λ (k : ℕ). tookBytes k s d i e) pass ≡ tookBytes 2 s d i e

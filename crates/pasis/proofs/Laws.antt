@@ -31,7 +31,7 @@ use Rattle.session.specs.Writer.{Leaves, writeReply, WriteReplyCall}
 use Rattle.session.specs.Reader.{Outcome, readReply, ReadReplyCall}
 use Rattle.session.proofs.Checks.{none-applies, goes-on, stops, refusal-low}
 use Rattle.packing.specs.PlanBytes.{planOf}
-use Rattle.packing.specs.SessionBytes.{sessionBytes, sessionOf}
+use Rattle.packing.specs.SessionBytes.{sessionLength, sessionBytes, sessionOf}
 use Rattle.answers.specs.Answers.{answerNumber, bothFit, dueNumber, endingAfter, lentLadder, madeNumber, servedNumber}
 use Rattle.pasis.specs.Store.{FreshBook, NodeServes}
 use Rattle.pasis.specs.Client.{sessionFits, sessionAfter, openedBytes, openedAs, openBytes, OpenServes, asked, askedAs, owedBytes, OwedServes, tookBytes, tookAs, withItem, readBytes, writeBytes, WriteServes, ReadServes}
@@ -92,13 +92,13 @@ module _ {A : Type 0} (x : List ℕ) (fits : Bool) (k : ℕ) (l : Lent x fits k)
 pub lent-fits : (x : List ℕ) (fits : Bool) (k : ℕ) → Lent x fits k → k ≡ 0 → fits ≡ true
 lent-fits x fits k l e = not-false fits (none-applies (lentLadder (planOf x) fits) refl (l .came ∙ e) .1 .0)
 
-both-are : (s e : ℕ) → bothFit s e ≡ true → (s ≡ 117) × (e ≡ 42)
+both-are : (s e : ℕ) → bothFit s e ≡ true → (s ≡ sessionLength) × (e ≡ 42)
 unfolding bothFit
-both-are s e h = let q = both (eqb s 117) (eqb e 42) h in (eqb-true s 117 (q .0), eqb-true e 42 (q .1))
+both-are s e h = let q = both (eqb s sessionLength) (eqb e 42) h in (eqb-true s sessionLength (q .0), eqb-true e 42 (q .1))
 
 -- where it passes, session and ending have their lengths
 pub both-lent : (x : List ℕ) (s e : ℕ) (p : Plan) (b : Bool) (k : ℕ) → p ≡ planOf x → b ≡ bothFit s e → k ≡ first (lentLadder p b) (λ (j : ℕ). j) 0 → k ≡ 0
-    → (s ≡ 117) × (e ≡ 42)
+    → (s ≡ sessionLength) × (e ≡ 42)
 both-lent x s e p b k f g h z = both-are s e (lent-fits x _ k (lent-both x s e p b k f g h) z)
 
 -- ---- opening

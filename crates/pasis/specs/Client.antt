@@ -24,13 +24,13 @@ use Rattle.session.specs.Owed.{Dues, owedTo}
 use Rattle.session.specs.Writer.{Leaves, writeReply}
 use Rattle.session.specs.Reader.{Outcome, outcome, readReply}
 use Rattle.packing.specs.PlanBytes.{planOf}
-use Rattle.packing.specs.SessionBytes.{sessionBytes, sessionOf}
+use Rattle.packing.specs.SessionBytes.{sessionLength, sessionBytes, sessionOf}
 use Rattle.answers.specs.Answers.{bothFit, lentLadder, dueNumber, answerNumber, endingAfter}
 
 -- ---- lengths
 -- a session or an ending of a wrong length is 2
 abbrev pub sessionFits : ℕ → Bool
-sessionFits s = eqb s 117
+sessionFits s = eqb s sessionLength
 
 -- ---- the session bytes after an answer
 unfoldable pub sessionAfter : Said → Session → List ℕ → List ℕ

@@ -14,12 +14,12 @@ ghost use lib.ListN.{length};
 ghost use Rattle.standing.specs.declared.Operation.the-variants.{Write, Read};
 ghost use Rattle.session.specs.Session.{saidOf};
 ghost use Rattle.session.specs.Opening.{openingNumber, OpenCall};
-ghost use Rattle.packing.specs.SessionBytes.{sessionBytes};
+ghost use Rattle.packing.specs.SessionBytes.{sessionLength, sessionBytes};
 ghost use Rattle.pasis.specs.Client.{sessionAfter, OpenServes, OwedServes, WriteServes, ReadServes};
 
 // Writes the session of an accepted opening, and gives the answer's number.
 fn keep_opened(o: Opened, session: &mut [u8]) -> u32
-    requires { ⌜ length (now session) ≡ 117 ⌝ }
+    requires { ⌜ length (now session) ≡ sessionLength ⌝ }
     ensures { λ r. ⌜ (r ≡ openingNumber (o .answer))
         × (now (session .exit) ≡ cond (eqb (openingNumber (o .answer)) 0) (sessionBytes (o .session)) (now (session .entry))) ⌝ }
 {
@@ -49,7 +49,7 @@ fn open_into(op: Operation, plan: &[u8], ask: u64, session: &mut [u8]) -> u32
     ensures { λ r. ⌜ OpenServes op (now (plan .entry)) ask (now (session .entry)) r (now (session .exit)) ⌝ }
 {
     let p = packing::plan_of(plan);
-    let k = answers::lent(p, session.len() == 117);
+    let k = answers::lent(p, session.len() == packing::SESSION);
     if k != 0 {
         return k;
     }
@@ -92,7 +92,7 @@ pub extern "C" fn pasis_owed(
         (now (request .exit)) ⌝ }
 {
     let p = packing::plan_of(plan);
-    let k = answers::lent(p, session.len() == 117);
+    let k = answers::lent(p, session.len() == packing::SESSION);
     if k != 0 {
         return k;
     }
@@ -103,7 +103,7 @@ pub extern "C" fn pasis_owed(
 
 // Writes a session after an answer that is not a refusal.
 fn keep_session(a: Answer, s: Session, session: &mut [u8])
-    requires { ⌜ length (now session) ≡ 117 ⌝ }
+    requires { ⌜ length (now session) ≡ sessionLength ⌝ }
     ensures { λ _. ⌜ now (session .exit) ≡ sessionAfter (saidOf a) s (now (session .entry)) ⌝ }
 {
     if answers::is_refused(a) {

@@ -5,6 +5,7 @@ pub mod client;
 pub mod store;
 
 ghost use mathlib.Core.Path.{_≡_};
+ghost use Rattle.packing.specs.SessionBytes.{sessionLength};
 
 // The number of this interface: what its plan and session bytes are. Document 02's requests will extend them.
 #[no_mangle]
@@ -24,9 +25,9 @@ pub extern "C" fn pasis_plan_size() -> usize
 
 #[no_mangle]
 pub extern "C" fn pasis_session_size() -> usize
-    ensures { λ r. ⌜ r ≡ 117 ⌝ }
+    ensures { λ r. ⌜ r ≡ sessionLength ⌝ }
 {
-    117
+    packing::SESSION
 }
 
 #[no_mangle]

@@ -1,6 +1,7 @@
 -- The hypotheses of HostRuns can be met. Every run of calls below is a host's (hosted-reads, hosted-writes): so are the runs of
 -- client/proofs/Instances, a read of two rounds that ends with a repair (host-counted-so) and a whole write (host-write-so). A read in bytes, with a
--- call that is lent a wrong ending and a frame that is refused: host-run, host-read-so, host-kept-so, host-owed-so. Assumes nothing.
+-- call that is lent a wrong ending and a frame that is refused: host-run, host-read-so, host-kept-so, host-owed-so. A write that has just been opened:
+-- host-time-so. Assumes nothing.
 use Prim.{tt}
 use Prim.Native.Nat.{ℕ, _*_, _≤_}
 use mathlib.Core.Path.{_≡_, refl, sym, ap, _∙_, subst}
@@ -16,7 +17,7 @@ use Rattle.terms.specs.Terms.{planOk, openingOk, countsOk, limitsOk, columnOf, 
 use Rattle.terms.specs.declared.Plan.{Plan}
 use Rattle.terms.proofs.Ladders.{is-passed}
 use Rattle.terms.proofs.Small.{small, small-octets}
-use Rattle.frame.specs.Frame.{readReplyKind, readLatestKind, frame, shaped, bodyFits, forParty, oneOf, suits, goodFrame, goodReply}
+use Rattle.frame.specs.Frame.{readReplyKind, readLatestKind, timeRequestKind, frame, shaped, bodyFits, forParty, oneOf, suits, goodFrame, goodReply}
 use Rattle.rounds.specs.Rounds.{heardCount, every, slotsFit, slotFits, leadOf, stepOf, aheadOf, closeWith}
 use Rattle.standing.specs.declared.Operation.the-variants.{Write, Read}
 use Rattle.session.specs.declared.Session.{Session}
@@ -35,7 +36,7 @@ use Rattle.session.proofs.Kept.{Kept}
 use Rattle.report.specs.Triple.{Message}
 use Rattle.report.specs.Figure3.{VALIDATE, in-time, has, with-it, receives, DO-READ, READ, ResponseSet}
 use Rattle.report.specs.Ours.{family}
-use Rattle.report.specs.Sent.{Commands, inResponseSet, Owes}
+use Rattle.report.specs.Sent.{Commands, WriteCommands, inResponseSet, inWriteSet, Owes}
 use Rattle.report.specs.Run.{Polled, unpolled, messageOf, polls, polledOver, EachTells, AllFull, Apart, AllApart}
 use Rattle.report.specs.WriteRun.{noneOf, untimed, EachWrites}
 use Rattle.client.specs.Sessions.{lastSession, lastDesk}
@@ -48,7 +49,7 @@ use Rattle.pasis.specs.Client.{sessionAfter, withItem, openBytes, OpenServes, o
 use Rattle.pasis.proofs.Laws.{Lent, Handed, read-served, write-served}
 use Rattle.pasis.proofs.Carried.{Lasts, Carried, opened-lasts, read-carried, write-carried}
 use Rattle.demands.specs.HostRuns.{HostTurn, HostReads, HostWrites, HostCalls, below, HostOwes}
-use Rattle.demands.proofs.HostRuns.{host-read-as-the-report, host-write-as-the-report, host-counted-rounds, host-every-session, host-read-requests-as-the-report}
+use Rattle.demands.proofs.HostRuns.{host-read-as-the-report, host-write-as-the-report, host-counted-rounds, host-every-session, host-read-requests-as-the-report, host-write-requests-as-the-report}
 
 -- ---- every run of calls is a host's
 -- each call with an ending of 42 zeros
@@ -302,3 +303,24 @@ pub host-owed-so : HostOwes (Owes (Commands (planOf y) (READ (family (planOf y))
 host-owed-so =
     host-read-requests-as-the-report y 5 (replicate sessionLength 0) session-1 desk two-calls opens-so desk-long (small-octets desk zeros)
     (host-run .0, (host-run .1 .0, tt)) (subst (AllApart (planOf y)) (sym no-round) tt) 0 (replicate 88 0) 0 (over (frame readLatestKind 0 5 []) (replicate 88 0)) owed-so
+
+-- ---- a write at the same plan, before any reply: the request owed to node 0 is TIME
+unfoldable pub session-w : List ℕ
+session-w = 0 ∷ 0 ∷ 0 ∷ 1 ∷ (replicate 48 0 ++ (5 ∷ replicate 64 0))
+
+module _ where
+  write-opens-so : OpenServes Write y 5 (replicate 117 0) 0 session-w
+  unfolding y session-w openBytes openWith first planOk countsOk limitsOk columnOf all planOf planShaped planAt memberOf clientsOf num numFrom part sessionBytes askBytes roundBytes boundBytes heardBytes markBytes be beOnto stampNumber then
+  write-opens-so = record { is = refl }
+
+  time-owed-so : OwedServes y session-w 0 desk (replicate 88 0) 0 (over (frame timeRequestKind 0 5 []) (replicate 88 0))
+  unfolding y session-w desk owedBytes owedTo roomOk requestOf first planOk countsOk limitsOk columnOf all planOf planShaped planAt memberOf clientsOf num numFrom part sessionOf sessionShaped sessionAt roundAt boundShaped boundOf marksShaped marksOf operationOf stageOf heardOf stampAt recordLength inRange roundRules standingRules openRules every heardCount slotsFit slotFits askIn isHeard
+  time-owed-so = record { is = refl }
+
+pub host-time-so : HostOwes (Owes (WriteCommands (planOf y) (sessionOf session-w .round .stage) untimed 0 (askNow (sessionOf session-w)))
+    (owedLadder (planOf y) (sessionOf session-w) 0 desk 88) (inWriteSet (sessionOf session-w .round .stage) untimed 0))
+    0 (replicate 88 0) (over (frame timeRequestKind 0 5 []) (replicate 88 0))
+unfolding below
+host-time-so =
+    host-write-requests-as-the-report y 5 (replicate 117 0) session-w desk [] write-opens-so tt 0 (replicate 88 0) 0
+    (over (frame timeRequestKind 0 5 []) (replicate 88 0)) time-owed-so

@@ -309,7 +309,7 @@ unfoldable pub session-w : List ℕ
 session-w = 0 ∷ 0 ∷ 0 ∷ 1 ∷ (replicate 48 0 ++ (5 ∷ replicate 64 0))
 
 module _ where
-  write-opens-so : OpenServes Write y 5 (replicate 117 0) 0 session-w
+  write-opens-so : OpenServes Write y 5 (replicate sessionLength 0) 0 session-w
   unfolding y session-w openBytes openWith first planOk countsOk limitsOk columnOf all planOf planShaped planAt memberOf clientsOf num numFrom part sessionBytes askBytes roundBytes boundBytes heardBytes markBytes be beOnto stampNumber then
   write-opens-so = record { is = refl }
 
@@ -322,5 +322,5 @@ pub host-time-so : HostOwes (Owes (WriteCommands (planOf y) (sessionOf session-w
     0 (replicate 88 0) (over (frame timeRequestKind 0 5 []) (replicate 88 0))
 unfolding below
 host-time-so =
-    host-write-requests-as-the-report y 5 (replicate 117 0) session-w desk [] write-opens-so tt 0 (replicate 88 0) 0
+    host-write-requests-as-the-report y 5 (replicate sessionLength 0) session-w desk [] write-opens-so tt 0 (replicate 88 0) 0
     (over (frame timeRequestKind 0 5 []) (replicate 88 0)) time-owed-so

@@ -40,7 +40,7 @@ use Rattle.report.specs.Triple.{Same}
 use Rattle.client.proofs.ComesBack.{block-comes-back}
 use Rattle.report.specs.Figure1.{INITIALIZE, VALIDATE}
 use Rattle.report.specs.Ours.{history, family, tripleOf}
-use Rattle.report.specs.Run.{OfPlan, received, unpolled, polledOver, AllApart, AllFull, EachTells}
+use Rattle.report.specs.Run.{InBytes, received, unpolled, polledOver, AllApart, AllFull, EachTells}
 use Rattle.report.specs.WriteRun.{untimed, EachWrites, timedOver}
 use Rattle.report.proofs.Plans.{accepted-is, accepted-back}
 use Rattle.report.proofs.Node.{time-acts, latest-acts, previous-acts, write-acts, invalid-acts, valid-executes, fresh-run}
@@ -85,8 +85,8 @@ pub invalid-as-the-report : (p : Plan) (f b y : List ℕ) → Octets f → Octet
 invalid-as-the-report p f b y of ob = invalid-acts p f b y ob of
 
 -- Over any calls, from a fresh book on: the versions that a book holds are those that Figure 1 holds from INITIALIZE on, given every well-shaped write
--- request that 5, 7 and 8 do not bar.
-pub node-over-time : (p : Plan) (node : ℕ) (b b₂ : List ℕ) (cs : List Call) → FreshCall p node b Fresh b₂ → History b₂ cs → OfPlan p cs
+-- request that 5, 7 and 8 do not bar. Each call has a plan of its own: the book fixes N and F, and under others a call changes nothing.
+pub node-over-time : (p : Plan) (node : ℕ) (b b₂ : List ℕ) (cs : List Call) → FreshCall p node b Fresh b₂ → History b₂ cs → InBytes cs
     → Same (history p (lastBook b₂ cs)) (received p node INITIALIZE b₂ cs)
 node-over-time = fresh-run
 

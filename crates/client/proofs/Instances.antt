@@ -4,3 +4,4 @@ pub mod Write
 pub mod Repair
 pub mod Stamp
 pub mod Round
+pub mod Orders

@@ -5,6 +5,7 @@
 --   valid-as-the-report invalid-as-the-report   when a write request is executed, and when it is turned away
 --   write-as-the-report    a whole write, from its opening, is Figure 2's WRITE
 --   read-as-the-report     a whole read, from its opening, is Figure 3's READ, cut at W
+--   rounds-are-counted     the rounds that a read reports are those that it closed, and at most W
 --   read-requests-as-the-report write-requests-as-the-report   what is sent to a node is what the figures send to it
 --   comes-back written-comes-back   an encoded block comes back from any m of its N fragments; so does what our writer writes
 -- The figures are in report/specs, with (01) beside what document 01 adds or closes. That the hash and the field are those of the papers is
@@ -13,7 +14,7 @@
 use Prim.Native.Nat.{ℕ, _*_, _≤_, _<_}
 use mathlib.Core.Path.{_≡_}
 use mathlib.Core.Bool.{true, false}
-use mathlib.Core.List.{List}
+use mathlib.Core.List.{List, _∷_}
 use lib.ListN.{length}
 use Rattle.octets.specs.Bytes.{Octets}
 use Rattle.fragments.specs.Fragments.{All, Distinct, Room, laid, encoded}
@@ -35,9 +36,10 @@ use Rattle.session.specs.declared.Operation.the-variants.{Write, Read}
 use Rattle.session.specs.Opening.{OpenCall}
 use Rattle.recover.specs.Records.{recordsFor}
 use Rattle.store.specs.History.{Call, History, lastBook}
-use Rattle.client.specs.Turns.{Turn, ReadTurn, WriteTurn, Calls}
+use Rattle.client.specs.Turns.{Turn, ReadTurn, WriteTurn, Calls, closedRounds, Reports, lastSaid}
 use Rattle.report.specs.Triple.{Same}
 use Rattle.client.proofs.ComesBack.{block-comes-back}
+use Rattle.client.proofs.Counting.{counted-rounds}
 use Rattle.report.specs.Figure1.{INITIALIZE, VALIDATE}
 use Rattle.report.specs.Ours.{history, family, tripleOf}
 use Rattle.report.specs.Run.{InBytes, received, unpolled, polledOver, AllApart, AllFull, EachTells}
@@ -104,6 +106,12 @@ pub read-as-the-report : (p : Plan) (a : Ask) (r : Opened) (d : List ℕ) (cs : 
     → length d ≡ p .n * recordLength p → Octets d → Calls (ReadTurn p) (r .session) d cs → AllApart p (polledOver p (r .session) d unpolled cs .rounds)
     → EachTells p (r .session) d unpolled cs × AllFull p (polledOver p (r .session) d unpolled cs .rounds)
 read-as-the-report = opened-read
+
+-- "Rounds used are reported with every read ending and never exceed W": from an accepted opening on, whatever replies come, the rounds that the last
+-- answer reports are the read rounds that the calls closed, each at its N-t-th accepted reply (closedRounds), and at most W.
+pub rounds-are-counted : (p : Plan) (a : Ask) (r : Opened) → OpenCall Read p a r → r .answer ≡ Accepted → (d : List ℕ) (t : Turn) (ts : List Turn)
+    → Calls (ReadTurn p) (r .session) d (t ∷ ts) → (n : ℕ) → Reports (lastSaid t ts) n → (n ≡ closedRounds p 0 (r .session) (t ∷ ts)) × (n ≤ p .w)
+rounds-are-counted = counted-rounds
 
 -- In every state that those replies lead to, a request owed to a node S is the frame of what READ has to send to S then, READ_LATEST, READ_PREVIOUS
 -- with the candidate's timestamp, or WRITE with S's own member of the set that is sent; and 11 is for a node that is in the response set.

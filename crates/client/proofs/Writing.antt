@@ -9,7 +9,7 @@ use borrow.Author.Tests.{ltb-true, ltb-false, eqb-true, eqb-false, eq-eqb, ne-eq
 use lib.Dec.{eqb}
 use lib.ListN.{length}
 use Rattle.terms.specs.Ladder.{first, None}
-use Rattle.terms.specs.Stamp.{time, stampNumber, top}
+use Rattle.terms.specs.Stamp.{time, top}
 use Rattle.terms.specs.declared.Plan.{Plan}
 use Rattle.frame.specs.Frame.{frameNode, bodyOf}
 use Rattle.rounds.specs.declared.Heard.the-variants.{Record}
@@ -46,7 +46,7 @@ module _ (p : Plan) (s : Session) (f d i : List ℕ) where
       unfolding acceptedWrite writeTurn
       waits-write h = is-accepted ∙ rw (q, few-open p kept h)
 
-      pub ends-write : replies p ≤ heardCount (kept .marks) → writeReply p s f d i ≡ leaves (done (stampNumber (s .stamp)) 0) (endedOf kept) d
+      pub ends-write : replies p ≤ heardCount (kept .marks) → writeReply p s f d i ≡ leaves (done (s .stamp) 0) (endedOf kept) d
       unfolding acceptedWrite writeTurn
       ends-write h = is-accepted ∙ rw (q, many-over p kept h)
 

@@ -104,7 +104,7 @@ desk-small = refl
 left : Outcome
 left = readReply plan start reply desk (0 ∷ [])
 
-said-is : left .said ≡ done (stampNumber (stampAt rec 0)) 1
+said-is : left .said ≡ done (stampAt rec 0) 1
 unfolding left reply desk rec readReply first planOk countsOk limitsOk columnOf all recordLength lengthsOk inRange standingRules openRules every heardCount slotsFit slotFits goodReply goodFrame suits shaped forParty oneOf bodyFits awaited askNow awaitsKind isHeard bears accepted heard settled closeWith leadOf stepOf aheadOf slotStamp joinsOf setOf actFor actOn sound validates decided classOf among regenerated fragmentHash prefixOf row crossMade hashesOk underOf num numFrom part put be beOnto alike timeZero stampAt stampNumber then sha256 after compressOf addedOf roundsOf roundOf T1 T2 scheduleOf words padding bigEndian K
 said-is = refl
 

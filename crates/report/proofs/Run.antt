@@ -179,7 +179,8 @@ module _ (p : Plan) (s : Session) (d i : List ℕ) (w : Polled) (st : s .round .
             let v = c .never (eqb-true ts 0 z) in
             subst (λ (y : Outcome). Leaves p y rolled-over) (sym (v .1))
             (record { keeps = tt; tells = (e ∙ (λ j. returned (eqb-true ts 0 z j) (v .0 j)), counted); full = full-now })
-        go false z = subst (λ (y : Outcome). Leaves p y rolled-over) (sym (c .value (positive ts z))) (record { keeps = tt; tells = (inl e, counted); full = full-now })
+        go false z = subst (λ (y : Outcome). Leaves p y rolled-over) (sym (c .value (positive ts z)))
+            (record { keeps = tt; tells = (inl (rw (c .number) e), counted); full = full-now })
     by-decision o (repaired sent ts Data) e c =
         let is : READ (family p) (w .now ∷ w .rounds) ≡ repaired sent (stampNumber (c .stamp)) Data = e ∙ ap (λ (x : ℕ). repaired sent x Data) (sym (c .number)) in
         subst (λ (y : Outcome). Leaves p y rolled-over) (sym (c .is))
@@ -287,7 +288,7 @@ module _ (p : Plan) (d i : List ℕ) (ok : planOk p ≡ true) (ld : length d ≡
 
         go : (t : Bool) → ltb (heardCount (markedOf s (frameNode f) Record .marks)) (replies p) ≡ t
             → Leaves p (cond t (outcome stillOpen (markedOf s (frameNode f) Record) d i)
-            (outcome (done (stampNumber (s .stamp)) (s .round .number)) (endedOf (markedOf s (frameNode f) Record)) d (collected p d i))) with-response
+            (outcome (done (s .stamp) (s .round .number)) (endedOf (markedOf s (frameNode f) Record)) d (collected p d i))) with-response
         go true e =
             record {
               keeps = subst (λ (x : Stage). KeepsAt x p (markedOf s (frameNode f) Record) d with-response) (sym st)

@@ -207,7 +207,7 @@ unfolding writeTurn
 writes-on p s d w st k most = go (ltb (heardCount (s .marks)) (replies p)) refl
   where
     go : (t : Bool) → ltb (heardCount (s .marks)) (replies p) ≡ t
-        → Right p (cond t (leaves stillOpen s d) (leaves (done (stampNumber (s .stamp)) 0) (endedOf s) d)) w
+        → Right p (cond t (leaves stillOpen s d) (leaves (done (s .stamp) 0) (endedOf s) d)) w
     go true e =
         record {
           keeps = subst (λ (x : Stage). KeepsAt x p s d w) (sym st) k;

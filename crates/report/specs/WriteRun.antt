@@ -73,7 +73,7 @@ Wrote p (refused k) w = Unit {0}
 Wrote p stillOpen w =
     (length (clocks (w .times)) < enough (family p))
     ⊎ ((length (clocks (w .times)) ≡ enough (family p)) × (length (acknowledged (w .stored)) < enough (family p)))
-Wrote p (done ts rounds) w = (ts ≡ ts-written (family p) (w .Data) (w .times)) × (length (acknowledged (w .stored)) ≡ enough (family p))
+Wrote p (done t rounds) w = (stampNumber t ≡ ts-written (family p) (w .Data) (w .times)) × (length (acknowledged (w .stored)) ≡ enough (family p))
 Wrote p (neverWritten rounds) w = ⊥
 Wrote p (aborted rounds) w = ⊥
 Wrote p (roundsSpent rounds) w = ⊥

@@ -13,7 +13,7 @@ use Rattle.octets.proofs.Laws.{length-part}
 use Rattle.octets.proofs.Meaning.{num-small, bytes-part, bytes-all}
 use Rattle.terms.specs.Ladder.{first}
 use Rattle.terms.specs.Terms.{recordLength}
-use Rattle.terms.specs.Stamp.{time, stampAt, stampNumber, top}
+use Rattle.terms.specs.Stamp.{time, stampAt, top}
 use Rattle.terms.specs.declared.Plan.{Plan}
 use Rattle.terms.specs.declared.Ask.{Ask}
 use Rattle.terms.specs.declared.Time.{Time}
@@ -133,7 +133,7 @@ module _ (p : Plan) (s : Session) (f d i : List ℕ) (o : Octets f) (k : Kept p 
       unfolding writeTurn
       in-write = go (roundOpen p u) refl
         where
-          go : (c : Bool) → roundOpen p u ≡ c → Good (cond c (leaves stillOpen u d) (leaves (done (stampNumber (u .stamp)) 0) (endedOf u) d))
+          go : (c : Bool) → roundOpen p u ≡ c → Good (cond c (leaves stillOpen u d) (leaves (done (u .stamp) 0) (endedOf u) d))
           go true c = still c
           go false c = ends
 

@@ -11,7 +11,7 @@ use Rattle.octets.specs.Bytes.{put}
 use Rattle.terms.specs.Ladder.{first, None, _and_}
 use Rattle.terms.proofs.Down.{clear}
 use Rattle.terms.specs.Terms.{recordLength, slotsOf}
-use Rattle.terms.specs.Stamp.{stamp, stampNumber}
+use Rattle.terms.specs.Stamp.{stamp}
 use Rattle.terms.specs.declared.Plan.{Plan}
 use Rattle.frame.specs.Frame.{frameNode, bodyOf}
 use Rattle.rounds.specs.declared.Heard.{Heard}
@@ -141,7 +141,7 @@ module _ (p : Plan) (s : Session) (f d i : List ℕ) (k : Kept p s d) where
         no-read Ended e = rw reads
 
         go : (c : Bool) → roundOpen p (u Record) ≡ c
-            → Good (cond c (outcome stillOpen (u Record) d i) (outcome (done (stampNumber (s .stamp)) (s .round .number)) (endedOf (u Record)) d (collected p d i)))
+            → Good (cond c (outcome stillOpen (u Record) d i) (outcome (done (s .stamp) (s .round .number)) (endedOf (u Record)) d (collected p d i)))
         go true c =
             record {
               range = open-in-range p (u Record) d (stood Record) (heard-open p s (frameNode f) (s .greatest) d (no-read (s .round .stage) t) (q .opens) c);

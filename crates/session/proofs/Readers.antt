@@ -13,7 +13,7 @@ use Rattle.octets.proofs.Laws.{slot-room}
 use Rattle.terms.specs.Ladder.{first}
 use Rattle.terms.specs.declared.Refusal.{Refusal}
 use Rattle.terms.specs.Terms.{planOk, recordLength, refusalNumber, slotsOf, thresholdsOf}
-use Rattle.terms.specs.Stamp.{stamp, stampNumber}
+use Rattle.terms.specs.Stamp.{stamp}
 use Rattle.terms.specs.declared.Plan.{Plan}
 use Rattle.terms.specs.declared.Timestamp.{Timestamp}
 use Rattle.terms.specs.declared.Verdict.{Verdict}
@@ -60,7 +60,7 @@ module _ (p : Plan) (s : Session) (t : Timestamp) (d i : List ℕ) where
 
 module _ (p : Plan) (s : Session) (c : Closed) (a : ℕ) (d i : List ℕ) (v : Verdict) where
   pub act-done : (x : Bool) (e : Session) (y : List ℕ) → v ≡ Complete → x ≡ sound p c a d → x ≡ true → e ≡ endedOf s → y ≡ decoded p c d i
-      → outcome (done (stampNumber (c .stamp)) (s .round .number)) e d y ≡ actOn v p s c a d i
+      → outcome (done (c .stamp) (s .round .number)) e d y ≡ actOn v p s c a d i
   unfolding actOn
   act-done x e y k f t q r = rw (k, ← f, t, q, r)
 
@@ -143,7 +143,7 @@ module _ (p : Plan) (s : Session) (d i : List ℕ) (x : Bool) (e : x ≡ roundOp
   stored-open h = rw (← e, h)
 
   pub stored-done : (o : Session) (y : List ℕ) → x ≡ false → o ≡ endedOf s → y ≡ collected p d i
-      → outcome (done (stampNumber (s .stamp)) (s .round .number)) o d y ≡ stored p s d i
+      → outcome (done (s .stamp) (s .round .number)) o d y ≡ stored p s d i
   unfolding stored
   stored-done o y h q r = rw (← e, h, q, r)
 

@@ -8,7 +8,7 @@ use lib.Dec.{eqb}
 use lib.ListN.{length, set}
 use Rattle.terms.specs.Ladder.{first}
 use Rattle.terms.specs.Terms.{refusalNumber}
-use Rattle.terms.specs.Stamp.{time, stampNumber, top}
+use Rattle.terms.specs.Stamp.{time, top}
 use Rattle.terms.specs.declared.Plan.{Plan}
 use Rattle.terms.specs.declared.Refusal.{Refusal}
 use Rattle.terms.specs.declared.Time.{Time}
@@ -46,7 +46,7 @@ module _ (p : Plan) (s : Session) (d : List ℕ) (x : Bool) (c : x ≡ roundOpen
   write-open h = rw (← c, h)
 
   module _ (h : x ≡ false) where
-    pub write-done : (y : Session) → y ≡ endedOf s → leaves (done (stampNumber (s .stamp)) 0) y d ≡ writeTurn p s d
+    pub write-done : (y : Session) → y ≡ endedOf s → leaves (done (s .stamp) 0) y d ≡ writeTurn p s d
     unfolding writeTurn
     write-done y e = rw (← c, h, e)
 

@@ -17,7 +17,6 @@ use lib.ListN.{set}
 use lib.Dec.{ltb, eqb}
 use Rattle.terms.specs.Ladder.{_and_}
 use Rattle.terms.specs.Terms.{refusalNumber}
-use Rattle.terms.specs.Stamp.{stampNumber}
 use Rattle.terms.specs.declared.Ask.{Ask}
 use Rattle.terms.specs.declared.Plan.{Plan}
 use Rattle.terms.specs.declared.Time.{Time}
@@ -111,7 +110,7 @@ storingOf s t = withMarks (withStamp (withRound s (inStage (s .round) Storing)) 
 pub data Said : Type 0 where
   refused : ℕ → Said
   stillOpen : Said
-  done : (stamp rounds : ℕ) → Said
+  done : (stamp : Timestamp) (rounds : ℕ) → Said
   neverWritten : (rounds : ℕ) → Said
   aborted : (rounds : ℕ) → Said
   roundsSpent : (rounds : ℕ) → Said
@@ -120,7 +119,7 @@ pub data Said : Type 0 where
 abbrev pub saidOf : Answer → Said
 saidOf (Refused r) = refused (refusalNumber r)
 saidOf Open = stillOpen
-saidOf (Done t n) = done (stampNumber t) n
+saidOf (Done t n) = done t n
 saidOf (NeverWritten n) = neverWritten n
 saidOf (Aborted n) = aborted n
 saidOf (RoundsSpent n) = roundsSpent n

@@ -16,7 +16,7 @@ use mathlib.Core.List.{List}
 use lib.ListN.{length, set}
 use lib.Dec.{ltb, eqb}
 use Rattle.terms.specs.Ladder.{first}
-use Rattle.terms.specs.Stamp.{time, stampNumber, top}
+use Rattle.terms.specs.Stamp.{time, top}
 use Rattle.terms.specs.declared.Plan.{Plan}
 use Rattle.frame.specs.Frame.{frameNode, bodyOf}
 use Rattle.recover.specs.Records.{stampFor, recordsFor}
@@ -59,7 +59,7 @@ timeTurn p s d i = cond (roundOpen p s) (leaves stillOpen s d) (timeEnd p s d i)
 
 -- a write that is done used no read rounds
 unfoldable pub writeTurn : Plan → Session → List ℕ → Leaves
-writeTurn p s d = cond (roundOpen p s) (leaves stillOpen s d) (leaves (done (stampNumber (s .stamp)) 0) (endedOf s) d)
+writeTurn p s d = cond (roundOpen p s) (leaves stillOpen s d) (leaves (done (s .stamp) 0) (endedOf s) d)
 
 unfoldable pub acceptedWrite : Plan → Session → List ℕ → List ℕ → List ℕ → Leaves
 acceptedWrite p s f d i =

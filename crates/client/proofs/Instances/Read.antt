@@ -339,4 +339,4 @@ pub back-so : call-6 .itemLeft ≡ 7 ∷ []
 unfolding plan from
 back-so =
     repair-comes-back plan 1 (7 ∷ []) plan-ok (small-octets (7 ∷ []) seven-small) refl (0 ∷ []) refl once-stored reply-6 desk-full (call-6 .took) desk-full (7 ∷ []) met-6
-    (stampNumber (stampAt desk-good 0)) 2 refl refl (ap (λ (d : List ℕ). slotOf plan d 0) (sym written-so), tt)
+    (stampAt desk-good 0) 2 refl refl (ap (λ (d : List ℕ). slotOf plan d 0) (sym written-so), tt)

@@ -110,6 +110,6 @@ pub item-so : call .itemLeft ≡ 7 ∷ []
 unfolding plan
 item-so =
     stamp-comes-back plan 1 (7 ∷ []) plan-ok (small-octets (7 ∷ []) seven-small) refl (0 ∷ []) refl first-heard second-reply desk-good (call .took) desk-two (7 ∷ []) done-so
-    (stampNumber (stampAt desk-good 0)) 1 refl refl (ap length after-so ∙ long-so)
+    (stampAt desk-good 0) 1 refl refl (ap length after-so ∙ long-so)
     (subst (λ (d : List ℕ). All (Bears plan 1 (7 ∷ []) d) (lowest plan (closed plan (afterReply plan first-heard second-reply) d))) (sym after-so)
     (subst (All (Bears plan 1 (7 ∷ []) desk-two)) (sym lowest-so) (bears-so, tt)))

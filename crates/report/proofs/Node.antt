@@ -11,13 +11,12 @@ use mathlib.Core.List.{List, [], _∷_}
 use mathlib.Core.Logic.{_⊎_, inl, inr}
 use native.Mathlib.Nat.{suc-mul}
 use native.Mathlib.Omega.{arith}
-use borrow.Author.Tests.{eq-eqb, eqb-true, eqb-false, not-false, not-true, leb-true, ltb-true}
-use lib.Dec.{leb, eqb}
+use borrow.Author.Tests.{eq-eqb, eqb-true, eqb-false, not-false, not-true}
+use lib.Dec.{eqb}
 use lib.ListN.{length, length-drop}
 use Rattle.octets.specs.Bytes.{part, be, over, Octets}
 use Rattle.octets.proofs.Laws.{length-part}
 use Rattle.octets.proofs.Meaning.{octets-part, octets-drop}
-use Rattle.terms.proofs.Down as down
 use Rattle.terms.proofs.Rungs.{both, clash}
 use Rattle.terms.specs.Ladder.{all, None}
 use Rattle.terms.specs.Stamp.{stamp, time}
@@ -29,16 +28,15 @@ use Rattle.frame.specs.Frame.{timeRequestKind, timeReplyKind, writeRequestKind,
 use Rattle.frame.proofs.Frames.{request-is, bytes-3}
 use Rattle.record.specs.Record.{hashesOk, timeZero}
 use Rattle.terms.proofs.Places.{record-length}
-use Rattle.book.specs.Records.{lastOf, lastBelow, holds, kept, timed, rising}
-use Rattle.book.specs.Book.{bookHead, goodBook, nodeOf, recordsFrom, recordsOf, countOf, laidOut}
+use Rattle.book.specs.Records.{lastOf, lastBelow, kept}
+use Rattle.book.specs.Book.{bookHead, goodBook, nodeOf, recordsFrom, recordsOf, countOf}
 use Rattle.book.proofs.Laid as laid
 use Rattle.book.proofs.Laws as books
 use Rattle.node.specs.declared.Answer.the-variants.{Refused, Replied}
 use Rattle.node.specs.declared.Answer.{Answer}
 use Rattle.node.specs.Node.{NodeCall, served, answered, sends, replyTo, saidServed, replied, refused, ServedOutcome, servedOutcome, nodeLadder, bookReplyOk, writes, timeFails, hashFails, otherHeld, noRoom}
 use Rattle.node.specs.declared.Made.the-variants.{Fresh}
-use Rattle.node.specs.Fresh.{FreshCall, FreshOutcome, freshOutcome, made, freshened, freshLadder}
-use Rattle.node.specs.Fresh as fresh
+use Rattle.node.specs.Fresh.{FreshCall}
 use Rattle.node.proofs.Laws as nodes
 use Rattle.store.specs.Deliver.{Among}
 use Rattle.store.specs.History.{Call, History, lastBook}
@@ -46,6 +44,7 @@ use Rattle.store.proofs.Order as order
 use Rattle.store.proofs.One as one
 use Rattle.store.proofs.Node as calls
 use Rattle.store.proofs.Kept as keeps
+use Rattle.store.proofs.Passed.{laid-fresh}
 use Rattle.terms.proofs.Ladders as ladders
 use Rattle.report.specs.Triple.{Triple, each, In, Same}
 use Rattle.report.specs.Figure1.{initial, INITIALIZE, RECEIVE-TIME-REQUEST, VALIDATE, with-it, Written, RECEIVE-WRITE-REQUEST, RECEIVE-READ-LATEST, RECEIVE-READ-PREVIOUS}
@@ -81,14 +80,6 @@ module _ (p : Plan) where
   of-triples C X [] h k = absurd h
   of-triples C X (x ∷ rs) (inl e) k = k x (order.among-first x x rs refl) e
   of-triples C X (x ∷ rs) (inr h) k = of-triples C X rs h (λ z m e. k z (order.among-later x z rs m) e)
-
-  -- a record that was put among others
-  kept-only : (rec z : List ℕ) (rs : List (List ℕ)) → Among z (kept rec rs) → (rec ≡ z) ⊎ Among z rs
-  kept-only rec z rs h = go (holds rec rs) refl
-    where
-      go : (t : Bool) → holds rec rs ≡ t → (rec ≡ z) ⊎ Among z rs
-      go true e = inr (subst (Among z) (order.kept-held rec rs e) h)
-      go false e = order.insert-only rec z rs (subst (Among z) (order.kept-new rec rs e) h)
 
   with-record : (rec : List ℕ) (rs ks : List (List ℕ)) → Among rec ks → ((z : List ℕ) → Among z rs → Among z ks)
       → ((z : List ℕ) → Among z ks → (rec ≡ z) ⊎ Among z rs)
@@ -200,7 +191,7 @@ module _ (p : Plan) (f b y : List ℕ) (ob : Octets b) (of : Octets f) where
         record {
           valid = rw v;
           set = rw v (with-record p (bodyOf f) (recordsOf p b) (recordsOf p b₂) h (q .keeps)
-              (λ z m. kept-only p (bodyOf f) z (recordsOf p b) (subst (Among z) e m)));
+              (λ z m. order.kept-only (bodyOf f) z (recordsOf p b) (subst (Among z) e m)));
           sent = rw k at bytes;
         }
 
@@ -228,35 +219,9 @@ module _ (p : Plan) (f b y : List ℕ) (ob : Octets b) (of : Octets f) where
 
 -- ---- a fresh book is INITIALIZE
 module _ (p : Plan) (node : ℕ) (b b₂ : List ℕ) (c : FreshCall p node b Fresh b₂) where
-  abbrev refuse : ℕ → FreshOutcome
-  refuse k = freshOutcome (fresh.refused k) b
-
-  abbrev done : FreshOutcome
-  done = freshOutcome made (over (laidOut p node []) b)
-
-  laid-fresh : one.Laid p node b b₂ []
-  unfolding freshened timed rising
-  laid-fresh =
-      ladders.by-ladder (λ (o : FreshOutcome). freshOutcome made b₂ ≡ o → one.Laid p node b b₂ []) (freshLadder p node b) refuse done
-      (λ k g h. absurd (let s : made ≡ fresh.refused k = ap (λ (o : FreshOutcome). o .answer) h in let z : _≡_ {A = ℕ} 0 1 = cc in omega arith))
-      (λ n h.
-      let l = both (leb 11 (length b)) (leb (length b) 65536) (not-false _ (down.clear (freshLadder p node b) n 2)) in
-      let low : 11 ≤ length b = leb-true _ _ (l .0) in
-      record {
-        plan = not-false _ (down.clear (freshLadder p node b) n 1);
-        low = ltb-true _ _ (not-false _ (down.clear (freshLadder p node b) n 4));
-        high = leb-true _ _ (l .1);
-        bytes = ap (λ (o : FreshOutcome). o .book) h;
-        sizes = tt;
-        times = refl;
-        rise = refl;
-        fits = omega arith;
-      })
-      (c .is)
-
   pub fresh-acts : history p b₂ ≡ INITIALIZE
   unfolding each
-  fresh-acts = ap (λ (rs : List (List ℕ)). initial ∷ each (tripleOf p) rs) (one.is-records laid-fresh)
+  fresh-acts = ap (λ (rs : List (List ℕ)). initial ∷ each (tripleOf p) rs) (one.is-records (laid-fresh p node b b₂ c))
 
 -- ---- a write request that reaches Figure 1
 module _ (p : Plan) (f b y : List ℕ) where

@@ -18,4 +18,5 @@ pub mod StillAsks
 pub mod Together
 pub mod Instances
 pub mod RunInstances
+pub mod TogetherInstances
 pub mod Examples

@@ -3,5 +3,6 @@ pub mod Read
 pub mod Write
 pub mod Repair
 pub mod Stamp
+pub mod Done
 pub mod Round
 pub mod Orders

@@ -8,6 +8,10 @@ pub mod Repair
 pub mod RepairRound
 pub mod Sessions
 pub mod ComesBack
+pub mod Bytes
+pub mod Slots
+pub mod Held
 pub mod SameStamp
+pub mod OneItem
 pub mod Asks
 pub mod Instances

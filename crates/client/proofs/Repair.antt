@@ -14,7 +14,7 @@ use borrow.Author.Tests.{lt-ltb}
 use lib.ListN.{length, getD}
 use Rattle.octets.specs.Bytes.{part, put, num, Octets}
 use Rattle.octets.proofs.Laws.{length-part, part-part, slot-room, part-first, part-last}
-use Rattle.octets.proofs.Meaning.{getD-part}
+use Rattle.octets.proofs.Meaning.{getD-part, octets-part}
 use Rattle.terms.specs.Terms.{planOk, recordLength, slotsOf, fragmentAt, runsOf}
 use Rattle.terms.specs.Stamp.{stampNumber}
 use Rattle.terms.specs.declared.Plan.{Plan}
@@ -56,8 +56,9 @@ module _ (p : Plan) (qs d : List ℕ) (few : length qs ≡ p .m) (distinct : Dis
   abbrev held : ℕ → ℕ
   held q = getD (fragmentIn p d q) i 0
 
-  pub through-there : Octets d → Through p qs d i (newton qs held)
-  through-there o =
+  -- where their fragments are bytes
+  pub through-slots : All (λ (q : ℕ). Octets (fragmentIn p d q)) qs → Through p qs d i (newton qs held)
+  through-slots o =
       record {
         degree = omega (arith, length-newton qs held, few);
         octets = all-bytes (newton qs held) (bytes-newton qs held bytes);
@@ -65,7 +66,11 @@ module _ (p : Plan) (qs d : List ℕ) (few : length qs ≡ p .m) (distinct : Dis
       }
     where
       bytes : All (λ (q : ℕ). held q < 256) qs
-      bytes = all (λ q. rw (fragment-byte p d q i low) (o (fragmentAt (slotsOf p) q + i))) qs
+      bytes = all-map (λ q h. h i) qs o
+
+  pub through-there : Octets d → Through p qs d i (newton qs held)
+  through-there o =
+      through-slots (all (λ q. octets-part (slotOf p d q) (slotsOf p .head) (p .f) (octets-part d (q * recordLength p) (recordLength p) o)) qs)
 
   through-only : (cs : List ℕ) → Through p qs d i cs → (k : ℕ) → k < 256 → value qs held k ≡ eval cs k
   through-only cs t k h =
@@ -78,7 +83,7 @@ module _ (p : Plan) (qs d : List ℕ) (few : length qs ≡ p .m) (distinct : Dis
       (λ x h. sym (through-only cs t x h) ∙ through-only ds u x h)
 
   -- byte i of a fragment regenerated from them is its value
-  regenerated-value : (cs : List ℕ) → Through p qs d i cs → (k : ℕ) → k < 256
+  pub regenerated-value : (cs : List ℕ) → Through p qs d i cs → (k : ℕ) → k < 256
       → getD (regenerated d (slotsOf p) qs k) i 0 ≡ eval cs k
   unfolding regenerated
   regenerated-value cs t k h = go (among k qs) refl
@@ -136,9 +141,9 @@ module _ (p : Plan) (s : Session) (d : List ℕ) (a : ℕ) (ok : planOk p ≡ tr
       let y = slot-room a (p .n) (recordLength p) (length d) (lead-low p s d a is-led) (omega arith) in
       length-part d (a * recordLength p) (slotsOf p .head) (omega (arith, y))
 
-  long-fragment : (k : ℕ) → length (fragment-of k) ≡ p .f
+  pub long-regenerated : (k : ℕ) → length (regenerated d (slotsOf p) (lowest p (closed p s d)) k) ≡ p .f
   unfolding recordLength
-  long-fragment k = length-regenerated d (slotsOf p) qs k within
+  long-regenerated k = length-regenerated d (slotsOf p) qs k within
     where
       within : Sources d (slotsOf p) qs
       within j l =
@@ -159,7 +164,7 @@ module _ (p : Plan) (s : Session) (d : List ℕ) (a : ℕ) (ok : planOk p ≡ tr
   fragment-held : (k : ℕ) → k < p .n → fragmentIn p full k ≡ fragment-of k
   fragment-held k h =
       ap (λ (l : List ℕ). part l (slotsOf p .head) (p .f)) (repaired-record k h)
-      ∙ part-last (part d (a * recordLength p) (slotsOf p .head)) (fragment-of k) (slotsOf p .head) (p .f) long-head (long-fragment k)
+      ∙ part-last (part d (a * recordLength p) (slotsOf p .head)) (fragment-of k) (slotsOf p .head) (p .f) long-head (long-regenerated k)
 
   -- AFTER THE FILL EVERY SLOT k HOLDS the set's timestamp and cross checksum and fragment k of the polynomials through the m lowest, all from
   -- the desk as it was

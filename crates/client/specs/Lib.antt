@@ -5,3 +5,4 @@ pub mod Repair
 pub mod Sessions
 pub mod Asks
 pub mod SameStamp
+pub mod Held

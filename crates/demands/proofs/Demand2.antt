@@ -8,6 +8,8 @@
 --   rounds-are-counted     the rounds that a read reports are those that it closed, and at most W
 --   read-requests-as-the-report write-requests-as-the-report   what is sent to a node is what the figures send to it
 --   comes-back written-comes-back   an encoded block comes back from any m of its N fragments; so does what our writer writes
+--   written-read-back      a whole read that ends done with a write's timestamp leaves what was written
+--   read-of-its-timestamp one-timestamp-one-item one-write-one-item   two reads that end done with one timestamp leave one item
 -- The figures are in report/specs, with (01) beside what document 01 adds or closes. That the hash and the field are those of the papers is
 -- said by the contracts of `digest`, `product` and `quotient`, over sha256/specs and field/specs. Each refusal exactly: Refusals.
 -- Assumes nothing.
@@ -23,6 +25,8 @@ use Rattle.terms.specs.Terms.{planOk, recordLength, slotsOf, runsOf}
 use Rattle.terms.specs.declared.Ask.{Ask}
 use Rattle.terms.specs.declared.Plan.{Plan}
 use Rattle.terms.specs.declared.Slots.{Slots}
+use Rattle.terms.specs.declared.Timestamp.{Timestamp}
+use Rattle.terms.specs.declared.Clients.the-variants.{Byzantine}
 use Rattle.frame.specs.Frame.{writeRequestKind, kindOf, bodyOf, goodRequest}
 use Rattle.book.specs.Book.{nodeOf}
 use Rattle.node.specs.declared.Answer.{Answer}
@@ -34,12 +38,16 @@ use Rattle.session.specs.declared.opening.Opened.{Opened}
 use Rattle.session.specs.declared.opening.Opening.the-variants.{Accepted}
 use Rattle.session.specs.declared.Operation.the-variants.{Write, Read}
 use Rattle.session.specs.Opening.{OpenCall}
-use Rattle.recover.specs.Records.{recordsFor}
+use Rattle.recover.specs.Records.{stampFor, recordsFor}
 use Rattle.store.specs.History.{Call, History, lastBook}
 use Rattle.client.specs.Turns.{Turn, ReadTurn, WriteTurn, Calls, closedRounds, Reports, lastSaid}
 use Rattle.report.specs.Triple.{Same}
 use Rattle.client.proofs.ComesBack.{block-comes-back}
 use Rattle.client.proofs.Counting.{counted-rounds}
+use Rattle.client.specs.Held.{ReadDone}
+use Rattle.client.specs.SameStamp.{NoClash, ItemsUnlike}
+use Rattle.client.proofs.SameStamp.{done-comes-back}
+use Rattle.client.proofs.OneItem.{done-of-item, done-one-item, written-one-item}
 use Rattle.report.specs.Figure1.{INITIALIZE, VALIDATE}
 use Rattle.report.specs.Ours.{history, family, tripleOf}
 use Rattle.report.specs.Run.{InBytes, received, unpolled, polledOver, AllApart, AllFull, EachTells}
@@ -139,8 +147,31 @@ pub comes-back : (m : ℕ) (s : Slots) (item : List ℕ) → m ≤ 256 → Octet
 comes-back = any-m-of-n
 
 -- The N records that our writer makes of an item at a time, in its desk, give the item to our reader's decoding from any m of its N slots.
--- For a reply that is answered done: read-comes-back and repair-comes-back of client.
 pub written-comes-back : (p : Plan) (time : ℕ) (item : List ℕ) → planOk p ≡ true → Octets item → length item ≡ p .m * p .f → (out : List ℕ)
     → length out ≡ p .m * p .f → (nodes : List ℕ) → Distinct nodes → All (λ (z : ℕ). z < p .n) nodes → length nodes ≡ p .m
     → laid (recordsFor p time item) (slotsOf p) nodes (runsOf (p .m) (p .f)) (p .m) out ≡ item
 written-comes-back = block-comes-back
+
+-- A read, over any replies from an accepted opening on, that ends done with the timestamp of a write of an item leaves that item: whichever nodes it
+-- heard, in whichever round, its set complete or repaired, under either client model. Where no record that a reply bore clashes with those that were
+-- written: its cross checksum is the item's, or has another hash; its fragment is the one for its node, or has another hash.
+pub written-read-back : (p : Plan) (time : ℕ) (item : List ℕ) → Octets item → length item ≡ p .m * p .f → (out : List ℕ) (r : ReadDone p (stampFor p time item) out)
+    → NoClash p item (r .first ∷ r .rest) → out ≡ item
+written-read-back = done-comes-back
+
+-- The report's Lemma 1: "If c_1 performs a read operation that returns <ts_1, v_1>, c_2 performs a read operation that returns <ts_2, v_2>, and
+-- ts_1 = ts_2, then v_1 = v_2." Under Byzantine clients a read validates: it regenerates all N fragments and compares the cross checksum. So the
+-- timestamp that it is done with is the one that a writer of its item makes, whoever wrote it and whichever m fragments were chosen, without a word on
+-- clashes;
+pub read-of-its-timestamp : (p : Plan) → p .clients ≡ Byzantine → (t : Timestamp) (item : List ℕ) → ReadDone p t item → stampFor p (t .time .0) item ≡ t
+read-of-its-timestamp = done-of-item
+
+-- and two reads that end done with one timestamp leave one item, whichever nodes each heard, complete or repaired. Where the cross checksums of the
+-- two items, and for each node their fragments, are alike or have two hashes.
+pub one-timestamp-one-item : (p : Plan) → p .clients ≡ Byzantine → (t : Timestamp) (i j : List ℕ) → ReadDone p t i → ReadDone p t j → ItemsUnlike p i j → i ≡ j
+one-timestamp-one-item = done-one-item
+
+-- Under crash clients a read does not validate; for what our writer wrote the same holds, under either client model.
+pub one-write-one-item : (p : Plan) (time : ℕ) (item : List ℕ) → Octets item → length item ≡ p .m * p .f → (i j : List ℕ)
+    (r : ReadDone p (stampFor p time item) i) (q : ReadDone p (stampFor p time item) j) → NoClash p item (r .first ∷ r .rest) → NoClash p item (q .first ∷ q .rest) → i ≡ j
+one-write-one-item = written-one-item

@@ -17,7 +17,7 @@ use Rattle.rounds.specs.Rounds.{markOf, heardAt, heardCount, unheards}
 use Rattle.rounds.proofs.Laws.{mark-set, mark-other, count-set}
 use Rattle.report.specs.Figure2.{in-set, GATHERED}
 use Rattle.report.specs.WriteRun.{noneOf}
-use Rattle.report.proofs.Marks.{mark-none}
+use Rattle.client.proofs.Slots.{mark-none}
 
 -- ---- refusals by their numbers
 abbrev pub listed : ℕ → List ℕ → Bool

@@ -34,7 +34,7 @@ use Rattle.report.specs.Figure1.{initial}
 use Rattle.report.specs.Figure3.{Command, VALIDATE, in-time, has, with-it, receives}
 use Rattle.report.specs.Ours.{family, tripleOf, responseOf, responses, commandOf}
 use Rattle.report.proofs.Triples.{stamp-low, validate-is}
-use Rattle.report.proofs.Marks.{slot-own, slot-other}
+use Rattle.client.proofs.Slots.{slot-own, slot-other}
 
 -- ---- the four tests
 module _ (p : Plan) (command : Command) (R : List Message) (x : Message) where

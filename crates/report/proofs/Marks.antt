@@ -1,18 +1,17 @@
--- Marks of which none is set, and a slot that is put: what the others keep (slot-own, slot-other); and that in a response set of records that passed
--- their checks, and no two cross checksums with one hash, one timestamp is one cross checksum (one-cross). Assumes nothing.
-use Prim.Native.Nat.{ℕ, zero, suc, _+_, _*_, _≤_, _<_}
+-- The members of a response set (member-is, none-heard); and that in one of records that passed their checks, with no two cross checksums with one
+-- hash, one timestamp is one cross checksum (one-cross). Assumes nothing.
+use Prim.Native.Nat.{ℕ, zero, suc, _*_, _≤_, _<_}
 use mathlib.Core.Path.{_≡_, refl, sym, ap, _∙_}
-use mathlib.Core.Bool.{true}
 use mathlib.Core.List.{List, []}
 use mathlib.Core.Logic.{_⊎_, inl, inr}
 use native.Mathlib.Omega.{arith}
-use lib.ListN.{length, replicate}
-use Rattle.octets.specs.Bytes.{part, put, alike, Octets}
-use Rattle.octets.proofs.Laws.{length-part, part-put-same, slot-fits}
+use lib.ListN.{length}
+use Rattle.octets.specs.Bytes.{alike, Octets}
+use Rattle.octets.proofs.Laws.{length-part, slot-fits}
 use Rattle.octets.proofs.Meaning.{alike-is, octets-part}
 use Rattle.sha256.specs.Sha256.{sha256}
 use Rattle.terms.proofs.Rungs.{both}
-use Rattle.terms.specs.Stamp.{stamp, time}
+use Rattle.terms.specs.Stamp.{stamp}
 use Rattle.terms.specs.Terms.{recordLength}
 use Rattle.terms.specs.declared.Plan.{Plan}
 use Rattle.record.specs.Record.{crossOf, verifierOf, hashesOk}
@@ -21,8 +20,8 @@ use Rattle.terms.proofs.Places.{record-length}
 use Rattle.rounds.specs.declared.Heard.{Heard}
 use Rattle.rounds.specs.declared.Heard.the-variants.{Unheard, First, Record}
 use Rattle.rounds.specs.declared.Mark.{Mark}
-use Rattle.rounds.specs.Rounds.{markOf, unheard}
-use Rattle.recover.proofs.Filled.{slot-stays}
+use Rattle.rounds.specs.Rounds.{markOf}
+use Rattle.client.specs.Held.{EverySlot, Passed}
 use Rattle.report.specs.Triple.{Message, In}
 use Rattle.report.specs.Figure1.{initial}
 use Rattle.report.specs.Ours.{verifierIn, bearing, responseOf, responses}
@@ -31,35 +30,7 @@ use Rattle.report.specs.Run.{Apart}
 use Rattle.report.proofs.Lists.{in-split}
 use Rattle.report.proofs.Triples.{stamp-low, verifier-in}
 
--- ---- marks
--- unheard marks
-pub mark-none : (n j : ℕ) → markOf (replicate n unheard) j ≡ Unheard
-mark-none zero j = refl
-mark-none (suc n) zero = refl
-mark-none (suc n) (suc j) = mark-none n j
-
-pub no-mark : (n j : ℕ) → markOf (replicate n unheard) j ≡ Record → ⊥
-no-mark n j e = let u = mark-none n j in let z : _≡_ {A = ℕ} 0 1 = cc in omega arith
-
--- ---- slots of r bytes
-module _ (d x : List ℕ) (r n i : ℕ) (ld : length d ≡ n * r) (lx : length x ≡ r) (hi : i < n) where
-  fits : i * r + r ≤ length d
-  fits = omega (arith, slot-fits i n r hi, ld)
-
-  pub slot-own : part (put d (i * r) x) (i * r) r ≡ x
-  slot-own = part-put-same d (i * r) x r lx (omega (arith, fits))
-
-  pub slot-other : (k : ℕ) → (k ≡ i → ⊥) → part (put d (i * r) x) (k * r) r ≡ part d (k * r) r
-  slot-other k h =
-      let z : k * r ≡ k * r + 0 = omega arith in
-      ap (λ (y : ℕ). part (put d (i * r) x) y r) z ∙ slot-stays d x r i k lx fits h 0 r (omega arith) ∙ ap (λ (y : ℕ). part d y r) (sym z)
-
 -- ---- the members of a response set
--- a record that passed the checks of an accepted reply
-pub record Passed (p : Plan) (k : ℕ) (x : List ℕ) : Type 0 where
-  pub timed : 1 ≤ time x
-  pub hashes : hashesOk p k x ≡ true
-
 module _ (p : Plan) (ms : List Mark) (d : List ℕ) where
   -- either the first triple, or the slot of a node that is marked record
   pub data Member (x : Message) (n : ℕ) : Type 0 where
@@ -94,7 +65,7 @@ module _ (p : Plan) (ms : List Mark) (d : List ℕ) where
   none-heard h (suc n) = rw (none-heard h n, h n)
 
   module _ (ld : length d ≡ p .n * recordLength p) (od : Octets d)
-      (ok : (k : ℕ) → k < p .n → markOf ms k ≡ Record → Passed p k (slotOf p d k)) where
+      (ok : EverySlot (Passed p) p ms d) where
     abbrev slot : ℕ → List ℕ
     slot k = slotOf p d k
 

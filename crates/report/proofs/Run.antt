@@ -7,7 +7,6 @@ use mathlib.Core.Path.{_≡_, refl, sym, ap, _∙_, subst}
 use mathlib.Core.Bool.{Bool, true, false, cond}
 use mathlib.Core.List.{List, [], _∷_}
 use mathlib.Core.Logic.{inl, inr}
-use native.Mathlib.Decide.{ℕ-discrete}
 use native.Mathlib.Omega.{arith}
 use borrow.Author.Tests.{ltb-true, ltb-false, leb-true, leb-false, eqb-true, eqb-false, ne-eqb, lt-ltb, not-false}
 use lib.Dec.{ltb, leb, eqb}
@@ -30,14 +29,14 @@ use Rattle.fragments.proofs.Laws.{among-from, length-from, getD-from, itself, l
 use Rattle.frame.specs.Frame.{writeReplyKind, readReplyKind, headBytes, versionOf, kindOf, frameNode, askOf, bodyOf, goodReply}
 use Rattle.frame.proofs.Frames.{reply-is}
 use Rattle.record.specs.Record.{hashesOk, timeZero}
-use Rattle.record.specs.Desk.{slotOf, fragmentIn}
+use Rattle.record.specs.Desk.{fragmentIn}
 use Rattle.record.proofs.Desks.{fragment-in}
 use Rattle.terms.proofs.Places.{record-length}
 use Rattle.rounds.specs.declared.Heard.the-variants.{Unheard, First, Record}
 use Rattle.rounds.specs.declared.Mark.{Mark}
 use Rattle.rounds.specs.declared.Bound.the-variants.{Free}
 use Rattle.rounds.specs.Rounds.{bitOf, heardCount, unheards, markOf, restUnheard, underOf}
-use Rattle.rounds.proofs.Laws.{not-heard, count-set, mark-own, mark-other}
+use Rattle.rounds.proofs.Laws.{not-heard, count-set}
 use Rattle.session.specs.declared.Session.{Session}
 use Rattle.session.specs.declared.Stage.{Stage}
 use Rattle.session.specs.declared.Stage.the-variants.{Asking, Storing, Ended}
@@ -66,10 +65,12 @@ use Rattle.report.proofs.Sets.{size-is}
 use Rattle.report.proofs.Hears.{puts, heard-hears, hash-hears, late-hears, said-by, said-first, valid-record, valid-first, in-time-is, first-in-time, unheard-has, heard-has, record-after, first-after}
 use Rattle.report.proofs.Erasure.{laid-is}
 use Rattle.report.proofs.Round.{Full, round-decides}
-use Rattle.report.proofs.Marks.{no-mark, mark-none, none-heard, slot-own, slot-other, Passed, one-cross}
+use Rattle.report.proofs.Marks.{none-heard, one-cross}
 use Rattle.client.specs.Turns.{ReadTurn, Calls}
 use Rattle.client.specs.Sessions.{lastSession, lastDesk}
+use Rattle.client.specs.Held.{EverySlot, Passed}
 use Rattle.client.proofs.Reading.{one-ladder}
+use Rattle.client.proofs.Slots.{mark-none, none-marked, first-heard, record-heard}
 use Rattle.report.specs.WriteRun.{noneOf, isResponse}
 use Rattle.report.proofs.Gathers.{listed, off, all-off, put-in, kept-out, Marked, marked-none, marked-more}
 
@@ -86,7 +87,7 @@ pub record Asks (p : Plan) (s : Session) (d : List ℕ) (w : Polled) : Type 0 wh
   pub desk : length d ≡ p .n * recordLength p
   pub octets : Octets d
   pub size : length (s .marks) ≡ 16
-  pub passed : (k : ℕ) → k < p .n → markOf (s .marks) k ≡ Record → Passed p k (slotOf p d k)
+  pub passed : EverySlot (Passed p) p (s .marks) d
   pub unstored : w .stored ≡ []
   pub reads : isRead (s .operation) ≡ true
 
@@ -211,7 +212,7 @@ module _ (p : Plan) (s : Session) (d i : List ℕ) (w : Polled) (st : s .round .
                     desk = k .desk;
                     octets = k .octets;
                     size = refl;
-                    passed = λ j h m. absurd (no-mark 16 j m);
+                    passed = none-marked (Passed p) p d;
                     unstored = k .unstored;
                     reads = k .reads;
                   };
@@ -437,7 +438,7 @@ module _ (p : Plan) (s : Session) (f d i : List ℕ) (w : Polled) where
           (hears : responses p (set (s .marks) node mark) e (p .n) ≡ with-it (messageOf p f) before)
           (valid : VALIDATE (family p) (messageOf p f) ≡ true) (timely : in-time (commandOf (s .round .bound)) (messageOf p f .Response .ts) ≡ true)
           (long : length e ≡ p .n * recordLength p) (bytes : Octets e)
-          (passed : (j : ℕ) → j < p .n → markOf (set (s .marks) node mark) j ≡ Record → Passed p j (slotOf p e j)) where
+          (passed : EverySlot (Passed p) p (set (s .marks) node mark) e) where
         marked : Asks p (markedOf s node (mark .is)) e with-message
         marked =
             record {
@@ -476,17 +477,10 @@ module _ (p : Plan) (s : Session) (f d i : List ℕ) (w : Polled) where
           (first-after p (s .marks) d node node-low inside unmarked ∙ ap (λ (x : Message). with-it x before) (sym says))
           (ap (VALIDATE (family p)) says ∙ valid-first p node)
           (ap (λ (x : Message). in-time (commandOf (s .round .bound)) (x .Response .ts)) says ∙ first-in-time (s .round .bound) (s .round .number) (ranges .0 .bounded))
-          (k .desk) (k .octets) (λ j l v. go j l v (ℕ-discrete j node)) a))
+          (k .desk) (k .octets) (first-heard (Passed p) p (s .marks) d (k .passed) node) a))
         where
           says : messageOf p f ≡ said-first node
           says = rw b
-
-          go : (j : ℕ) → j < p .n → markOf (set (s .marks) node (record { is = First })) j ≡ Record → Dec (j ≡ node) → Passed p j (slotOf p d j)
-          go j l v (yes q) =
-              let y : First ≡ Record = mark-own (s .marks) node (record { is = First }) (rw q at v) in
-              let z : _≡_ {A = ℕ} 0 1 = cc in
-              absurd (omega arith)
-          go j l v (no q) = k .passed j l (sym (mark-other (s .marks) node j (record { is = First }) q) ∙ v)
 
       -- a record: 6, 12, or put in its slot
       module _ (of : Octets f) (b : bears p f ≡ true) where
@@ -534,15 +528,8 @@ module _ (p : Plan) (s : Session) (f d i : List ℕ) (w : Polled) where
               (record-after p (s .marks) d node node-low inside unmarked (bodyOf f) (k .desk) (long-body p f b) ∙ ap (λ (x : Message). with-it x before) (sym says-record))
               (valid-is ∙ v) (timely-is ∙ u)
               (length-put d (node * recordLength p) (bodyOf f) (omega (arith, long-body p f b, slot-fits node (p .n) (recordLength p) node-low, k .desk)) ∙ k .desk)
-              (octets-put d (node * recordLength p) (bodyOf f) (k .octets) (octets-drop (headBytes (versionOf f)) f of)) (λ j l z. go j l z (ℕ-discrete j node)) a))
-            where
-              go : (j : ℕ) → j < p .n → markOf (set (s .marks) node (record { is = Record })) j ≡ Record → Dec (j ≡ node) → Passed p j (slotOf p desk-after j)
-              go j l z (yes q) =
-                  subst (λ (x : ℕ). Passed p x (slotOf p desk-after x)) (sym q)
-                  (subst (Passed p node) (sym (slot-own d (bodyOf f) (recordLength p) (p .n) node (k .desk) (long-body p f b) node-low)) (record { timed = timed; hashes = v }))
-              go j l z (no q) =
-                  subst (Passed p j) (sym (slot-other d (bodyOf f) (recordLength p) (p .n) node (k .desk) (long-body p f b) node-low j q))
-                  (k .passed j l (sym (mark-other (s .marks) node j (record { is = Record }) q) ∙ z))
+              (octets-put d (node * recordLength p) (bodyOf f) (k .octets) (octets-drop (headBytes (versionOf f)) f of))
+              (record-heard (Passed p) p (s .marks) d (k .passed) node (bodyOf f) node-low (k .desk) (long-body p f b) (record { timed = timed; hashes = v })) a))
 
     -- A MESSAGE OF THE ROUND IS A TURN OF DO_READ'S LOOP, and the call that it comes to leaves what READ decides then
     message-right : Octets f → AllApart p (rolled p with-message .rounds) → Leaves p (readReply p s f d i) (rolled p with-message)
@@ -721,7 +708,7 @@ opened-run p a r d cs call e ld od h apart = read-run p (r .session) d unpolled 
           desk = ld;
           octets = od;
           size = refl;
-          passed = λ j l m. absurd (no-mark 16 j m);
+          passed = none-marked (Passed p) p d;
           unstored = refl;
           reads = refl;
         }

@@ -1,0 +1,333 @@
+-- What the slots of a read round hold, over the calls of a read: each slot that is marked record holds a record that passed the two hash checks at its
+-- node, and that a reply of that node bore; whatever else came.
+--   Closing            a read round that closed on a set that is decoded or repaired, with what holds of its slots
+--   Found              the item of a read that ended done is decoded from such a set, whether it was complete or repaired
+--   Brings run-finds   so after any calls, of whatever the records that the replies bring have in common
+--   every-slot         the slots of the round that is open, after any calls
+-- Assumes nothing.
+use Prim.{Unit, tt}
+use Prim.Native.Nat.{ℕ, _*_, _≤_}
+use mathlib.Core.Path.{_≡_, refl, sym, ap, _∙_, subst}
+use mathlib.Core.Bool.{Bool, true, false, cond}
+use mathlib.Core.List.{List, [], _∷_}
+use mathlib.Core.Logic.{inl, inr}
+use native.Mathlib.Omega.{arith}
+use borrow.Author.Tests.{not-false}
+use lib.ListN.{length, set}
+use Rattle.octets.specs.Bytes.{put}
+use Rattle.terms.specs.Ladder.{Rung, None}
+use Rattle.terms.specs.Terms.{planOk, recordLength, COMPLETE, INCOMPLETE, slotsOf, thresholdsOf}
+use Rattle.terms.specs.declared.Ask.{Ask}
+use Rattle.terms.specs.declared.Plan.{Plan}
+use Rattle.terms.specs.declared.Timestamp.{Timestamp}
+use Rattle.terms.proofs.Down.{clear}
+use Rattle.terms.proofs.Ladders.{is-given}
+use Rattle.terms.proofs.Rungs.{clash}
+use Rattle.frame.specs.Frame.{frameNode, bodyOf}
+use Rattle.rounds.specs.declared.Heard.the-variants.{First, Record}
+use Rattle.rounds.specs.declared.Lead.{Lead}
+use Rattle.rounds.specs.declared.Lead.the-variants.{Node}
+use Rattle.rounds.specs.Rounds.{closeWith}
+use Rattle.recover.specs.Recover.{sound, decoded, collected, repaired}
+use Rattle.session.specs.declared.Session.{Session}
+use Rattle.session.specs.declared.Stage.{Stage}
+use Rattle.session.specs.declared.Stage.the-variants.{Asking, Storing, Ended}
+use Rattle.session.specs.declared.Operation.the-variants.{Read}
+use Rattle.session.specs.declared.opening.Opened.{Opened}
+use Rattle.session.specs.declared.opening.Opening.the-variants.{Accepted}
+use Rattle.session.specs.Opening.{OpenCall}
+use Rattle.session.specs.Session.{isAsking, isStoring, isEnded, markedOf, endedOf, nextOf, storingOf, Said, refused, stillOpen, done, neverWritten, aborted, roundsSpent, clockSpent, saidOf}
+use Rattle.session.specs.Reply.{bears, lengthsOk}
+use Rattle.session.specs.Reader.{Outcome, outcome, closed, readReply}
+use Rattle.session.proofs.Closings.{led, sized, sized-whole}
+use Rattle.session.proofs.Openings.{accepted-session}
+use Rattle.session.proofs.Rules.{lengths-are}
+use Rattle.session.proofs.Slots.{long-body}
+use Rattle.client.specs.Endings.{readLadder, afterReply, deskAfter, Candidate, size, valid, DoneByRead, DoneByRepair, Waits, RepairOpens, ReadGives}
+use Rattle.client.specs.Turns.{Turn, ReadTurn, Calls, lastSaid}
+use Rattle.client.specs.Sessions.{lastSession, lastDesk, lastItem}
+use Rattle.client.specs.Repair.{EachTurn}
+use Rattle.client.specs.Held.{EverySlot, Passed, Held}
+use Rattle.client.proofs.Reading as reading
+use Rattle.client.proofs.Reading.{Taken, taken}
+use Rattle.client.proofs.Repair.{repaired-item}
+use Rattle.client.proofs.Round.Order.{length-after}
+use Rattle.client.proofs.Slots.{none-marked, first-heard, record-heard, accepted-passed}
+
+-- a candidate leads the close
+lead-of : (p : Plan) (s : Session) (f d : List ℕ) (a : ℕ) → Candidate p s f d a → closed p (afterReply p s f) (deskAfter p f d) .lead ≡ Node a
+unfolding closeWith
+lead-of p s f d a h = ap (λ (x : Lead). closeWith (afterReply p s f .marks) (deskAfter p f d) (slotsOf p) (p .member) (thresholdsOf p) x .lead) h
+
+-- ---- a read round that closed on a set that is decoded or repaired: the session and the desk with its last reply, and the node that leads the set
+pub record Closing (P : ℕ → List ℕ → Type 0) (p : Plan) (u : Session) (e : List ℕ) (a : ℕ) : Type 0 where
+  pub plan : planOk p ≡ true
+  pub long : length e ≡ p .n * recordLength p
+  pub leads : closed p u e .lead ≡ Node a
+  pub size : p .m ≤ length (closed p u e .nodes)
+  pub valid : sound p (closed p u e) a e ≡ true
+  pub slots : EverySlot P p (u .marks) e
+
+-- an item that was decoded from such a set, of this timestamp, into a buffer of m·F bytes
+pub record Found (P : ℕ → List ℕ → Type 0) (p : Plan) (stamp : Timestamp) (item : List ℕ) : Type 0 where
+  pub session : Session
+  pub desk : List ℕ
+  pub node : ℕ
+  pub closing : Closing P p session desk node
+  pub stamped : stamp ≡ closed p session desk .stamp
+  pub lent : List ℕ
+  pub room : length lent ≡ p .m * p .f
+  pub is : item ≡ decoded p (closed p session desk) desk lent
+
+-- the desk was filled for repair from such a set, and its timestamp is the one being written
+pub record Mended (P : ℕ → List ℕ → Type 0) (p : Plan) (s : Session) (d : List ℕ) : Type 0 where
+  pub session : Session
+  pub desk : List ℕ
+  pub node : ℕ
+  pub closing : Closing P p session desk node
+  pub stamped : s .stamp ≡ closed p session desk .stamp
+  pub filled : d ≡ repaired p (closed p session desk) node desk
+
+-- what is known between two calls, by the stage
+abbrev KeepsAt : Stage → (ℕ → List ℕ → Type 0) → Plan → Session → List ℕ → Type 0
+KeepsAt Asking P p s d = EverySlot P p (s .marks) d
+KeepsAt Storing P p s d = Mended P p s d
+KeepsAt Ended P p s d = Unit {0}
+
+abbrev Keeps : (ℕ → List ℕ → Type 0) → Plan → Session → List ℕ → Type 0
+Keeps P p s d = KeepsAt (s .round .stage) P p s d
+
+-- a reply whose record, where it bears one that passes, is of the kind P
+abbrev pub Brings : (ℕ → List ℕ → Type 0) → Plan → List ℕ → Type 0
+Brings P p f = bears p f ≡ true → Passed p (frameNode f) (bodyOf f) → P (frameNode f) (bodyOf f)
+
+at-asking : (x : Stage) → isStoring x ≡ false → isEnded x ≡ false → x ≡ Asking
+at-asking Asking e g = refl
+at-asking Storing e g = absurd (clash e)
+at-asking Ended e g = absurd (clash g)
+
+at-storing : (x : Stage) → isStoring x ≡ true → x ≡ Storing
+at-storing Asking e = absurd (clash (sym e))
+at-storing Storing e = refl
+at-storing Ended e = absurd (clash (sym e))
+
+-- ---- one call
+module _ (P : ℕ → List ℕ → Type 0) (p : Plan) (s : Session) (f d i : List ℕ) (k : Keeps P p s d) (brings : Brings P p f) where
+  abbrev ladder : List Rung
+  ladder = readLadder p s f d (length i)
+
+  abbrev u : Session
+  u = afterReply p s f
+
+  abbrev e : List ℕ
+  e = deskAfter p f d
+
+  record Leaves (o : Outcome) : Type 0 where
+    keeps : Keeps P p (o .session) (o .desk)
+    finds : (stamp : Timestamp) (n : ℕ) → o .said ≡ done stamp n → Found P p stamp (o .item)
+
+  -- it is no ending with an item
+  other : (a : Said) → ((stamp : Timestamp) (n : ℕ) → a ≡ done stamp n → ⊥) → (x : Session) (y : List ℕ) → Keeps P p x y → Leaves (outcome a x y i)
+  other a h x y z = record { keeps = z; finds = λ stamp n q. absurd (h stamp n q) }
+
+  -- an accepted reply
+  module _ (n : None ladder) where
+    t : Taken p s f d (length i)
+    t = taken p s f d (length i) n
+
+    item-is : length i ≡ p .m * p .f
+    item-is = lengths-are p (length d) (length i) (not-false (lengthsOk p (length d) (length i)) (clear ladder n 2)) .item-is
+
+    long : length e ≡ p .n * recordLength p
+    long = length-after p d f (t .node) (t .desk)
+
+    -- in a read round: every slot is of the kind P with this reply, too
+    module _ (asks : isStoring (s .round .stage) ≡ false) where
+      stage : s .round .stage ≡ Asking
+      stage = at-asking (s .round .stage) asks (clear ladder n 14)
+
+      before : EverySlot P p (s .marks) d
+      before = subst (λ (x : Stage). KeepsAt x P p s d) stage k
+
+      every : EverySlot P p (u .marks) e
+      every = go (bears p f) refl
+        where
+          go : (b : Bool) → bears p f ≡ b
+              → EverySlot P p (set (s .marks) (frameNode f) (record { is = cond b Record First })) (cond b (put d (frameNode f * recordLength p) (bodyOf f)) d)
+          go true b =
+              record-heard P p (s .marks) d before (frameNode f) (bodyOf f) (t .node) (t .desk) (long-body p f b)
+              (brings b (accepted-passed p s f d (length i) n b))
+          go false b = first-heard P p (s .marks) d before (frameNode f)
+
+      closing : (a : ℕ) → Candidate p s f d a → p .m ≤ length (closed p u e .nodes) → valid p s f d a ≡ true → Closing P p u e a
+      closing a h m v = record { plan = t .plan; long = long; leads = lead-of p s f d a h; size = m; valid = v; slots = every }
+
+    waits : Waits p s f d (length i) → (x : Bool) → isStoring (s .round .stage) ≡ x → Leaves (readReply p s f d i)
+    waits w true q =
+        subst Leaves (sym (reading.waits-repair p s f d i n q (rw q at (w .few))))
+        (other stillOpen (λ a b z. let y : _≡_ {A = ℕ} 0 1 = cc in omega arith) (markedOf s (frameNode f) Record) d still)
+      where
+        still : Keeps P p (markedOf s (frameNode f) Record) d
+        still =
+            let m : Mended P p s d = subst (λ (x : Stage). KeepsAt x P p s d) (at-storing (s .round .stage) q) k in
+            subst (λ (x : Stage). KeepsAt x P p (markedOf s (frameNode f) Record) d) (sym (at-storing (s .round .stage) q))
+            (record { session = m .session; desk = m .desk; node = m .node; closing = m .closing; stamped = m .stamped; filled = m .filled })
+    waits w false q =
+        subst Leaves (sym (reading.waits-read p s f d i n q (rw q at (w .few))))
+        (other stillOpen (λ a b z. let y : _≡_ {A = ℕ} 0 1 = cc in omega arith) u e
+        (subst (λ (x : Stage). KeepsAt x P p u e) (sym (stage q)) (every q)))
+
+  repairs : (w : RepairOpens p s f d (length i)) → Leaves (readReply p s f d i)
+  repairs w =
+      let n = w .closes .accepted in
+      let q = w .closes .asks in
+      let a = w .node in
+      let v = reading.mended-is (p .member) (COMPLETE p) (INCOMPLETE p) (size p s f d a) (w .high) (w .low) (w .member) in
+      let g = led p u e a (lead-of p s f d a (w .candidate)) in
+      subst Leaves (sym (reading.closes-read p s f d i n q (w .closes .enough) ∙ reading.is-mended p s f d i a (w .candidate) v (w .validated)))
+      (other stillOpen (λ x y z. let b : _≡_ {A = ℕ} 0 1 = cc in omega arith) (storingOf u (closed p u e .stamp)) (repaired p (closed p u e) a e)
+      (record {
+        session = u;
+        desk = e;
+        node = a;
+        closing = closing n q a (w .candidate) (sized p u e a g (t n .plan) (g .verdict-is ∙ v)) (w .validated);
+        stamped = refl;
+        filled = refl;
+      }))
+
+  by-read : (stamp : Timestamp) (m : ℕ) → DoneByRead p s f d (length i) stamp m → Leaves (readReply p s f d i)
+  by-read stamp m w =
+      let n = w .closes .accepted in
+      let q = w .closes .asks in
+      let a = w .node in
+      let v = reading.whole-is (p .member) (COMPLETE p) (INCOMPLETE p) (size p s f d a) (w .full) in
+      let g = led p u e a (lead-of p s f d a (w .candidate)) in
+      subst Leaves (sym (reading.closes-read p s f d i n q (w .closes .enough) ∙ reading.is-done p s f d i a (w .candidate) v (w .validated)))
+      (record {
+        keeps = tt;
+        finds = λ x y z.
+            record {
+              session = u;
+              desk = e;
+              node = a;
+              closing = closing n q a (w .candidate) (sized-whole p u e a g (t n .plan) (g .verdict-is ∙ v)) (w .validated);
+              stamped = cc;
+              lent = i;
+              room = item-is n;
+              is = refl;
+            };
+      })
+
+  by-repair : (stamp : Timestamp) (m : ℕ) → DoneByRepair p s f d (length i) stamp m → Leaves (readReply p s f d i)
+  by-repair stamp m w =
+      let n = w .accepted in
+      let h : Mended P p s d = subst (λ (x : Stage). KeepsAt x P p s d) (at-storing (s .round .stage) (w .stores)) k in
+      let c = h .closing in
+      subst Leaves (sym (reading.ends-repair p s f d i n (w .stores) (w .enough)))
+      (record {
+        keeps = tt;
+        finds = λ x y z.
+            let one : x ≡ s .stamp = cc in
+            record {
+              session = h .session;
+              desk = h .desk;
+              node = h .node;
+              closing = c;
+              stamped = one ∙ h .stamped;
+              lent = i;
+              room = item-is n;
+              is = ap (λ (l : List ℕ). collected p l i) (h .filled)
+                  ∙ repaired-item p (h .session) (h .desk) (h .node) (c .plan) (c .long) (c .leads) (c .size) i;
+            };
+      })
+
+  by : (a : Said) → ReadGives p s f d (length i) a → Leaves (readReply p s f d i)
+  by (refused j) g =
+      subst Leaves (sym (reading.one-ladder p s f d i ∙ is-given ladder (λ (j : ℕ). outcome (refused j) s d i) _ j g))
+      (other (refused j) (λ x y z. let b : _≡_ {A = ℕ} 0 1 = cc in omega arith) s d k)
+  by stillOpen (inl w) = waits (w .accepted) w (isStoring (s .round .stage)) refl
+  by stillOpen (inr (inl w)) =
+      let n = w .closes .accepted in
+      subst Leaves (sym (reading.closes-read p s f d i n (w .closes .asks) (w .closes .enough) ∙ reading.goes-on p s f d i n (w .node) (w .candidate) (w .fails) (w .more)))
+      (other stillOpen (λ x y z. let b : _≡_ {A = ℕ} 0 1 = cc in omega arith) (nextOf u (closed p u e .stamp)) e (none-marked P p e))
+  by stillOpen (inr (inr w)) = repairs w
+  by (done stamp m) (inl w) = by-read stamp m w
+  by (done stamp m) (inr w) = by-repair stamp m w
+  by (neverWritten m) w =
+      let n = w .closes .accepted in
+      subst Leaves (sym (reading.closes-read p s f d i n (w .closes .asks) (w .closes .enough) ∙ reading.never p s f d i n (w .first)))
+      (other (neverWritten (s .round .number)) (λ x y z. let b : _≡_ {A = ℕ} 0 1 = cc in omega arith) (endedOf u) e tt)
+  by (aborted m) w =
+      let n = w .closes .accepted in
+      subst Leaves (sym (reading.closes-read p s f d i n (w .closes .asks) (w .closes .enough)
+      ∙ reading.is-aborted p s f d i (w .node) (w .candidate) (reading.unsure-is (p .member) (COMPLETE p) (INCOMPLETE p) _ (w .high) (w .low) (w .member))))
+      (other (aborted (s .round .number)) (λ x y z. let b : _≡_ {A = ℕ} 0 1 = cc in omega arith) (endedOf u) e tt)
+  by (roundsSpent m) w =
+      let n = w .closes .accepted in
+      subst Leaves (sym (reading.closes-read p s f d i n (w .closes .asks) (w .closes .enough) ∙ reading.spends p s f d i n (w .node) (w .candidate) (w .fails) (w .last)))
+      (other (roundsSpent (s .round .number)) (λ x y z. let b : _≡_ {A = ℕ} 0 1 = cc in omega arith) (endedOf u) e tt)
+  by clockSpent w = absurd w
+
+  leaves : Leaves (readReply p s f d i)
+  leaves = by (readReply p s f d i .said) (reading.gives p s f d i)
+
+-- ---- calls one after another
+module _ (P : ℕ → List ℕ → Type 0) (p : Plan) where
+  abbrev left : Turn → Outcome
+  left c = outcome (saidOf (c .took .answer)) (c .took .session) (c .deskLeft) (c .itemLeft)
+
+  one : (s : Session) (d : List ℕ) (c : Turn) (k : Keeps P p s d) (b : Brings P p (c .reply)) → ReadTurn p s d c → Leaves P p s (c .reply) d (c .item) k b (left c)
+  one s d c k b h = subst (Leaves P p s (c .reply) d (c .item) k b) (sym (h .1 .is)) (leaves P p s (c .reply) d (c .item) k b)
+
+  run-keeps : (s : Session) (d : List ℕ) (cs : List Turn) → Keeps P p s d → Calls (ReadTurn p) s d cs → EachTurn (λ (c : Turn). Brings P p (c .reply)) cs
+      → Keeps P p (lastSession s cs) (lastDesk d cs)
+  run-keeps s d [] k h b = k
+  run-keeps s d (c ∷ cs) k h b = run-keeps (c .took .session) (c .deskLeft) cs (one s d c k (b .0) (h .0) .keeps) (h .1) (b .1)
+
+  ends-found : (s : Session) (d : List ℕ) (c : Turn) (cs : List Turn) → Keeps P p s d → Calls (ReadTurn p) s d (c ∷ cs)
+      → EachTurn (λ (c : Turn). Brings P p (c .reply)) (c ∷ cs) → (stamp : Timestamp) (n : ℕ) → lastSaid c cs ≡ done stamp n → Found P p stamp (lastItem c cs)
+  ends-found s d c [] k h b stamp n e = one s d c k (b .0) (h .0) .finds stamp n e
+  ends-found s d c (v ∷ cs) k h b stamp n e =
+      ends-found (c .took .session) (c .deskLeft) v cs (one s d c k (b .0) (h .0) .keeps) (h .1) (b .1) stamp n e
+
+  -- from an accepted opening
+  module _ (a : Ask) (r : Opened) (opens : OpenCall Read p a r) (accepted : r .answer ≡ Accepted) (d : List ℕ) where
+    start : Keeps P p (r .session) d
+    start = subst (λ (x : Session). Keeps P p x d) (sym (accepted-session Read p a r opens accepted)) (none-marked P p d)
+
+    -- A READ THAT ENDS DONE LEAVES WHAT A CLOSED SET DECODES TO, complete or repaired, of the timestamp that it says; the slots of that set are of the
+    -- kind that the records of its replies are
+    pub run-finds : (c : Turn) (cs : List Turn) → Calls (ReadTurn p) (r .session) d (c ∷ cs) → EachTurn (λ (c : Turn). Brings P p (c .reply)) (c ∷ cs)
+        → (stamp : Timestamp) (n : ℕ) → lastSaid c cs ≡ done stamp n → Found P p stamp (lastItem c cs)
+    run-finds c cs h b = ends-found (r .session) d c cs start h b
+
+    pub run-slots : (cs : List Turn) → Calls (ReadTurn p) (r .session) d cs → EachTurn (λ (c : Turn). Brings P p (c .reply)) cs
+        → isAsking (lastSession (r .session) cs .round .stage) ≡ true → EverySlot P p (lastSession (r .session) cs .marks) (lastDesk d cs)
+    run-slots cs h b asks = go (lastSession (r .session) cs .round .stage) asks (run-keeps (r .session) d cs start h b)
+      where
+        go : (x : Stage) → isAsking x ≡ true → KeepsAt x P p (lastSession (r .session) cs) (lastDesk d cs)
+            → EverySlot P p (lastSession (r .session) cs .marks) (lastDesk d cs)
+        go Asking e k = k
+        go Storing e k = absurd (clash (sym e))
+        go Ended e k = absurd (clash (sym e))
+
+-- ---- each of some calls is one of them
+each-turn : (P Q : Turn → Type 0) → ((c : Turn) → P c → Q c) → (cs : List Turn) → EachTurn P cs → EachTurn Q cs
+each-turn P Q f [] h = tt
+each-turn P Q f (c ∷ cs) h = (f c (h .0), each-turn P Q f cs (h .1))
+
+-- what its reply brings is held
+all-brought : (p : Plan) (cs : List Turn) → EachTurn (λ (c : Turn). Brings (Held p cs) p (c .reply)) cs
+all-brought p [] = tt
+all-brought p (c ∷ cs) = (
+  λ b q. record { passed = q; came = inl (record { bore = b; node = refl; is = refl }) },
+  each-turn (λ (e : Turn). Brings (Held p cs) p (e .reply)) (λ (e : Turn). Brings (Held p (c ∷ cs)) p (e .reply))
+      (λ e h b q. let w = h b q in record { passed = w .passed; came = inr (w .came) }) cs (all-brought p cs),
+)
+
+-- THE SLOTS OF A READ ROUND, over any calls from an accepted opening on: each that is marked record holds a record of a time of 1 or more whose two
+-- hash checks hold at its node, and one of the replies, of that node, bore it
+pub every-slot : (p : Plan) (a : Ask) (r : Opened) → OpenCall Read p a r → r .answer ≡ Accepted → (d : List ℕ) (cs : List Turn)
+    → Calls (ReadTurn p) (r .session) d cs → isAsking (lastSession (r .session) cs .round .stage) ≡ true
+    → EverySlot (Held p cs) p (lastSession (r .session) cs .marks) (lastDesk d cs)
+every-slot p a r opens accepted d cs h = run-slots (Held p cs) p a r opens accepted d cs h (all-brought p cs)

@@ -4,4 +4,5 @@ pub mod Hosts
 pub mod Demand1
 pub mod Refusals
 pub mod Demand2
+pub mod Together
 pub mod Demand3

@@ -58,6 +58,7 @@ use Rattle.store.specs.Deliver.{Among}
 use Rattle.store.specs.History.{AllPass}
 use Rattle.store.proofs.Order as order
 use Rattle.store.proofs.Node as calls
+use Rattle.client.specs.Held.{Passed}
 use Rattle.report.specs.Together.{NoneOf}
 
 -- ---- ladders
@@ -95,11 +96,6 @@ pub record AtClient (p : Plan) (s : Session) (f : List ℕ) : Type 0 where
   pub timed : (bears p f and timeZero (bodyOf f)) ≡ false
   pub hashed : (bears p f and not (hashesOk p (frameNode f) (bodyOf f))) ≡ false
   pub under : (bears p f and not (underOf (s .round .bound) (stamp (bodyOf f)))) ≡ false
-
--- a record that 5 and 6 do not refuse, at node k
-pub record Fine (p : Plan) (k : ℕ) (rec : List ℕ) : Type 0 where
-  pub timed : 1 ≤ time rec
-  pub hashes : hashesOk p k rec ≡ true
 
 -- a time that is not 0
 not-zero : (rec : List ℕ) → 1 ≤ time rec → timeZero rec ≡ false
@@ -149,7 +145,7 @@ module _ (p : Plan) (ok : planOk p ≡ true) (S ask : ℕ) (low : S < p .n) (sma
 
   -- what the body of a read reply may be: none, or a record that passes, below the bound
   abbrev Borne : Session → Type 0
-  Borne s = (kind ≡ readReplyKind → ⊥) ⊎ ((length body ≡ 0) ⊎ (Fine p S body × (underOf (s .round .bound) (stamp body) ≡ true)))
+  Borne s = (kind ≡ readReplyKind → ⊥) ⊎ ((length body ≡ 0) ⊎ (Passed p S body × (underOf (s .round .bound) (stamp body) ≡ true)))
 
   no-record : length body ≡ 0 → bears p f ≡ false
   unfolding bears
@@ -197,7 +193,7 @@ module _ (p : Plan) (ok : planOk p ≡ true) (S ask : ℕ) (low : S < p .n) (sma
 -- what is known of a session and its desk: a bound has a time, and in a write or repair round every slot is a record of the timestamp being written
 pub record Sendable (p : Plan) (s : Session) (d : List ℕ) : Type 0 where
   pub bound : isStoring (s .round .stage) ≡ false → isRead (s .operation) ≡ true → (u : Timestamp) → s .round .bound ≡ Under u → (1 ≤ time (be 40 (stampNumber u))) × (stamp (be 40 (stampNumber u)) ≡ stampNumber u)
-  pub slots : isStoring (s .round .stage) ≡ true → (k : ℕ) → k < p .n → Fine p k (slotOf p d k) × (stamp (slotOf p d k) ≡ stampNumber (s .stamp))
+  pub slots : isStoring (s .round .stage) ≡ true → (k : ℕ) → k < p .n → Passed p k (slotOf p d k) × (stamp (slotOf p d k) ≡ stampNumber (s .stamp))
 
 -- the frame that is owed, by the round
 pub data Owes (p : Plan) (s : Session) (S : ℕ) (d : List ℕ) (f : List ℕ) : Type 0 where
@@ -369,7 +365,7 @@ module _ (p : Plan) (s : Session) (S : ℕ) (d f : List ℕ) (w : Written p s S 
       let x : bodyOf f ≡ body = ap (λ (x : List ℕ). bodyOf x) e ∙ built.body-frame (headerOf kind S ask) body in
       replied-frame ∙ (λ i. frameOf (replying (h i) (replyTo (h i .kind) (x i) rs .kind)) (replyTo (h i .kind) (x i) rs .body))
 
-  passes-here : (z : List ℕ) → Among z rs → Fine p S z
+  passes-here : (z : List ℕ) → Among z rs → Passed p S z
   passes-here z m = let q = all z m in record { timed = q .0; hashes = ap (λ (k : ℕ). hashesOk p k z) (sym node) ∙ q .1 }
 
   -- a read reply with none, or with one of the records

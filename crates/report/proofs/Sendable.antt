@@ -1,5 +1,6 @@
 -- What is known of a session and its desk where a request is owed, over the calls of a write and of a read: the writer's slots are the records that it
--- made (write-sendable); a reader's bound is the timestamp of some bytes, of a time of 1 or more (read-bound). Assumes nothing.
+-- made (write-sendable); a reader's bound is the timestamp of some bytes, of a time of 1 or more, and in a repair round its slots are records that
+-- pass, where they fit the cross checksum (read-sendable). Assumes nothing.
 use Prim.{Unit, tt}
 use Prim.Native.Nat.{ℕ, _+_, _*_, _^_, _≤_, _<_}
 use mathlib.Core.Path.{_≡_, refl, sym, ap, _∙_, subst}
@@ -9,15 +10,20 @@ use native.Mathlib.Omega.{arith}
 use borrow.Author.Tests.{eqb-false, not-false, leb-true}
 use lib.Dec.{eqb, leb, ltb}
 use lib.ListN.{length, length-append}
-use Rattle.octets.specs.Bytes.{part, put, num, be, Octets}
+use Rattle.octets.specs.Bytes.{part, put, num, be, alike, Octets}
 use Rattle.octets.proofs.Laws.{length-be, part-part, part-left, part-first, part-all, slot-room}
-use Rattle.octets.proofs.Meaning.{be-part, octets-drop, octets-put}
+use Rattle.octets.proofs.Meaning.{be-part, octets-drop, octets-put, alike-is, is-alike}
+use Rattle.sha256.specs.Sha256.{sha256}
 use Rattle.sha256.proofs.Laws.{sha256-length}
 use Rattle.terms.specs.Ladder.{None, _and_}
 use Rattle.terms.specs.Stamp.{stamp, time, stampAt, stampNumber, top}
 use Rattle.terms.specs.Terms.{recordLength, slotsOf, slotAt}
 use Rattle.terms.specs.declared.Ask.{Ask}
+use Rattle.terms.specs.declared.Clients.{Clients}
+use Rattle.terms.specs.declared.Clients.the-variants.{Crash, Byzantine}
 use Rattle.terms.specs.declared.Plan.{Plan}
+use Rattle.terms.proofs.Plans.{plan-is}
+use Rattle.fragments.specs.Fragments.{regenerated}
 use Rattle.terms.specs.declared.Timestamp.{Timestamp}
 use Rattle.terms.proofs.Down.{clear}
 use Rattle.terms.proofs.Ladders.{by-ladder}
@@ -26,12 +32,13 @@ use Rattle.terms.proofs.Rungs.{both, clash}
 use Rattle.terms.proofs.Small.{strict}
 use Rattle.terms.proofs.Stamps.{stamp-at-number}
 use Rattle.frame.specs.Frame.{frameNode, bodyOf, headBytes, versionOf}
-use Rattle.record.specs.Desk.{slotOf, stampMade}
-use Rattle.record.proofs.Desks.{time-made}
+use Rattle.record.specs.Record.{verifierOf, crossOf, entryOf, fragmentHash, hashesOk}
+use Rattle.record.specs.Desk.{slotOf, fragmentIn, crossMade, stampMade}
+use Rattle.record.proofs.Desks.{time-made, cross-same, entry-of}
 use Rattle.rounds.specs.declared.Bound.{Bound}
 use Rattle.rounds.specs.declared.Bound.the-variants.{Free, Under}
 use Rattle.rounds.specs.declared.Heard.the-variants.{Record}
-use Rattle.recover.specs.Recover.{collected}
+use Rattle.recover.specs.Recover.{lowest, validates, trusted, sound, collected}
 use Rattle.recover.specs.Records.{crossFor, stampFor, recordsFor}
 use Rattle.recover.proofs.Records.{record-is, record-passes}
 use Rattle.session.specs.declared.Session.{Session}
@@ -39,7 +46,7 @@ use Rattle.session.specs.declared.Operation.the-variants.{Write, Read}
 use Rattle.session.specs.declared.opening.Opened.{Opened}
 use Rattle.session.specs.declared.opening.Opening.the-variants.{Accepted}
 use Rattle.session.specs.Opening.{OpenCall}
-use Rattle.session.specs.Session.{isRead, isAsking, isStoring, markedOf, endedOf, storingOf, roundOpen, stillOpen, done, refused, clockSpent}
+use Rattle.session.specs.Session.{isRead, isAsking, isStoring, isEnded, markedOf, endedOf, storingOf, roundOpen, stillOpen, done, refused, clockSpent}
 use Rattle.session.specs.Ranges.{inRange, boundOk}
 use Rattle.session.specs.Reply.{lengthsOk, bears}
 use Rattle.session.specs.Writer.{Leaves, leaves, newTime, timedOf, timeEnd, timeTurn, writeTurn, acceptedWrite, writeReply}
@@ -50,12 +57,18 @@ use Rattle.session.proofs.Openings.{accepted-session}
 use Rattle.session.proofs.ReadKept.{asking, not-asking}
 use Rattle.session.proofs.Rules.{lengths-are, range-stands}
 use Rattle.client.specs.Endings.{readLadder, writeLadder, afterReply, deskAfter}
+use Rattle.client.specs.Held.{Passed}
+use Rattle.client.specs.Repair.{EachTurn}
+use Rattle.client.proofs.Held.{Closing, Mended, Brings, run-mended}
+use Rattle.client.proofs.Repair.{head-is, fragment-held}
+use Rattle.client.proofs.SameStamp.{lead-slot, lead-number}
+use Rattle.report.specs.Together.{RepairFits}
 use Rattle.client.specs.Sessions.{lastSession, lastDesk}
 use Rattle.client.specs.Turns.{Turn, ReadTurn, WriteTurn, Calls}
 use Rattle.client.proofs.Reading as reading
 use Rattle.client.proofs.Writing as writing
 use Rattle.client.proofs.Round.Order.{length-after}
-use Rattle.report.proofs.Exchange.{Fine, Sendable}
+use Rattle.report.proofs.Exchange.{Sendable}
 
 -- ---- a write
 -- the desk is the N records that our writer made of an item at a time
@@ -89,7 +102,7 @@ module _ (p : Plan) (t : ℕ) (i : List ℕ) (whole : length i ≡ p .m * p .f) 
       ap num (ap (λ (l : List ℕ). part l 0 40) (record-is p t i whole k h) ∙ part-first made _ 40 long-made ∙ sym (part-all made) ∙ ap (part made 0) long-made)
       ∙ sym (stamp-at-number made 0 (omega (arith, long-made)))
 
-  made-fine : Fine p k rec × (stamp rec ≡ stampNumber (stampFor p t i))
+  made-fine : Passed p k rec × (stamp rec ≡ stampNumber (stampFor p t i))
   made-fine = (record { timed = omega (arith, slot-time); hashes = record-passes p t i whole k h }, slot-stamp)
 
 -- what holds of what a call left: the operation stays, and in the write round the desk is written
@@ -177,7 +190,7 @@ write-sendable p a r d cs opens e ld h =
       slots = λ x j l.
           let w = k .1 x in
           let m = made-fine p (w .at) (w .item) (w .whole) (w .low) (w .high) j l in (
-            subst (λ (y : List ℕ). Fine p j (slotOf p y j)) (sym (w .desk)) (m .0),
+            subst (λ (y : List ℕ). Passed p j (slotOf p y j)) (sym (w .desk)) (m .0),
             ap (λ (y : List ℕ). stamp (slotOf p y j)) (w .desk) ∙ m .1 ∙ ap stampNumber (sym (w .stamped)),
           );
     }
@@ -291,7 +304,7 @@ run-reads p s d (c ∷ cs) k h =
     (subst (Asks p s (c .reply) d (c .item) (h .0 .0) k) (sym (h .0 .1 .is)) (call-reads p s (c .reply) d (c .item) (h .0 .0) k)) (h .1)
 
 -- FROM AN ACCEPTED OPENING, after any calls of a read: a bound is of bytes, and of a time of 1 or more
-pub read-bound : (p : Plan) (a : Ask) (r : Opened) (d : List ℕ) (cs : List Turn) → OpenCall Read p a r → r .answer ≡ Accepted → Octets d
+read-bound : (p : Plan) (a : Ask) (r : Opened) (d : List ℕ) (cs : List Turn) → OpenCall Read p a r → r .answer ≡ Accepted → Octets d
     → Calls (ReadTurn p) (r .session) d cs → inRange p (lastSession (r .session) cs) (lastDesk d cs) ≡ true → isAsking (lastSession (r .session) cs .round .stage) ≡ true
     → (u : Timestamp) → lastSession (r .session) cs .round .bound ≡ Under u
     → (1 ≤ time (be 40 (stampNumber u))) × (stamp (be 40 (stampNumber u)) ≡ stampNumber u)
@@ -303,3 +316,74 @@ read-bound p a r d cs opens e od h range asks u b =
     let low = both (ltb 1 (lastSession (r .session) cs .round .number)) (leb 1 (u .time .0))
     (subst (λ (x : Bound). boundOk x (lastSession (r .session) cs .round .number) ≡ true) b w) in
     bound-sends u (subst Bounded b k) (leb-true 1 (u .time .0) (low .1))
+
+-- ---- a repair: the desk was filled from a set that validates, or fits
+module _ (p : Plan) (s : Session) (d : List ℕ) (m : Mended (Passed p) p s d) (stores : isStoring (s .round .stage) ≡ true) (fits : RepairFits p s d) where
+  abbrev c : Closing (Passed p) p (m .session) (m .desk) (m .node)
+  c = m .closing
+
+  abbrev old : List ℕ
+  old = slotOf p (m .desk) (m .node)
+
+  abbrev regained : ℕ → List ℕ
+  regained k = regenerated (m .desk) (slotsOf p) (lowest p (closed p (m .session) (m .desk))) k
+
+  -- its heads are that of the lead's slot
+  head-so : (k : ℕ) → k < p .n → (at n : ℕ) → at + n ≤ slotsOf p .head → part (slotOf p d k) at n ≡ part old at n
+  head-so k h at n l =
+      ap (λ (x : List ℕ). part (slotOf p x k) at n) (m .filled)
+      ∙ head-is p (m .session) (m .desk) (m .node) (c .plan) (c .long) (c .leads) (c .size) k h (m .node) at n refl l
+
+  fragment-so : (k : ℕ) → k < p .n → fragmentIn p d k ≡ regained k
+  fragment-so k h =
+      ap (λ (x : List ℕ). fragmentIn p x k) (m .filled) ∙ fragment-held p (m .session) (m .desk) (m .node) (c .plan) (c .long) (c .leads) (c .size) k h
+
+  low : 0 < p .n
+  low = omega (arith, plan-is p (c .plan) .n-low)
+
+  -- under Byzantine clients by validation
+  validated : p .clients ≡ Byzantine → crossMade p (fragmentIn p d) (p .n) ≡ crossOf p (slotOf p d 0)
+  unfolding sound validates
+  validated b =
+      let v : validates p (m .desk) (lowest p (closed p (m .session) (m .desk))) (m .node) ≡ true =
+      sym (ap (λ (x : Clients). trusted x (validates p (m .desk) (lowest p (closed p (m .session) (m .desk))) (m .node))) b) ∙ c .valid in
+      cross-same (fragmentIn p d) regained (p .n) fragment-so p ∙ alike-is _ _ v
+      ∙ sym (head-so 0 low 40 (32 * p .n) (omega arith)
+      ∙ part-part (m .desk) (m .node * recordLength p) (recordLength p) 40 (32 * p .n) (omega (arith, record-length p)))
+
+  crossed : crossMade p (fragmentIn p d) (p .n) ≡ crossOf p (slotOf p d 0)
+  crossed = by (p .clients) refl
+    where
+      by : (x : Clients) → p .clients ≡ x → crossMade p (fragmentIn p d) (p .n) ≡ crossOf p (slotOf p d 0)
+      by Crash e = fits e stores
+      by Byzantine e = validated e
+
+  mended-passes : (k : ℕ) → k < p .n → Passed p k (slotOf p d k) × (stamp (slotOf p d k) ≡ stampNumber (s .stamp))
+  unfolding hashesOk
+  mended-passes k h =
+      let q : Passed p (m .node) old = lead-slot (Passed p) p (m .session) (m .desk) (m .node) c in
+      let x : crossOf p (slotOf p d k) ≡ crossOf p old = head-so k h 40 (32 * p .n) (omega arith) in
+      let v : verifierOf (slotOf p d k) ≡ verifierOf old = head-so k h 8 32 (omega arith) in
+      let z : crossOf p (slotOf p d k) ≡ crossMade p (fragmentIn p d) (p .n) = x ∙ sym (head-so 0 low 40 (32 * p .n) (omega arith)) ∙ sym crossed in
+      let one : alike (sha256 (crossOf p (slotOf p d k))) (verifierOf (slotOf p d k)) ≡ true =
+      (λ i. alike (sha256 (x i)) (v i)) ∙ both (alike (sha256 (crossOf p old)) (verifierOf old)) _ (q .hashes) .0 in
+      let two : alike (fragmentHash p k (fragmentIn p d k)) (entryOf k (crossOf p (slotOf p d k))) ≡ true =
+      is-alike _ _ (sym (ap (entryOf k) z ∙ entry-of p (fragmentIn p d) k (p .n) h)) in
+      let t : time (slotOf p d k) ≡ time old = ap num (head-so k h 0 8 (omega arith)) in (
+        record { timed = omega (arith, t, q .timed); hashes = rw (one, two) },
+        ap num (head-so k h 0 40 (omega arith)) ∙ sym (lead-number (Passed p) p (m .session) (m .desk) (m .node) c) ∙ ap stampNumber (sym (m .stamped)),
+      )
+
+all-pass : (p : Plan) (cs : List Turn) → EachTurn (λ (e : Turn). Brings (Passed p) p (e .reply)) cs
+all-pass p [] = tt
+all-pass p (e ∷ cs) = ((λ b q. q), all-pass p cs)
+
+-- FROM AN ACCEPTED OPENING, after any calls of a read that has not ended
+pub read-sendable : (p : Plan) (a : Ask) (r : Opened) (d : List ℕ) (cs : List Turn) → OpenCall Read p a r → r .answer ≡ Accepted → Octets d
+    → Calls (ReadTurn p) (r .session) d cs → inRange p (lastSession (r .session) cs) (lastDesk d cs) ≡ true → isEnded (lastSession (r .session) cs .round .stage) ≡ false
+    → RepairFits p (lastSession (r .session) cs) (lastDesk d cs) → Sendable p (lastSession (r .session) cs) (lastDesk d cs)
+read-sendable p a r d cs opens e od h range going fits =
+    record {
+      bound = λ x y u b. read-bound p a r d cs opens e od h range (asking (lastSession (r .session) cs .round .stage) x going) u b;
+      slots = λ x. mended-passes p (lastSession (r .session) cs) (lastDesk d cs) (run-mended (Passed p) p a r opens e d cs h (all-pass p cs) x) x fits;
+    }

@@ -1,6 +1,7 @@
--- CLIENT AND NODE TOGETHER. A request that our writer owes is not refused 4, 5 or 6 by a good book of its node and plan; the reply to it, from a book
+-- CLIENT AND NODE TOGETHER. A request that our client owes is not refused 4, 5 or 6 by a good book of its node and plan; the reply to it, from a book
 -- that calls of the node made of a fresh one, is not refused 4, 5, 6, 10 or 12 by the session that asked, while its round is open.
 --   write-request-taken write-reply-taken   of a write
+--   read-request-taken read-reply-taken     of a read: in a repair under crash clients where the fragments fit the cross checksum (RepairFits)
 -- Assumes nothing.
 use Prim.{tt}
 use Prim.Native.Nat.{ℕ}
@@ -24,7 +25,7 @@ use Rattle.session.specs.declared.Session.{Session}
 use Rattle.session.specs.declared.Took.{Took}
 use Rattle.session.specs.declared.Answer.{Answer}
 use Rattle.session.specs.declared.Answer.the-variants.{Refused}
-use Rattle.session.specs.declared.Operation.the-variants.{Write}
+use Rattle.session.specs.declared.Operation.the-variants.{Write, Read}
 use Rattle.session.specs.Session.{askNow, awaitsKind, sessionWith, saidOf}
 use Rattle.session.specs.Reply.{awaited}
 use Rattle.session.specs.Writer.{WriteReplyCall}
@@ -32,11 +33,11 @@ use Rattle.session.specs.Reader.{ReadReplyCall}
 use Rattle.store.specs.History.{OfCalls}
 use Rattle.store.proofs.Passed.{fresh-passes}
 use Rattle.client.specs.Endings.{readLadder, writeLadder}
-use Rattle.client.specs.Turns.{WriteTurn}
+use Rattle.client.specs.Turns.{ReadTurn, WriteTurn}
 use Rattle.client.proofs.Client.{write-refused, read-refused}
-use Rattle.report.specs.Together.{OwedBy, asker, askerDesk, StillAsks, NoneOf}
+use Rattle.report.specs.Together.{OwedBy, asker, askerDesk, RepairFits, StillAsks, NoneOf}
 use Rattle.report.proofs.Exchange.{Quiet, quiet-given, AtNode, AtClient, Sendable, Written, was-written, request-passes, not-refused-there, reply-passes}
-use Rattle.report.proofs.Sendable.{write-sendable}
+use Rattle.report.proofs.Sendable.{write-sendable, read-sendable}
 
 -- ---- the session that asked, while its round is open
 -- what is awaited does not go by the marks or the greatest time
@@ -119,3 +120,21 @@ module _ (p : Plan) (S : ℕ) (f : List ℕ) (x : OwedBy Write (WriteTurn p) p S
       → (d i : List ℕ) (t : Took) (d₂ : List ℕ) → WriteReplyCall p u (take n y₂) d i t d₂ → (r : Refusal) → t .answer ≡ Refused r → NoneOf (4 ∷ 5 ∷ 6 ∷ 10 ∷ 12 ∷ []) r
   write-reply-taken b y k n b₂ y₂ c u a =
       writer-takes p u (take n y₂) (client-takes p (asker x) S (askerDesk x) f wrote wrote-ready b y k n b₂ y₂ c u a)
+
+-- ---- a read
+module _ (p : Plan) (S : ℕ) (f : List ℕ) (x : OwedBy Read (ReadTurn p) p S f) (fits : RepairFits p (asker x) (askerDesk x)) where
+  read : Written p (asker x) S (askerDesk x) f
+  read = subst (Written p (asker x) S (askerDesk x)) (sym (x .is)) (was-written p (asker x) S (askerDesk x) (x .buffer) (x .size) (x .left) (x .owed))
+
+  read-ready : Sendable p (asker x) (askerDesk x)
+  read-ready = read-sendable p (x .ask) (x .opened) (x .desk) (x .turns) (x .opens) (x .accepted) (x .bytes) (x .calls) (read .range) (read .going) fits
+
+  pub read-request-taken : (b y : List ℕ) → goodBook p b ≡ true → nodeOf b ≡ S → (a : node.Answer) (b₂ y₂ : List ℕ) → NodeCall p f b y a b₂ y₂
+      → (r : Refusal) → a ≡ node-answers.Refused r → NoneOf (4 ∷ 5 ∷ 6 ∷ []) r
+  read-request-taken b y = node-takes p (asker x) S (askerDesk x) f read read-ready b y
+
+  pub read-reply-taken : (b y : List ℕ) → OfCalls p S b → (n : ℕ) (b₂ y₂ : List ℕ) → NodeCall p f b y (Replied n) b₂ y₂ → (u : Session) → StillAsks (asker x) u
+      → (d i : List ℕ) (t : Took) (d₂ i₂ : List ℕ) → ReadReplyCall p u (take n y₂) d i t d₂ i₂ → (r : Refusal) → t .answer ≡ Refused r
+      → NoneOf (4 ∷ 5 ∷ 6 ∷ 10 ∷ 12 ∷ []) r
+  read-reply-taken b y k n b₂ y₂ c u a =
+      reader-takes p u (take n y₂) (client-takes p (asker x) S (askerDesk x) f read read-ready b y k n b₂ y₂ c u a)

@@ -1,18 +1,19 @@
--- The hypotheses of the theorems on client and node together can be met: the write of client's Instances/Write.antt (N3 t1 b0 Q2 m1 F1) owes node 2 its
--- record, node 2's fresh book takes it, and the reply ends the write; between them node 0 was heard.
---   write-exchanged    the request and the reply of a write
+-- The hypotheses of the theorems on client and node together can be met. The write of client's Instances/Write.antt (N3 t1 b0 Q2 m1 F1) owes node 2 its
+-- record, node 2's fresh book takes it, and the reply ends the write; between them node 0 was heard. So of the repair of Instances/Read.antt.
+--   write-exchanged read-exchanged   the request and the reply of a write, and of a repair
 --   write-owes-so      the request is what WRITE sends
 -- Assumes nothing.
 use Prim.{tt}
-use mathlib.Core.Path.{_≡_, refl, sym, ap, _∙_, subst}
+use mathlib.Core.Path.{_≡_, refl, sym, subst}
 use mathlib.Core.Bool.{true}
 use mathlib.Core.List.{List, [], _∷_}
 use Prim.Native.Nat.{ℕ}
-use lib.ListN.{length, replicate, take}
+use native.Mathlib.Omega.{arith}
+use lib.ListN.{replicate, take}
 use Rattle.octets.specs.Bytes.{part, over, num, numFrom, be, beOnto, alike}
 use Rattle.sha256.specs.Sha256.{sha256, after, compressOf, addedOf, roundsOf, roundOf, T1, T2, scheduleOf, words, padding, bigEndian, K}
 use Rattle.terms.specs.Ladder.{first, all}
-use Rattle.terms.specs.Stamp.{stampAt, stampNumber, then}
+use Rattle.terms.specs.Stamp.{stampAt}
 use Rattle.terms.specs.Terms.{planOk, countsOk, limitsOk, columnOf, recordLength}
 use Rattle.terms.specs.declared.Refusal.{Refusal}
 use Rattle.terms.proofs.Small.{small, small-octets}
@@ -27,25 +28,27 @@ use Rattle.node.specs.declared.Made.the-variants.{Fresh}
 use Rattle.node.specs.Fresh.{FreshCall, freshened}
 use Rattle.node.specs.Node.{NodeCall, ServedOutcome, servedOutcome, served, answered, sends, replyTo, replied, bookReplyOk, timeFails, hashFails, otherHeld, noRoom}
 use Rattle.session.specs.declared.Answer.the-variants.{Refused}
-use Rattle.session.specs.declared.Operation.the-variants.{Write}
+use Rattle.session.specs.declared.Operation.the-variants.{Write, Read}
 use Rattle.session.specs.declared.owed.Owed.the-variants.{Request}
-use Rattle.session.specs.Session.{askNow, awaitsKind}
+use Rattle.session.specs.Session.{askNow}
 use Rattle.session.specs.Ranges.{standingRules, openRules, inRange}
 use Rattle.session.specs.Reply.{isHeard}
 use Rattle.session.specs.declared.Stage.the-variants.{Storing}
 use Rattle.session.specs.Owed.{owedLadder, written, roomOk, requestOf, owedTo, OwedCall}
 use Rattle.session.specs.Writer.{WriteReplyCall}
+use Rattle.session.specs.Reader.{ReadReplyCall}
 use Rattle.store.specs.History.{OfCalls}
 use Rattle.store.proofs.Passed.{fresh-passes}
-use Rattle.client.specs.Turns.{WriteTurn}
-use Rattle.client.proofs.Instances.Read.{plan, ask, hash, stamp-bytes, good, desk, desk-full, desk-long}
+use Rattle.client.specs.Turns.{ReadTurn, WriteTurn}
+use Rattle.client.proofs.Instances.Read.{plan, ask, hash, poor, stamp-bytes, good, desk, desk-poor, desk-good, desk-full, desk-long}
+use Rattle.client.proofs.Instances.Read as reads
 use Rattle.client.proofs.Instances.Write as writes
-use Rattle.report.specs.Together.{OwedBy, StillAsks, NoneOf}
+use Rattle.report.specs.Together.{OwedBy, RepairFits, StillAsks, NoneOf}
 use Rattle.report.specs.Sent.{WriteCommands, inWriteSet, Owes}
 use Rattle.report.specs.WriteRun.{untimed, timedOver}
 use Rattle.report.proofs.Sent.{write-owes}
-use Rattle.report.proofs.StillAsks.{write-still-asks}
-use Rattle.report.proofs.Together.{write-request-taken, write-reply-taken}
+use Rattle.report.proofs.StillAsks.{write-still-asks, read-still-asks}
+use Rattle.report.proofs.Together.{write-request-taken, write-reply-taken, read-request-taken, read-reply-taken}
 
 -- ---- node 2's fresh book, with room for one record
 pub book : List ℕ
@@ -132,6 +135,70 @@ write-exchanged =
       write-request-taken plan 2 (request 6) owed-by-write book (replicate 152 0) (x .0) (x .1) (Replied 55) (taken 6 .book) (taken 6 .reply) node-met,
       write-reply-taken plan 2 (request 6) owed-by-write book (replicate 152 0) of-calls 55 (taken 6 .book) (taken 6 .reply) node-met writes.once-stored still-so desk-full (7 ∷ [])
           (writes.call-4 .took) desk-full heard-so,
+    )
+
+-- ---- the read: its repair round owes node 2 the same record, with the next ask number
+owed-repair : OwedCall plan reads.repair-round 2 desk-full (replicate 152 0) (Request 152) (request 7)
+unfolding request stamp-bytes hash good desk-good desk-full poor desk-poor plan owedTo first planOk countsOk limitsOk columnOf all recordLength roomOk inRange standingRules openRules heardCount
+    every isHeard requestOf askNow over num numFrom part be beOnto stampAt
+owed-repair = record { is = refl }
+
+whole-repair : take 152 (request 7) ≡ request 7
+unfolding request stamp-bytes hash good be beOnto
+whole-repair = refl
+
+pub owed-by-read : OwedBy Read (ReadTurn plan) plan 2 (request 7)
+owed-by-read =
+    record {
+      ask = ask;
+      opened = reads.opened;
+      opens = reads.opened-so;
+      accepted = refl;
+      desk = desk;
+      long = desk-long;
+      bytes = small-octets desk desk-small;
+      turns = reads.call-1 ∷ reads.call-2 ∷ reads.call-3 ∷ reads.call-4 ∷ [];
+      calls = (reads.calls .0, (reads.calls .1 .0, (reads.calls .1 .1 .0, (reads.calls .1 .1 .1 .0, tt))));
+      buffer = replicate 152 0;
+      size = 152;
+      left = request 7;
+      owed = owed-repair;
+      is = sym whole-repair;
+    }
+
+repair-taken : taken 7 .answer ≡ replied 55
+unfolding taken request book stamp-bytes hash good plan served first planOk countsOk limitsOk columnOf all recordLength bookReplyOk goodBook headed filled rising timed recordsFrom goodRequest
+    goodFrame suits shaped forParty oneOf bodyFits timeFails hashFails otherHeld noRoom some fragmentHash prefixOf hashesOk timeZero answered sends replyTo over laidAs header joined num numFrom
+    part be beOnto alike sha256 after compressOf addedOf roundsOf roundOf T1 T2 scheduleOf words padding bigEndian K
+repair-taken = refl
+
+repair-met : NodeCall plan (request 7) book (replicate 152 0) (Replied 55) (taken 7 .book) (taken 7 .reply)
+unfolding taken
+repair-met = record { is = λ j. servedOutcome (sym repair-taken j) (taken 7 .book) (taken 7 .reply) }
+
+repair-reply : take 55 (taken 7 .reply) ≡ reads.reply-6
+unfolding taken request book stamp-bytes hash good plan served first planOk countsOk limitsOk columnOf all recordLength bookReplyOk goodBook headed filled rising timed recordsFrom goodRequest
+    goodFrame suits shaped forParty oneOf bodyFits timeFails hashFails otherHeld noRoom some fragmentHash prefixOf hashesOk timeZero answered sends replyTo over laidAs header joined num numFrom
+    part be beOnto alike sha256 after compressOf addedOf roundsOf roundOf T1 T2 scheduleOf words padding bigEndian K reads.reply-6
+repair-reply = refl
+
+-- node 1 was heard in between; clients are Byzantine, so that the set was validated
+repair-still : StillAsks reads.repair-round reads.once-stored
+repair-still = read-still-asks plan reads.repair-round desk-full reads.call-5 (reads.calls .1 .1 .1 .1 .0) refl refl
+
+repair-fits : RepairFits plan reads.repair-round desk-full
+unfolding plan
+repair-fits e = let z : _≡_ {A = ℕ} 0 1 = cc in absurd (omega arith)
+
+pub read-exchanged : ((r : Refusal) → Replied 55 ≡ node.Refused r → NoneOf (4 ∷ 5 ∷ 6 ∷ []) r)
+    × ((r : Refusal) → reads.call-6 .took .answer ≡ Refused r → NoneOf (4 ∷ 5 ∷ 6 ∷ 10 ∷ 12 ∷ []) r)
+unfolding owed-by-read
+read-exchanged =
+    let x = fresh-passes plan 2 book of-calls in (
+      read-request-taken plan 2 (request 7) owed-by-read repair-fits book (replicate 152 0) (x .0) (x .1) (Replied 55) (taken 7 .book) (taken 7 .reply) repair-met,
+      read-reply-taken plan 2 (request 7) owed-by-read repair-fits book (replicate 152 0) of-calls 55 (taken 7 .book) (taken 7 .reply) repair-met reads.once-stored repair-still desk-full (0 ∷ [])
+          (reads.call-6 .took) desk-full (7 ∷ [])
+          (subst (λ (f : List ℕ). ReadReplyCall plan reads.once-stored f desk-full (0 ∷ []) (reads.call-6 .took) desk-full (7 ∷ [])) (sym repair-reply) (reads.calls .1 .1 .1 .1 .1 .0 .1)),
     )
 
 -- what is owed is what WRITE sends to node 2, and node 2 is not in the response set

@@ -6,3 +6,4 @@ pub mod Refusals
 pub mod Demand2
 pub mod Together
 pub mod Demand3
+pub mod Instances

@@ -283,7 +283,7 @@ rested-so =
 unfoldable pub late : List ℕ
 late = frame readReplyKind 2 5 []
 
-late-met : ReadReplyCall plan second-heard late desk-good (0 ∷ []) (record { answer = Refused NotAwaited; session = second-heard }) desk-good (0 ∷ [])
+pub late-met : ReadReplyCall plan second-heard late desk-good (0 ∷ []) (record { answer = Refused NotAwaited; session = second-heard }) desk-good (0 ∷ [])
 unfolding late hash stamp-bytes good desk-good plan readReply first planOk countsOk limitsOk columnOf all recordLength lengthsOk inRange standingRules openRules heardCount every
     slotsFit slotFits slotStamp underOf num numFrom part goodReply goodFrame suits shaped forParty oneOf bodyFits awaited askNow awaitsKind be beOnto stampAt stampNumber then
     desk-poor poor

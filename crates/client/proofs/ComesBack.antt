@@ -32,7 +32,7 @@ use Rattle.fragments.specs.Fragments.{All, Distinct, from, fragment, laid}
 use Rattle.fragments.proofs.Interp.{all-map, all-map2}
 use Rattle.fragments.proofs.Laws.{length-from}
 use Rattle.fragments.proofs.Theorems.{all-from, distinct-from, any-item}
-use Rattle.record.specs.Record.{fragmentOf}
+use Rattle.record.specs.Record.{crossOf, fragmentOf}
 use Rattle.record.specs.Desk.{slotOf, fragmentIn, stampMade}
 use Rattle.terms.proofs.Places.{record-length}
 use Rattle.record.proofs.Desks.{length-cross, fragment-in}
@@ -55,7 +55,7 @@ use Rattle.client.proofs.Endings.{read-done}
 module _ (p : Plan) (t : ℕ) (i : List ℕ) (ok : planOk p ≡ true) (bytes : Octets i) (whole : length i ≡ p .m * p .f)
     (out : List ℕ) (room : length out ≡ p .m * p .f) where
   -- slot k of the writer's desk holds fragment k
-  written-in : (k : ℕ) → k < p .n → fragmentIn p (recordsFor p t i) k ≡ fragment (p .m) (p .f) i k
+  pub written-in : (k : ℕ) → k < p .n → fragmentIn p (recordsFor p t i) k ≡ fragment (p .m) (p .f) i k
   written-in k h =
       let s = stampMade t (crossFor p i) in
       let c = crossFor p i in
@@ -69,6 +69,12 @@ module _ (p : Plan) (t : ℕ) (i : List ℕ) (ok : planOk p ≡ true) (bytes : O
       let lx : length x ≡ p .f = omega (arith, record-length p, ap length e) in
       part-middle (slotOf p (recordsFor p t i) k) (s ++ c) x [] (slotsOf p .head) (p .f)
       (e ∙ sym (append-assoc s c x) ∙ ap (λ (l : List ℕ). (s ++ c) ++ l) (sym (append-nil x))) (length-append s c ∙ (omega arith)) lx
+
+  -- and the cross checksum
+  pub written-cross : (k : ℕ) → k < p .n → crossOf p (slotOf p (recordsFor p t i) k) ≡ crossFor p i
+  written-cross k h =
+      part-middle (slotOf p (recordsFor p t i) k) (stampMade t (crossFor p i)) (crossFor p i) (fragment (p .m) (p .f) i k) 40 (32 * p .n)
+      (record-is p t i whole k h) (simp (length-append, length-be, sha256-length)) (unfold crossFor in length-cross p (fragment (p .m) (p .f) i) (p .n))
 
   -- A DESK THAT HOLDS, in the slots of any m different nodes below N, the records that were written for these nodes GIVES THE ITEM, whatever
   -- its other slots hold

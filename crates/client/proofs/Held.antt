@@ -1,20 +1,19 @@
 -- What the slots of a read round hold, over the calls of a read: each slot that is marked record holds a record that passed the two hash checks at its
 -- node, and that a reply of that node bore; whatever else came.
---   Closing            a read round that closed on a set that is decoded or repaired, with what holds of its slots
---   Found              the item of a read that ended done is decoded from such a set, whether it was complete or repaired
---   Brings run-finds   so after any calls, of whatever the records that the replies bring have in common
+--   Closing            a read round that closed on a set of m nodes or more, with what holds of its slots
+--   Found              the item of a read that ended done is decoded from such a set that validates, whether it was complete or repaired
+--   lead-of            a candidate leads the close
+--   run-finds run-slots   so after any calls, of whatever the records that the replies bring have in common
 --   run-mended every-slot   the desk of a repair round, and the slots of the round that is open, after any calls
 -- Assumes nothing.
 use Prim.{Unit, tt}
 use Prim.Native.Nat.{ℕ, _*_, _≤_}
 use mathlib.Core.Path.{_≡_, refl, sym, ap, _∙_, subst}
-use mathlib.Core.Bool.{Bool, true, false, cond}
+use mathlib.Core.Bool.{Bool, true, false}
 use mathlib.Core.List.{List, [], _∷_}
 use mathlib.Core.Logic.{inl, inr}
-use native.Mathlib.Omega.{arith}
 use borrow.Author.Tests.{not-false}
-use lib.ListN.{length, set}
-use Rattle.octets.specs.Bytes.{put}
+use lib.ListN.{length}
 use Rattle.terms.specs.Ladder.{Rung, None}
 use Rattle.terms.specs.Terms.{planOk, recordLength, COMPLETE, INCOMPLETE, slotsOf, thresholdsOf}
 use Rattle.terms.specs.declared.Ask.{Ask}
@@ -23,8 +22,8 @@ use Rattle.terms.specs.declared.Timestamp.{Timestamp}
 use Rattle.terms.proofs.Down.{clear}
 use Rattle.terms.proofs.Ladders.{is-given}
 use Rattle.terms.proofs.Rungs.{clash}
-use Rattle.frame.specs.Frame.{frameNode, bodyOf}
-use Rattle.rounds.specs.declared.Heard.the-variants.{First, Record}
+use Rattle.frame.specs.Frame.{frameNode}
+use Rattle.rounds.specs.declared.Heard.the-variants.{Record}
 use Rattle.rounds.specs.declared.Lead.{Lead}
 use Rattle.rounds.specs.declared.Lead.the-variants.{Node}
 use Rattle.rounds.specs.Rounds.{closeWith}
@@ -37,54 +36,55 @@ use Rattle.session.specs.declared.opening.Opened.{Opened}
 use Rattle.session.specs.declared.opening.Opening.the-variants.{Accepted}
 use Rattle.session.specs.Opening.{OpenCall}
 use Rattle.session.specs.Session.{isAsking, isStoring, isEnded, markedOf, endedOf, nextOf, storingOf, Said, refused, stillOpen, done, neverWritten, aborted, roundsSpent, clockSpent, saidOf}
-use Rattle.session.specs.Reply.{bears, lengthsOk}
+use Rattle.session.specs.Reply.{lengthsOk}
 use Rattle.session.specs.Reader.{Outcome, outcome, closed, readReply}
 use Rattle.session.proofs.Closings.{led, sized, sized-whole}
 use Rattle.session.proofs.Openings.{accepted-session}
 use Rattle.session.proofs.Rules.{lengths-are}
-use Rattle.session.proofs.Slots.{long-body}
-use Rattle.client.specs.Endings.{readLadder, afterReply, deskAfter, Candidate, size, valid, DoneByRead, DoneByRepair, Waits, RepairOpens, ReadGives}
+use Rattle.client.specs.Endings.{readLadder, afterReply, deskAfter, Candidate, size, DoneByRead, DoneByRepair, Waits, RepairOpens, ReadGives}
 use Rattle.client.specs.Turns.{Turn, ReadTurn, Calls, lastSaid}
 use Rattle.client.specs.Sessions.{lastSession, lastDesk, lastItem}
 use Rattle.client.specs.Repair.{EachTurn}
-use Rattle.client.specs.Held.{EverySlot, Passed, Held}
+use Rattle.client.specs.Held.{EverySlot, Held}
+use Rattle.client.proofs.Endings.{isDone}
 use Rattle.client.proofs.Reading as reading
 use Rattle.client.proofs.Reading.{Taken, taken}
 use Rattle.client.proofs.Repair.{repaired-item}
 use Rattle.client.proofs.Round.Order.{length-after}
-use Rattle.client.proofs.Slots.{none-marked, first-heard, record-heard, accepted-passed}
+use Rattle.client.proofs.Slots.{none-marked, Brings, reply-heard}
 
 -- a candidate leads the close
-lead-of : (p : Plan) (s : Session) (f d : List ℕ) (a : ℕ) → Candidate p s f d a → closed p (afterReply p s f) (deskAfter p f d) .lead ≡ Node a
+pub lead-of : (p : Plan) (s : Session) (f d : List ℕ) (a : ℕ) → Candidate p s f d a → closed p (afterReply p s f) (deskAfter p f d) .lead ≡ Node a
 unfolding closeWith
 lead-of p s f d a h = ap (λ (x : Lead). closeWith (afterReply p s f .marks) (deskAfter p f d) (slotsOf p) (p .member) (thresholdsOf p) x .lead) h
 
--- ---- a read round that closed on a set that is decoded or repaired: the session and the desk with its last reply, and the node that leads the set
+-- ---- a read round that closed on a set of m nodes or more: the session and the desk with its last reply, and the node that leads the set
 pub record Closing (P : ℕ → List ℕ → Type 0) (p : Plan) (u : Session) (e : List ℕ) (a : ℕ) : Type 0 where
   pub plan : planOk p ≡ true
   pub long : length e ≡ p .n * recordLength p
   pub leads : closed p u e .lead ≡ Node a
   pub size : p .m ≤ length (closed p u e .nodes)
-  pub valid : sound p (closed p u e) a e ≡ true
   pub slots : EverySlot P p (u .marks) e
 
--- an item that was decoded from such a set, of this timestamp, into a buffer of m·F bytes
+-- an item that was decoded from such a set that validates, of this timestamp, into a buffer of m·F bytes
 pub record Found (P : ℕ → List ℕ → Type 0) (p : Plan) (stamp : Timestamp) (item : List ℕ) : Type 0 where
   pub session : Session
   pub desk : List ℕ
   pub node : ℕ
   pub closing : Closing P p session desk node
+  pub validates : sound p (closed p session desk) node desk ≡ true
   pub stamped : stamp ≡ closed p session desk .stamp
   pub lent : List ℕ
   pub room : length lent ≡ p .m * p .f
   pub is : item ≡ decoded p (closed p session desk) desk lent
 
--- the desk was filled for repair from such a set, and its timestamp is the one being written
+-- the desk was filled for repair from such a set that validates, and its timestamp is the one being written
 pub record Mended (P : ℕ → List ℕ → Type 0) (p : Plan) (s : Session) (d : List ℕ) : Type 0 where
   pub session : Session
   pub desk : List ℕ
   pub node : ℕ
   pub closing : Closing P p session desk node
+  pub validates : sound p (closed p session desk) node desk ≡ true
   pub stamped : s .stamp ≡ closed p session desk .stamp
   pub filled : d ≡ repaired p (closed p session desk) node desk
 
@@ -97,16 +97,12 @@ KeepsAt Ended P p s d = Unit {0}
 abbrev Keeps : (ℕ → List ℕ → Type 0) → Plan → Session → List ℕ → Type 0
 Keeps P p s d = KeepsAt (s .round .stage) P p s d
 
--- a reply whose record, where it bears one that passes, is of the kind P
-abbrev pub Brings : (ℕ → List ℕ → Type 0) → Plan → List ℕ → Type 0
-Brings P p f = bears p f ≡ true → Passed p (frameNode f) (bodyOf f) → P (frameNode f) (bodyOf f)
-
 at-asking : (x : Stage) → isStoring x ≡ false → isEnded x ≡ false → x ≡ Asking
 at-asking Asking e g = refl
 at-asking Storing e g = absurd (clash e)
 at-asking Ended e g = absurd (clash g)
 
-at-storing : (x : Stage) → isStoring x ≡ true → x ≡ Storing
+pub at-storing : (x : Stage) → isStoring x ≡ true → x ≡ Storing
 at-storing Asking e = absurd (clash (sym e))
 at-storing Storing e = refl
 at-storing Ended e = absurd (clash (sym e))
@@ -127,8 +123,8 @@ module _ (P : ℕ → List ℕ → Type 0) (p : Plan) (s : Session) (f d i : Lis
     finds : (stamp : Timestamp) (n : ℕ) → o .said ≡ done stamp n → Found P p stamp (o .item)
 
   -- it is no ending with an item
-  other : (a : Said) → ((stamp : Timestamp) (n : ℕ) → a ≡ done stamp n → ⊥) → (x : Session) (y : List ℕ) → Keeps P p x y → Leaves (outcome a x y i)
-  other a h x y z = record { keeps = z; finds = λ stamp n q. absurd (h stamp n q) }
+  other : (a : Said) → isDone a ≡ false → (x : Session) (y : List ℕ) → Keeps P p x y → Leaves (outcome a x y i)
+  other a h x y z = record { keeps = z; finds = λ stamp n q. absurd (clash (sym (ap isDone q) ∙ h)) }
 
   -- an accepted reply
   module _ (n : None ladder) where
@@ -150,31 +146,24 @@ module _ (P : ℕ → List ℕ → Type 0) (p : Plan) (s : Session) (f d i : Lis
       before = subst (λ (x : Stage). KeepsAt x P p s d) stage k
 
       every : EverySlot P p (u .marks) e
-      every = go (bears p f) refl
-        where
-          go : (b : Bool) → bears p f ≡ b
-              → EverySlot P p (set (s .marks) (frameNode f) (record { is = cond b Record First })) (cond b (put d (frameNode f * recordLength p) (bodyOf f)) d)
-          go true b =
-              record-heard P p (s .marks) d before (frameNode f) (bodyOf f) (t .node) (t .desk) (long-body p f b)
-              (brings b (accepted-passed p s f d (length i) n b))
-          go false b = first-heard P p (s .marks) d before (frameNode f)
+      every = reply-heard P p s f d (length i) n before brings
 
-      closing : (a : ℕ) → Candidate p s f d a → p .m ≤ length (closed p u e .nodes) → valid p s f d a ≡ true → Closing P p u e a
-      closing a h m v = record { plan = t .plan; long = long; leads = lead-of p s f d a h; size = m; valid = v; slots = every }
+      closing : (a : ℕ) → Candidate p s f d a → p .m ≤ length (closed p u e .nodes) → Closing P p u e a
+      closing a h m = record { plan = t .plan; long = long; leads = lead-of p s f d a h; size = m; slots = every }
 
     waits : Waits p s f d (length i) → (x : Bool) → isStoring (s .round .stage) ≡ x → Leaves (readReply p s f d i)
     waits w true q =
         subst Leaves (sym (reading.waits-repair p s f d i n q (rw q at (w .few))))
-        (other stillOpen (λ a b z. let y : _≡_ {A = ℕ} 0 1 = cc in omega arith) (markedOf s (frameNode f) Record) d still)
+        (other stillOpen refl (markedOf s (frameNode f) Record) d still)
       where
         still : Keeps P p (markedOf s (frameNode f) Record) d
         still =
             let m : Mended P p s d = subst (λ (x : Stage). KeepsAt x P p s d) (at-storing (s .round .stage) q) k in
             subst (λ (x : Stage). KeepsAt x P p (markedOf s (frameNode f) Record) d) (sym (at-storing (s .round .stage) q))
-            (record { session = m .session; desk = m .desk; node = m .node; closing = m .closing; stamped = m .stamped; filled = m .filled })
+            (record { session = m .session; desk = m .desk; node = m .node; closing = m .closing; validates = m .validates; stamped = m .stamped; filled = m .filled })
     waits w false q =
         subst Leaves (sym (reading.waits-read p s f d i n q (rw q at (w .few))))
-        (other stillOpen (λ a b z. let y : _≡_ {A = ℕ} 0 1 = cc in omega arith) u e
+        (other stillOpen refl u e
         (subst (λ (x : Stage). KeepsAt x P p u e) (sym (stage q)) (every q)))
 
   repairs : (w : RepairOpens p s f d (length i)) → Leaves (readReply p s f d i)
@@ -185,12 +174,13 @@ module _ (P : ℕ → List ℕ → Type 0) (p : Plan) (s : Session) (f d i : Lis
       let v = reading.mended-is (p .member) (COMPLETE p) (INCOMPLETE p) (size p s f d a) (w .high) (w .low) (w .member) in
       let g = led p u e a (lead-of p s f d a (w .candidate)) in
       subst Leaves (sym (reading.closes-read p s f d i n q (w .closes .enough) ∙ reading.is-mended p s f d i a (w .candidate) v (w .validated)))
-      (other stillOpen (λ x y z. let b : _≡_ {A = ℕ} 0 1 = cc in omega arith) (storingOf u (closed p u e .stamp)) (repaired p (closed p u e) a e)
+      (other stillOpen refl (storingOf u (closed p u e .stamp)) (repaired p (closed p u e) a e)
       (record {
         session = u;
         desk = e;
         node = a;
-        closing = closing n q a (w .candidate) (sized p u e a g (t n .plan) (g .verdict-is ∙ v)) (w .validated);
+        closing = closing n q a (w .candidate) (sized p u e a g (t n .plan) (g .verdict-is ∙ v));
+        validates = w .validated;
         stamped = refl;
         filled = refl;
       }))
@@ -210,7 +200,8 @@ module _ (P : ℕ → List ℕ → Type 0) (p : Plan) (s : Session) (f d i : Lis
               session = u;
               desk = e;
               node = a;
-              closing = closing n q a (w .candidate) (sized-whole p u e a g (t n .plan) (g .verdict-is ∙ v)) (w .validated);
+              closing = closing n q a (w .candidate) (sized-whole p u e a g (t n .plan) (g .verdict-is ∙ v));
+              validates = w .validated;
               stamped = cc;
               lent = i;
               room = item-is n;
@@ -233,6 +224,7 @@ module _ (P : ℕ → List ℕ → Type 0) (p : Plan) (s : Session) (f d i : Lis
               desk = h .desk;
               node = h .node;
               closing = c;
+              validates = h .validates;
               stamped = one ∙ h .stamped;
               lent = i;
               room = item-is n;
@@ -244,28 +236,28 @@ module _ (P : ℕ → List ℕ → Type 0) (p : Plan) (s : Session) (f d i : Lis
   by : (a : Said) → ReadGives p s f d (length i) a → Leaves (readReply p s f d i)
   by (refused j) g =
       subst Leaves (sym (reading.one-ladder p s f d i ∙ is-given ladder (λ (j : ℕ). outcome (refused j) s d i) _ j g))
-      (other (refused j) (λ x y z. let b : _≡_ {A = ℕ} 0 1 = cc in omega arith) s d k)
+      (other (refused j) refl s d k)
   by stillOpen (inl w) = waits (w .accepted) w (isStoring (s .round .stage)) refl
   by stillOpen (inr (inl w)) =
       let n = w .closes .accepted in
       subst Leaves (sym (reading.closes-read p s f d i n (w .closes .asks) (w .closes .enough) ∙ reading.goes-on p s f d i n (w .node) (w .candidate) (w .fails) (w .more)))
-      (other stillOpen (λ x y z. let b : _≡_ {A = ℕ} 0 1 = cc in omega arith) (nextOf u (closed p u e .stamp)) e (none-marked P p e))
+      (other stillOpen refl (nextOf u (closed p u e .stamp)) e (none-marked P p e))
   by stillOpen (inr (inr w)) = repairs w
   by (done stamp m) (inl w) = by-read stamp m w
   by (done stamp m) (inr w) = by-repair stamp m w
   by (neverWritten m) w =
       let n = w .closes .accepted in
       subst Leaves (sym (reading.closes-read p s f d i n (w .closes .asks) (w .closes .enough) ∙ reading.never p s f d i n (w .first)))
-      (other (neverWritten (s .round .number)) (λ x y z. let b : _≡_ {A = ℕ} 0 1 = cc in omega arith) (endedOf u) e tt)
+      (other (neverWritten (s .round .number)) refl (endedOf u) e tt)
   by (aborted m) w =
       let n = w .closes .accepted in
       subst Leaves (sym (reading.closes-read p s f d i n (w .closes .asks) (w .closes .enough)
       ∙ reading.is-aborted p s f d i (w .node) (w .candidate) (reading.unsure-is (p .member) (COMPLETE p) (INCOMPLETE p) _ (w .high) (w .low) (w .member))))
-      (other (aborted (s .round .number)) (λ x y z. let b : _≡_ {A = ℕ} 0 1 = cc in omega arith) (endedOf u) e tt)
+      (other (aborted (s .round .number)) refl (endedOf u) e tt)
   by (roundsSpent m) w =
       let n = w .closes .accepted in
       subst Leaves (sym (reading.closes-read p s f d i n (w .closes .asks) (w .closes .enough) ∙ reading.spends p s f d i n (w .node) (w .candidate) (w .fails) (w .last)))
-      (other (roundsSpent (s .round .number)) (λ x y z. let b : _≡_ {A = ℕ} 0 1 = cc in omega arith) (endedOf u) e tt)
+      (other (roundsSpent (s .round .number)) refl (endedOf u) e tt)
   by clockSpent w = absurd w
 
   leaves : Leaves (readReply p s f d i)

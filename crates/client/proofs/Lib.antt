@@ -11,7 +11,9 @@ pub mod ComesBack
 pub mod Bytes
 pub mod Slots
 pub mod Held
+pub mod Sets
 pub mod SameStamp
 pub mod OneItem
+pub mod Validation
 pub mod Asks
 pub mod Instances

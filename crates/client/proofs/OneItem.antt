@@ -32,13 +32,13 @@ use Rattle.terms.proofs.Facts.{facts}
 use Rattle.terms.proofs.Places.{record-length}
 use Rattle.terms.proofs.Plans.{plan-is}
 use Rattle.terms.proofs.Rungs.{both}
-use Rattle.fragments.specs.Fragments.{All, Column, eval, fragment, laid, regenerated}
+use Rattle.fragments.specs.Fragments.{Column, eval, fragment, laid, regenerated}
 use Rattle.fragments.proofs.Interp.{all-map, eval-lt, newton}
 use Rattle.fragments.proofs.Interp as interp
 use Rattle.fragments.proofs.Lists.{to-tabulate}
 use Rattle.fragments.proofs.Theorems.{fragment-evaluates, length-fragment, octets-bytes}
 use Rattle.frame.specs.Frame.{headBytes, versionOf}
-use Rattle.record.specs.Record.{stampOf, verifierOf, crossOf, fragmentOf, entryOf, fragmentHash, hashesOk}
+use Rattle.record.specs.Record.{verifierOf, crossOf, entryOf, hashesOk}
 use Rattle.record.specs.Desk.{slotOf, fragmentIn, row, deskOf, stampMade}
 use Rattle.record.proofs.Desks.{part-row, cross-same, desk-same, entry-of}
 use Rattle.record.proofs.Records.{cross-at, start-of}
@@ -52,10 +52,12 @@ use Rattle.client.specs.Repair.{Through, EachTurn}
 use Rattle.client.specs.Held.{ReadDone}
 use Rattle.client.specs.SameStamp.{NoClash, ItemsUnlike}
 use Rattle.client.proofs.Bytes.{stamp-for, same-verifier}
-use Rattle.client.proofs.Held.{Closing, Found, Brings, run-finds}
+use Rattle.client.proofs.Slots.{Brings}
+use Rattle.client.proofs.Held.{Closing, Found, run-finds}
+use Rattle.client.proofs.Sets.{lowest-so, lowest-slots, lead-slot, lead-long, lead-stamp}
 use Rattle.client.proofs.Repair.{through-slots, regenerated-value, long-regenerated}
 use Rattle.client.proofs.ComesBack.{collected-comes-back}
-use Rattle.client.proofs.SameStamp.{lowest-so, lowest-slots, lead-slot, lead-long, lead-stamp, done-comes-back}
+use Rattle.client.proofs.SameStamp.{done-comes-back}
 
 -- ---- blocks one after the other
 length-blocks : (block : ℕ → List ℕ) (r n : ℕ) → ((k : ℕ) → length (block k) ≡ r) → length (row block n) ≡ n * r
@@ -166,11 +168,11 @@ module _ (p : Plan) (u : Session) (e : List ℕ) (a : ℕ) (c : Closing (Sure p)
       (λ i l. fragment-evaluates (p .m) (p .f) whole (omega arith) octets-item long-item i (poly i) (column i l) l k h)
       ∙ sym (to-tabulate (piece k) (p .f) (λ i. eval (poly i) k) (long-piece k) (λ i l. piece-at i l k h))
 
-  -- under Byzantine clients its cross checksum is that of the set, and so its timestamp is
-  module _ (byzantine : p .clients ≡ Byzantine) where
+  -- under Byzantine clients, where it validates, its cross checksum is that of the set, and so its timestamp is
+  module _ (byzantine : p .clients ≡ Byzantine) (valid : sound p (closed p u e) a e ≡ true) where
     validated : validates p e qs a ≡ true
     unfolding sound
-    validated = sym (ap (λ (x : Clients). trusted x (validates p e qs a)) byzantine) ∙ c .valid
+    validated = sym (ap (λ (x : Clients). trusted x (validates p e qs a)) byzantine) ∙ valid
 
     cross-so : crossFor p whole ≡ crossOf p (slotOf p e a)
     unfolding crossFor validates
@@ -217,14 +219,14 @@ module _ (p : Plan) where
       (all-sure (r .opened .session) (r .desk) (r .first ∷ r .rest) (r .calls)) t (r .rounds) (r .says)
 
   -- what is known of its item
-  record Known (t : Timestamp) (item : List ℕ) : Type 0 where
-    plan : planOk p ≡ true
-    octets : Octets item
-    long : length item ≡ p .m * p .f
-    stamped : p .clients ≡ Byzantine → stampFor p (t .time .0) item ≡ t
+  pub record Known (t : Timestamp) (item : List ℕ) : Type 0 where
+    pub plan : planOk p ≡ true
+    pub octets : Octets item
+    pub long : length item ≡ p .m * p .f
+    pub stamped : p .clients ≡ Byzantine → stampFor p (t .time .0) item ≡ t
 
-  known : (t : Timestamp) (item : List ℕ) → ReadDone p t item → Known t item
-  known t item r =
+  pub known-item : (t : Timestamp) (item : List ℕ) → ReadDone p t item → Known t item
+  known-item t item r =
       let w = done-found t item r in
       let c = w .closing in
       let same : item ≡ row (regenerated (w .desk) (slotsOf p) (lowest p (closed p (w .session) (w .desk)))) (p .m) =
@@ -236,13 +238,13 @@ module _ (p : Plan) where
         long = long-item p (w .session) (w .desk) (w .node) c;
         stamped = λ z.
             subst (λ (x : Timestamp). stampFor p (x .time .0) (row (regenerated (w .desk) (slotsOf p) (lowest p (closed p (w .session) (w .desk)))) (p .m)) ≡ x) (sym (w .stamped))
-            (stamp-of-item p (w .session) (w .desk) (w .node) c z);
+            (stamp-of-item p (w .session) (w .desk) (w .node) c z (w .validates));
       })
 
   -- UNDER BYZANTINE CLIENTS THE TIMESTAMP OF A READ THAT ENDS DONE IS THAT OF ITS ITEM, whoever wrote it: the one that a writer of the item makes at
   -- its time
   pub done-of-item : p .clients ≡ Byzantine → (t : Timestamp) (item : List ℕ) → ReadDone p t item → stampFor p (t .time .0) item ≡ t
-  done-of-item byzantine t item r = known t item r .stamped byzantine
+  done-of-item byzantine t item r = known-item t item r .stamped byzantine
 
 -- ---- two items of one timestamp
 module _ (p : Plan) (i j : List ℕ) (ok : planOk p ≡ true) (oi : Octets i) (oj : Octets j) (li : length i ≡ p .m * p .f) (lj : length j ≡ p .m * p .f)
@@ -270,13 +272,13 @@ module _ (p : Plan) (i j : List ℕ) (ok : planOk p ≡ true) (oi : Octets i) (o
 -- UNDER BYZANTINE CLIENTS TWO READS THAT END DONE WITH ONE TIMESTAMP LEAVE ONE ITEM, whichever nodes each heard, complete or repaired
 pub done-one-item : (p : Plan) → p .clients ≡ Byzantine → (t : Timestamp) (i j : List ℕ) → ReadDone p t i → ReadDone p t j → ItemsUnlike p i j → i ≡ j
 done-one-item p byzantine t i j r q unlike =
-    let x = known p t i r in
-    let y = known p t j q in
+    let x = known-item p t i r in
+    let y = known-item p t j q in
     items-one p i j (x .plan) (x .octets) (y .octets) (x .long) (y .long) unlike
     (same-verifier (t .time .0) (t .time .0) (crossFor p i) (crossFor p j)
     (sym (stamp-for p (t .time .0) i) ∙ ap stampNumber (x .stamped byzantine ∙ sym (y .stamped byzantine)) ∙ stamp-for p (t .time .0) j))
 
 -- UNDER EITHER CLIENT MODEL, SO DO TWO THAT END DONE WITH THE TIMESTAMP OF A WRITE
 pub written-one-item : (p : Plan) (time : ℕ) (item : List ℕ) → Octets item → length item ≡ p .m * p .f → (i j : List ℕ)
-    (r : ReadDone p (stampFor p time item) i) (q : ReadDone p (stampFor p time item) j) → NoClash p item (r .first ∷ r .rest) → NoClash p item (q .first ∷ q .rest) → i ≡ j
+    (r : ReadDone p (stampFor p time item) i) (q : ReadDone p (stampFor p time item) j) → NoClash p time item (r .first ∷ r .rest) → NoClash p time item (q .first ∷ q .rest) → i ≡ j
 written-one-item p time item bytes long i j r q n m = done-comes-back p time item bytes long i r n ∙ sym (done-comes-back p time item bytes long j q m)

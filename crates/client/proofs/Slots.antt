@@ -2,9 +2,10 @@
 --   mark-none no-mark slot-own slot-other   marks of which none is set; a slot that is put, and the others
 --   none-marked first-heard record-heard    where a round opens, after a first triple, after a record
 --   accepted-passed    a record that is accepted passed 5 and 6
+--   Brings reply-heard a reply that brings such a record, if any; after an accepted one
 use Prim.Native.Nat.{ℕ, zero, suc, _+_, _*_, _≤_, _<_}
 use mathlib.Core.Path.{_≡_, refl, sym, ap, _∙_, subst}
-use mathlib.Core.Bool.{true}
+use mathlib.Core.Bool.{Bool, true, false, cond}
 use mathlib.Core.List.{List}
 use native.Mathlib.Decide.{ℕ-discrete}
 use native.Mathlib.Omega.{arith}
@@ -27,8 +28,10 @@ use Rattle.rounds.proofs.Laws.{mark-own, mark-other}
 use Rattle.recover.proofs.Filled.{slot-stays}
 use Rattle.session.specs.declared.Session.{Session}
 use Rattle.session.specs.Reply.{bears}
-use Rattle.client.specs.Endings.{readLadder}
+use Rattle.session.proofs.Slots.{long-body}
+use Rattle.client.specs.Endings.{readLadder, afterReply, deskAfter}
 use Rattle.client.specs.Held.{EverySlot, Passed}
+use Rattle.client.proofs.Reading.{Taken, taken}
 
 -- ---- marks of which none is set
 pub mark-none : (n j : ℕ) → markOf (replicate n unheard) j ≡ Unheard
@@ -83,6 +86,10 @@ module _ (P : ℕ → List ℕ → Type 0) (p : Plan) where
             subst (P k) (sym (slot-other d rec (recordLength p) (p .n) i ld lr low k q))
             (every k l (sym (mark-other ms i k (record { is = Record }) q) ∙ m))
 
+-- a reply whose record, where it bears one that passes, is of the kind P
+abbrev pub Brings : (ℕ → List ℕ → Type 0) → Plan → List ℕ → Type 0
+Brings P p f = bears p f ≡ true → Passed p (frameNode f) (bodyOf f) → P (frameNode f) (bodyOf f)
+
 -- a record that is accepted passed
 pub accepted-passed : (p : Plan) (s : Session) (f d : List ℕ) (item : ℕ) → None (readLadder p s f d item) → bears p f ≡ true → Passed p (frameNode f) (bodyOf f)
 unfolding timeZero
@@ -91,3 +98,17 @@ accepted-passed p s f d item n b =
       timed = let z = eqb-false (time (bodyOf f)) 0 (rw b at (clear (readLadder p s f d item) n 5)) in omega arith;
       hashes = not-false (hashesOk p (frameNode f) (bodyOf f)) (rw b at (clear (readLadder p s f d item) n 6));
     }
+
+-- after an accepted reply of a read round
+pub reply-heard : (P : ℕ → List ℕ → Type 0) (p : Plan) (s : Session) (f d : List ℕ) (item : ℕ) → None (readLadder p s f d item) → EverySlot P p (s .marks) d → Brings P p f
+    → EverySlot P p (afterReply p s f .marks) (deskAfter p f d)
+reply-heard P p s f d item n before brings = go (bears p f) refl
+  where
+    t : Taken p s f d item
+    t = taken p s f d item n
+
+    go : (b : Bool) → bears p f ≡ b
+        → EverySlot P p (set (s .marks) (frameNode f) (record { is = cond b Record First })) (cond b (put d (frameNode f * recordLength p) (bodyOf f)) d)
+    go true b =
+        record-heard P p (s .marks) d before (frameNode f) (bodyOf f) (t .node) (t .desk) (long-body p f b) (brings b (accepted-passed p s f d item n b))
+    go false b = first-heard P p (s .marks) d before (frameNode f)

@@ -10,6 +10,7 @@
 --   comes-back written-comes-back   an encoded block comes back from any m of its N fragments; so does what our writer writes
 --   written-read-back      a whole read that ends done with a write's timestamp leaves what was written
 --   read-of-its-timestamp one-timestamp-one-item one-write-one-item   two reads that end done with one timestamp leave one item
+--   valid-for-all-readers  whether a set validates does not depend on the nodes that it is of
 -- The figures are in report/specs, with (01) beside what document 01 adds or closes. That the hash and the field are those of the papers is
 -- said by the contracts of `digest`, `product` and `quotient`, over sha256/specs and field/specs. Each refusal exactly: Refusals.
 -- Assumes nothing.
@@ -44,10 +45,11 @@ use Rattle.client.specs.Turns.{Turn, ReadTurn, WriteTurn, Calls, closedRounds, 
 use Rattle.report.specs.Triple.{Same}
 use Rattle.client.proofs.ComesBack.{block-comes-back}
 use Rattle.client.proofs.Counting.{counted-rounds}
-use Rattle.client.specs.Held.{ReadDone}
+use Rattle.client.specs.Held.{ReadDone, SetCloses, setValid}
 use Rattle.client.specs.SameStamp.{NoClash, ItemsUnlike}
 use Rattle.client.proofs.SameStamp.{done-comes-back}
 use Rattle.client.proofs.OneItem.{done-of-item, done-one-item, written-one-item}
+use Rattle.client.proofs.Validation.{valid-for-all}
 use Rattle.report.specs.Figure1.{INITIALIZE, VALIDATE}
 use Rattle.report.specs.Ours.{history, family, tripleOf}
 use Rattle.report.specs.Run.{InBytes, received, unpolled, polledOver, AllApart, AllFull, EachTells}
@@ -153,10 +155,10 @@ pub written-comes-back : (p : Plan) (time : ℕ) (item : List ℕ) → planOk p 
 written-comes-back = block-comes-back
 
 -- A read, over any replies from an accepted opening on, that ends done with the timestamp of a write of an item leaves that item: whichever nodes it
--- heard, in whichever round, its set complete or repaired, under either client model. Where no record that a reply bore clashes with those that were
--- written: its cross checksum is the item's, or has another hash; its fragment is the one for its node, or has another hash.
+-- heard, in whichever round, its set complete or repaired, under either client model. Where no record that a reply bore under that timestamp
+-- clashes with those that were written: its cross checksum is the item's, or has another hash; its fragment is the one for its node, or has another.
 pub written-read-back : (p : Plan) (time : ℕ) (item : List ℕ) → Octets item → length item ≡ p .m * p .f → (out : List ℕ) (r : ReadDone p (stampFor p time item) out)
-    → NoClash p item (r .first ∷ r .rest) → out ≡ item
+    → NoClash p time item (r .first ∷ r .rest) → out ≡ item
 written-read-back = done-comes-back
 
 -- The report's Lemma 1: "If c_1 performs a read operation that returns <ts_1, v_1>, c_2 performs a read operation that returns <ts_2, v_2>, and
@@ -171,7 +173,15 @@ read-of-its-timestamp = done-of-item
 pub one-timestamp-one-item : (p : Plan) → p .clients ≡ Byzantine → (t : Timestamp) (i j : List ℕ) → ReadDone p t i → ReadDone p t j → ItemsUnlike p i j → i ≡ j
 one-timestamp-one-item = done-one-item
 
--- Under crash clients a read does not validate; for what our writer wrote the same holds, under either client model.
+-- Under crash clients a read does not validate; of what our writer wrote two reads leave one item under either client model.
 pub one-write-one-item : (p : Plan) (time : ℕ) (item : List ℕ) → Octets item → length item ≡ p .m * p .f → (i j : List ℕ)
-    (r : ReadDone p (stampFor p time item) i) (q : ReadDone p (stampFor p time item) j) → NoClash p item (r .first ∷ r .rest) → NoClash p item (q .first ∷ q .rest) → i ≡ j
+    (r : ReadDone p (stampFor p time item) i) (q : ReadDone p (stampFor p time item) j) → NoClash p time item (r .first ∷ r .rest) → NoClash p time item (q .first ∷ q .rest) → i ≡ j
 one-write-one-item = written-one-item
+
+-- Section 4.2.2, of validation: "Note that this check either succeeds or fails for all correct clients, regardless of which storage-nodes are
+-- represented within the candidate set." Under Byzantine clients, where one read ended done with a timestamp, every set of m nodes or more of that
+-- timestamp validates, in whichever round of whichever read. Where no record that a reply of the other read bore under that timestamp clashes with
+-- those of the item.
+pub valid-for-all-readers : (p : Plan) → p .clients ≡ Byzantine → (t : Timestamp) (item : List ℕ) → ReadDone p t item → (r : SetCloses p t)
+    → NoClash p (t .time .0) item (r .last ∷ r .before) → setValid p t r ≡ true
+valid-for-all-readers = valid-for-all

@@ -70,6 +70,7 @@ use Rattle.client.specs.Turns.{ReadTurn, Calls}
 use Rattle.client.specs.Sessions.{lastSession, lastDesk}
 use Rattle.client.specs.Held.{EverySlot, Passed}
 use Rattle.client.proofs.Reading.{one-ladder}
+use Rattle.client.proofs.Held.{at-storing}
 use Rattle.client.proofs.Slots.{mark-none, none-marked, first-heard, record-heard}
 use Rattle.report.specs.WriteRun.{noneOf, isResponse}
 use Rattle.report.proofs.Gathers.{listed, off, all-off, put-in, kept-out, Marked, marked-none, marked-more}
@@ -565,11 +566,6 @@ module _ (p : Plan) (s : Session) (f d i : List ℕ) (w : Polled) where
         let k : eqb (kindOf f) writeReplyKind ≡ true = rw t at (both (awaitsKind s (kindOf f)) _ (both (eqb (askOf f) (askNow s)) _ a .1) .0) in
         let e : kindOf f ≡ writeReplyKind = eqb-true (kindOf f) writeReplyKind k in
         rw (ne-eqb (kindOf f) readReplyKind (λ z. omega (arith, e, z)))
-
-    at-storing : (x : Stage) → isStoring x ≡ true → x ≡ Storing
-    at-storing Asking e = absurd (clash (sym e))
-    at-storing Storing e = refl
-    at-storing Ended e = absurd (clash (sym e))
 
     stored-right : isStoring (s .round .stage) ≡ true → isResponse ladder ≡ true → Leaves p (readReply p s f d i) with-ack
     unfolding readReply accepted isHeard

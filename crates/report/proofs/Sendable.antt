@@ -59,9 +59,10 @@ use Rattle.session.proofs.Rules.{lengths-are, range-stands}
 use Rattle.client.specs.Endings.{readLadder, writeLadder, afterReply, deskAfter}
 use Rattle.client.specs.Held.{Passed}
 use Rattle.client.specs.Repair.{EachTurn}
-use Rattle.client.proofs.Held.{Closing, Mended, Brings, run-mended}
+use Rattle.client.proofs.Held.{Closing, Mended, run-mended}
+use Rattle.client.proofs.Slots.{Brings}
 use Rattle.client.proofs.Repair.{head-is, fragment-held}
-use Rattle.client.proofs.SameStamp.{lead-slot, lead-number}
+use Rattle.client.proofs.Sets.{lead-slot, lead-number}
 use Rattle.report.specs.Together.{RepairFits}
 use Rattle.client.specs.Sessions.{lastSession, lastDesk}
 use Rattle.client.specs.Turns.{Turn, ReadTurn, WriteTurn, Calls}
@@ -346,7 +347,7 @@ module _ (p : Plan) (s : Session) (d : List ℕ) (m : Mended (Passed p) p s d) (
   unfolding sound validates
   validated b =
       let v : validates p (m .desk) (lowest p (closed p (m .session) (m .desk))) (m .node) ≡ true =
-      sym (ap (λ (x : Clients). trusted x (validates p (m .desk) (lowest p (closed p (m .session) (m .desk))) (m .node))) b) ∙ c .valid in
+      sym (ap (λ (x : Clients). trusted x (validates p (m .desk) (lowest p (closed p (m .session) (m .desk))) (m .node))) b) ∙ m .validates in
       cross-same (fragmentIn p d) regained (p .n) fragment-so p ∙ alike-is _ _ v
       ∙ sym (head-so 0 low 40 (32 * p .n) (omega arith)
       ∙ part-part (m .desk) (m .node * recordLength p) (recordLength p) 40 (32 * p .n) (omega (arith, record-length p)))

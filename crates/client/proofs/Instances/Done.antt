@@ -5,6 +5,7 @@
 --   complete-read repaired-read   both reads; complete-unlike repaired-unlike: what their replies bore does not clash with what was written
 --   complete-so repaired-so   both leave the item that was written
 --   stamp-so one-so written-so   the timestamp is that of the item; so both leave one item
+--   round-two valid-so   round 2 of the second read comes to a set of node 0; it validates, as that of nodes 1 and 2 does
 -- Assumes nothing.
 use Prim.{tt}
 use Prim.Native.Nat.{ℕ}
@@ -13,28 +14,34 @@ use mathlib.Core.Bool.{true, false}
 use mathlib.Core.List.{List, [], _∷_}
 use native.Mathlib.Omega.{arith}
 use lib.ListN.{getD}
-use Rattle.octets.specs.Bytes.{part, num, numFrom, be, beOnto}
-use Rattle.sha256.specs.Sha256 as sha
-use Rattle.sha256.specs.Sha256.{sha256, compressOf, addedOf, roundsOf, roundOf, T1, T2, scheduleOf, words, padding, bigEndian, K}
-use Rattle.terms.specs.Stamp.{stampAt}
-use Rattle.terms.specs.Terms.{recordLength}
+use Rattle.octets.specs.Bytes.{part, num, numFrom, be, beOnto, alike}
+use Rattle.terms.specs.Ladder.{all, None}
+use Rattle.terms.specs.Stamp.{then, stampAt, stampNumber}
+use Rattle.terms.specs.Terms.{planOk, countsOk, limitsOk, columnOf, recordLength, slotsOf}
 use Rattle.terms.specs.declared.Timestamp.{Timestamp}
 use Rattle.terms.proofs.Rungs.{clash}
 use Rattle.terms.proofs.Small.{small-octets}
 use Rattle.field.specs.Field.{xtime, mulN, mul}
 use Rattle.fragments.specs.Fragments.{from, fragment, tabulate, ratio, weightOf, blend, value}
-use Rattle.frame.specs.Frame.{bodyOf, frameNode}
-use Rattle.record.specs.Record.{crossOf, fragmentOf}
-use Rattle.recover.specs.Records.{stampFor}
-use Rattle.session.specs.Session.{done}
-use Rattle.session.specs.Reply.{bears}
-use Rattle.client.specs.Held.{EverySlot, Held, ReadDone}
+use Rattle.frame.specs.Frame.{bodyOf, frameNode, shaped, bodyFits, oneOf, forParty, goodFrame, goodReply, suits}
+use Rattle.record.specs.Record.{stampOf, crossOf, fragmentOf}
+use Rattle.record.specs.Desk.{stampMade}
+use Rattle.record.proofs.Desks.{time-made}
+use Rattle.rounds.specs.declared.Lead.the-variants.{Node}
+use Rattle.rounds.specs.Rounds.{heardCount, every, slotStamp, aheadOf, stepOf, leadOf, joinsOf, setOf, underOf, slotFits, slotsFit}
+use Rattle.recover.specs.Records.{crossFor, stampFor}
+use Rattle.session.specs.Session.{askNow, awaitsKind, done}
+use Rattle.session.specs.Ranges.{standingRules, openRules, inRange}
+use Rattle.session.specs.Reply.{lengthsOk, awaited, isHeard, bears, readLadder}
+use Rattle.client.specs.Endings.{afterReply, deskAfter, size}
+use Rattle.client.specs.Held.{EverySlot, Held, ReadDone, SetCloses, setValid}
 use Rattle.client.specs.SameStamp.{Unlike, NoClash, ItemsUnlike}
 use Rattle.client.proofs.Held.{every-slot}
 use Rattle.client.proofs.SameStamp.{done-comes-back}
 use Rattle.client.proofs.OneItem.{done-of-item, done-one-item, written-one-item}
+use Rattle.client.proofs.Validation.{valid-for-all}
 use Rattle.client.proofs.Instances.Read as read
-use Rattle.client.proofs.Instances.Read.{plan, ask, opened, opened-so, desk, hash, stamp-bytes, good, poor, desk-good, cross, cross-so, stamped-so, seven-small, second-heard, reply-1, reply-2, reply-3, reply-4, reply-5, reply-6, call-1, call-2, call-3, call-4, call-5, call-6}
+use Rattle.client.proofs.Instances.Read.{plan, ask, opened, opened-so, desk, hash, stamp-bytes, good, poor, desk-good, desk-poor, cross, cross-so, stamped-so, seven-small, second-heard, reply-1, reply-2, reply-3, reply-4, reply-5, reply-6, call-1, call-2, call-3, call-4, call-5, call-6}
 use Rattle.client.proofs.Instances.Stamp as stamp
 use Rattle.client.proofs.Instances.Stamp.{first-reply, second-reply, desk-one, first-call, call}
 
@@ -124,27 +131,6 @@ module _ where
   unfolding plan
   unlike-2 = record { cross = λ e. good-cross ∙ sym cross-so; fragments = λ e. good-2 }
 
-  -- the record of time 2: the hash of its cross checksum is another
-  poor-cross : getD (sha256 (crossOf plan poor)) 0 0 ≡ 123
-  unfolding plan poor hash part sha256 sha.after compressOf addedOf roundsOf roundOf T1 T2 scheduleOf words padding bigEndian K
-  poor-cross = refl
-
-  right-cross : getD (sha256 cross) 0 0 ≡ 252
-  unfolding hash sha256 sha.after compressOf addedOf roundsOf roundOf T1 T2 scheduleOf words padding bigEndian K
-  right-cross = refl
-
-  poor-0 : fragmentOf plan poor ≡ fragment 1 1 (7 ∷ []) 0
-  unfolding plan poor hash part fragment
-  poor-0 = refl
-
-  unlike-poor : Unlike plan (7 ∷ []) 0 poor
-  unfolding plan
-  unlike-poor =
-      record {
-        cross = λ e. absurd (let z : 123 ≡ 252 = sym poor-cross ∙ ap (λ (l : List ℕ). getD l 0 0) (e ∙ ap sha256 cross-so) ∙ right-cross in omega (arith, z));
-        fragments = λ e. poor-0;
-      }
-
 -- the frames: their nodes, and what they bear
 module _ where
   body-first-reply : bodyOf first-reply ≡ good
@@ -162,14 +148,6 @@ module _ where
   node-second-reply : frameNode second-reply ≡ 2
   unfolding second-reply good stamp-bytes hash be beOnto num numFrom part
   node-second-reply = refl
-
-  body-reply-1 : bodyOf reply-1 ≡ poor
-  unfolding reply-1 poor stamp-bytes hash be beOnto num numFrom part
-  body-reply-1 = refl
-
-  node-reply-1 : frameNode reply-1 ≡ 0
-  unfolding reply-1 poor stamp-bytes hash be beOnto num numFrom part
-  node-reply-1 = refl
 
   body-reply-3 : bodyOf reply-3 ≡ good
   unfolding reply-3 good stamp-bytes hash be beOnto num numFrom part
@@ -195,18 +173,32 @@ module _ where
   unfolding reply-6 plan bears recordLength stamp-bytes be beOnto num numFrom part
   bare-reply-6 = refl
 
-  given : (f rec : List ℕ) (z : ℕ) → frameNode f ≡ z → bodyOf f ≡ rec → Unlike plan (7 ∷ []) z rec → bears plan f ≡ true → Unlike plan (7 ∷ []) (frameNode f) (bodyOf f)
-  given f rec z n b u h = subst (λ (k : ℕ). Unlike plan (7 ∷ []) k (bodyOf f)) (sym n) (subst (Unlike plan (7 ∷ []) z) (sym b) u)
+  -- the record of time 2 is of another write
+  other-time : getD (stampOf (bodyOf reply-1)) 7 0 ≡ 2
+  unfolding reply-1 poor hash be beOnto num numFrom part
+  other-time = refl
 
-  bare : (f : List ℕ) → bears plan f ≡ false → bears plan f ≡ true → Unlike plan (7 ∷ []) (frameNode f) (bodyOf f)
-  bare f e h = absurd (clash (sym h ∙ e))
+  this-time : getD stamp-bytes 7 0 ≡ 1
+  unfolding stamp-bytes
+  this-time = refl
 
-pub complete-unlike : NoClash plan (7 ∷ []) (first-call ∷ call ∷ [])
+  other : bears plan reply-1 ≡ true → stampOf (bodyOf reply-1) ≡ stampMade 1 (crossFor plan (7 ∷ [])) → Unlike plan (7 ∷ []) (frameNode reply-1) (bodyOf reply-1)
+  other h s =
+      absurd (let z : 2 ≡ 1 = sym other-time ∙ ap (λ (l : List ℕ). getD l 7 0) (s ∙ ap (stampMade 1) cross-so ∙ read.stamp-so) ∙ this-time in omega (arith, z))
+
+  given : (f rec : List ℕ) (z : ℕ) → frameNode f ≡ z → bodyOf f ≡ rec → Unlike plan (7 ∷ []) z rec → bears plan f ≡ true
+      → stampOf (bodyOf f) ≡ stampMade 1 (crossFor plan (7 ∷ [])) → Unlike plan (7 ∷ []) (frameNode f) (bodyOf f)
+  given f rec z n b u h s = subst (λ (k : ℕ). Unlike plan (7 ∷ []) k (bodyOf f)) (sym n) (subst (Unlike plan (7 ∷ []) z) (sym b) u)
+
+  bare : (f : List ℕ) → bears plan f ≡ false → bears plan f ≡ true → stampOf (bodyOf f) ≡ stampMade 1 (crossFor plan (7 ∷ [])) → Unlike plan (7 ∷ []) (frameNode f) (bodyOf f)
+  bare f e h s = absurd (clash (sym h ∙ e))
+
+pub complete-unlike : NoClash plan 1 (7 ∷ []) (first-call ∷ call ∷ [])
 complete-unlike = (given first-reply good 1 node-first-reply body-first-reply unlike-1, (given second-reply good 2 node-second-reply body-second-reply unlike-2, tt))
 
-pub repaired-unlike : NoClash plan (7 ∷ []) (call-1 ∷ call-2 ∷ call-3 ∷ call-4 ∷ call-5 ∷ call-6 ∷ [])
+pub repaired-unlike : NoClash plan 1 (7 ∷ []) (call-1 ∷ call-2 ∷ call-3 ∷ call-4 ∷ call-5 ∷ call-6 ∷ [])
 repaired-unlike = (
-  given reply-1 poor 0 node-reply-1 body-reply-1 unlike-poor,
+  other,
   (
     bare reply-2 bare-reply-2,
     (
@@ -242,3 +234,58 @@ unfolding plan
 written-so =
     written-one-item plan 1 (7 ∷ []) (small-octets (7 ∷ []) seven-small) refl (call .itemLeft) (call-6 .itemLeft) complete-read repaired-read complete-unlike
     repaired-unlike
+
+-- ---- and so the set of the other read's round 2 validates
+module _ where
+  pub none-so : None (readLadder plan second-heard reply-4 desk-good 1)
+  unfolding reply-4 hash stamp-bytes good desk-good desk-poor poor plan planOk countsOk limitsOk columnOf all recordLength lengthsOk inRange standingRules openRules heardCount every
+      slotsFit slotFits slotStamp underOf num numFrom part goodReply goodFrame suits shaped forParty oneOf bodyFits awaited askNow awaitsKind isHeard bears be beOnto
+      stampAt stampNumber then
+  none-so = (refl, (refl, (refl, (refl, (refl, (refl, (refl, (refl, (refl, (refl, tt))))))))))
+
+  pub count-so : heardCount (afterReply plan second-heard reply-4 .marks) ≡ 2
+  unfolding reply-4 plan bears recordLength heardCount be beOnto num numFrom part
+  count-so = refl
+
+  pub lead-so : leadOf (afterReply plan second-heard reply-4 .marks) (deskAfter plan reply-4 desk-good) (slotsOf plan) 3 ≡ Node 0
+  unfolding reply-4 plan bears recordLength be beOnto num numFrom part leadOf stepOf aheadOf
+  lead-so = refl
+
+  pub size-so : size plan second-heard reply-4 desk-good 0 ≡ 1
+  unfolding reply-4 hash stamp-bytes good desk-good plan bears recordLength be beOnto num numFrom part setOf joinsOf alike
+  size-so = refl
+
+  pub after-so : deskAfter plan reply-4 desk-good ≡ desk-good
+  unfolding reply-4 plan bears recordLength be beOnto num numFrom part
+  after-so = refl
+
+abbrev pub round-two : SetCloses plan written
+unfolding plan recordLength
+round-two =
+    record {
+      ask = ask;
+      opened = opened;
+      opens = opened-so;
+      accepted = refl;
+      desk = desk;
+      before = call-1 ∷ call-2 ∷ call-3 ∷ [];
+      calls = (read.calls .0, (read.calls .1 .0, (read.calls .1 .1 .0, tt)));
+      last = call-4;
+      call = read.calls .1 .1 .1 .0;
+      closes = record { accepted = none-so; asks = refl; enough = omega (arith, count-so) };
+      node = 0;
+      candidate = lead-so;
+      enough = omega (arith, size-so);
+      of = sym stamp-is ∙ ap (λ (d : List ℕ). stampAt d 0) (sym after-so);
+    }
+
+time-so : written .time .0 ≡ 1
+unfolding stampFor stampAt
+time-so = time-made 1 (crossFor plan (7 ∷ [])) (omega arith)
+
+pub valid-so : setValid plan written round-two ≡ true
+unfolding plan recordLength
+valid-so =
+    valid-for-all plan refl written (7 ∷ []) complete-read round-two
+    (subst (λ (t : ℕ). NoClash plan t (7 ∷ []) (call-4 ∷ call-1 ∷ call-2 ∷ call-3 ∷ [])) (sym time-so)
+    (bare reply-4 bare-reply-4, (other, (bare reply-2 bare-reply-2, (given reply-3 good 0 node-reply-3 body-reply-3 unlike-0, tt)))))

@@ -1,0 +1,81 @@
+-- The set that a read round closed on, whose slots are of a kind P: its m lowest are so, and of one timestamp, which is that of the close.
+-- Assumes nothing.
+--   lowest-so lowest-slots lowest-stamps   the m lowest: how they lie, what their slots are, their timestamps
+--   lead-slot lead-long lead-stamp lead-number   the slot of the lead
+use Prim.Native.Nat.{ℕ, _+_, _*_, _≤_}
+use mathlib.Core.Path.{_≡_, refl, sym, ap, _∙_}
+use mathlib.Core.Bool.{true}
+use mathlib.Core.List.{List}
+use native.Mathlib.Omega.{arith}
+use lib.ListN.{length}
+use Rattle.octets.specs.Bytes.{part}
+use Rattle.octets.proofs.Laws.{length-part, part-part, slot-room}
+use Rattle.terms.specs.Stamp.{stamp, stampAt, stampNumber}
+use Rattle.terms.specs.Terms.{recordLength, slotsOf}
+use Rattle.terms.specs.declared.Plan.{Plan}
+use Rattle.terms.proofs.Places.{record-length}
+use Rattle.terms.proofs.Stamps.{stamp-at-number}
+use Rattle.fragments.specs.Fragments.{All}
+use Rattle.fragments.proofs.Interp.{all-map, all-map2}
+use Rattle.fragments.proofs.Lists.{all-take}
+use Rattle.record.specs.Record.{stampOf}
+use Rattle.record.specs.Desk.{slotOf}
+use Rattle.record.proofs.Records.{stamp-at}
+use Rattle.rounds.specs.declared.Heard.{Heard}
+use Rattle.rounds.specs.declared.Heard.the-variants.{Unheard, First, Record}
+use Rattle.rounds.specs.Rounds.{markOf, joinsOf, setOf}
+use Rattle.rounds.proofs.Closes.{candidate, members-are}
+use Rattle.recover.specs.Recover.{lowest}
+use Rattle.session.specs.declared.Session.{Session}
+use Rattle.session.specs.Reader.{closed}
+use Rattle.session.proofs.Closings.{Led, led, lead-low, Lowest, lowest-are}
+use Rattle.client.proofs.Held.{Closing}
+
+module _ (P : ℕ → List ℕ → Type 0) (p : Plan) (u : Session) (e : List ℕ) (a : ℕ) (c : Closing P p u e a) where
+  leading : Led p u e a
+  leading = led p u e a (c .leads)
+
+  pub lowest-so : Lowest p u e a (lowest p (closed p u e))
+  lowest-so = lowest-are p u e a leading (c .plan) (c .size)
+
+  -- its nodes are marked record
+  marked : All (λ (z : ℕ). markOf (u .marks) z ≡ Record) (closed p u e .nodes)
+  unfolding joinsOf
+  marked =
+      rw (leading .nodes-are)
+      (all-map (λ z j. joined z (markOf (u .marks) z) j) (setOf (u .marks) e (slotsOf p) a (p .n)) (members-are (u .marks) e (slotsOf p) a (p .n) .joined))
+    where
+      joined : (z : ℕ) (m : Heard) → joinsOf e (slotsOf p) a z m ≡ true → m ≡ Record
+      joined z Record j = refl
+      joined z First j = let y : _≡_ {A = ℕ} 0 1 = cc in absurd (omega arith)
+      joined z Unheard j = let y : _≡_ {A = ℕ} 0 1 = cc in absurd (omega arith)
+
+  pub lowest-slots : All (λ (z : ℕ). P z (slotOf p e z)) (lowest p (closed p u e))
+  lowest-slots =
+      all-map2 (λ z l m. c .slots z l m) (lowest p (closed p u e)) (lowest-so .below)
+      (all-take (λ (z : ℕ). markOf (u .marks) z ≡ Record) (p .m) (closed p u e .nodes) marked)
+
+  pub lead-slot : P a (slotOf p e a)
+  lead-slot = c .slots a (lead-low p u e a leading) (candidate (u .marks) e (slotsOf p) (p .n) a (leading .leads) .marked)
+
+  lead-fits : a * recordLength p + recordLength p ≤ length e
+  lead-fits = slot-room a (p .n) (recordLength p) (length e) (lead-low p u e a leading) (omega (arith, c .long))
+
+  pub lead-long : length (slotOf p e a) ≡ recordLength p
+  lead-long = length-part e (a * recordLength p) (recordLength p) lead-fits
+
+  -- the timestamp of the close is that of the lead's slot, and of each of the m lowest
+  pub lead-stamp : closed p u e .stamp ≡ stampAt e (a * recordLength p)
+  lead-stamp = leading .stamp-is
+
+  pub lead-number : stampNumber (closed p u e .stamp) ≡ stamp (slotOf p e a)
+  lead-number =
+      ap stampNumber lead-stamp ∙ stamp-at-number e (a * recordLength p) (omega (arith, lead-fits, record-length p)) ∙ sym (stamp-at p e (a * recordLength p))
+
+  pub lowest-stamps : All (λ (z : ℕ). stampOf (slotOf p e z) ≡ stampOf (slotOf p e a)) (lowest p (closed p u e))
+  lowest-stamps = all-map (λ z h. start z ∙ ap (λ (l : List ℕ). part l 0 40) h ∙ sym (start a)) (lowest p (closed p u e)) (lowest-so .heads)
+    where
+      start : (z : ℕ) → stampOf (slotOf p e z) ≡ part (part e (z * recordLength p) (slotsOf p .head)) 0 40
+      start z =
+          part-part e (z * recordLength p) (recordLength p) 0 40 (omega (arith, record-length p))
+          ∙ sym (part-part e (z * recordLength p) (slotsOf p .head) 0 40 (omega arith))

@@ -23,7 +23,7 @@ use Rattle.terms.specs.declared.Clients.{Clients}
 use Rattle.terms.specs.declared.Clients.the-variants.{Crash, Byzantine}
 use Rattle.terms.specs.declared.Plan.{Plan}
 use Rattle.terms.proofs.Plans.{plan-is}
-use Rattle.fragments.specs.Fragments.{regenerated}
+use Rattle.fragments.specs.Fragments.{fragment, regenerated}
 use Rattle.terms.specs.declared.Timestamp.{Timestamp}
 use Rattle.terms.proofs.Down.{clear}
 use Rattle.terms.proofs.Ladders.{by-ladder}
@@ -62,7 +62,10 @@ use Rattle.client.specs.Repair.{EachTurn}
 use Rattle.client.proofs.Held.{Closing, Mended, run-mended}
 use Rattle.client.proofs.Slots.{Brings}
 use Rattle.client.proofs.Repair.{head-is, fragment-held}
+use Rattle.client.specs.SameStamp.{NoClash}
 use Rattle.client.proofs.Sets.{lead-slot, lead-number}
+use Rattle.client.proofs.SameStamp.{Fair, all-fair}
+use Rattle.client.proofs.Validation.{pieces, cross-so}
 use Rattle.report.specs.Together.{RepairFits}
 use Rattle.client.specs.Sessions.{lastSession, lastDesk}
 use Rattle.client.specs.Turns.{Turn, ReadTurn, WriteTurn, Calls}
@@ -318,9 +321,9 @@ read-bound p a r d cs opens e od h range asks u b =
     (subst (λ (x : Bound). boundOk x (lastSession (r .session) cs .round .number) ≡ true) b w) in
     bound-sends u (subst Bounded b k) (leb-true 1 (u .time .0) (low .1))
 
--- ---- a repair: the desk was filled from a set that validates, or fits
-module _ (p : Plan) (s : Session) (d : List ℕ) (m : Mended (Passed p) p s d) (stores : isStoring (s .round .stage) ≡ true) (fits : RepairFits p s d) where
-  abbrev c : Closing (Passed p) p (m .session) (m .desk) (m .node)
+-- ---- a repair: the desk was filled from a set
+module _ (P : ℕ → List ℕ → Type 0) (p : Plan) (s : Session) (d : List ℕ) (m : Mended P p s d) where
+  abbrev c : Closing P p (m .session) (m .desk) (m .node)
   c = m .closing
 
   abbrev old : List ℕ
@@ -342,15 +345,22 @@ module _ (p : Plan) (s : Session) (d : List ℕ) (m : Mended (Passed p) p s d) (
   low : 0 < p .n
   low = omega (arith, plan-is p (c .plan) .n-low)
 
+  -- the cross checksum that the fragments make is the desk's, where it is that of the lead's slot
+  from-lead : (fragments : ℕ → List ℕ) → ((k : ℕ) → k < p .n → regained k ≡ fragments k) → crossMade p fragments (p .n) ≡ crossOf p old
+      → crossMade p (fragmentIn p d) (p .n) ≡ crossOf p (slotOf p d 0)
+  from-lead fragments same e =
+      cross-same (fragmentIn p d) fragments (p .n) (λ k h. fragment-so k h ∙ same k h) p ∙ e ∙ sym (head-so 0 low 40 (32 * p .n) (omega arith))
+
+-- a set that validates, or fits
+module _ (p : Plan) (s : Session) (d : List ℕ) (m : Mended (Passed p) p s d) (stores : isStoring (s .round .stage) ≡ true) (fits : RepairFits p s d) where
   -- under Byzantine clients by validation
   validated : p .clients ≡ Byzantine → crossMade p (fragmentIn p d) (p .n) ≡ crossOf p (slotOf p d 0)
   unfolding sound validates
   validated b =
       let v : validates p (m .desk) (lowest p (closed p (m .session) (m .desk))) (m .node) ≡ true =
       sym (ap (λ (x : Clients). trusted x (validates p (m .desk) (lowest p (closed p (m .session) (m .desk))) (m .node))) b) ∙ m .validates in
-      cross-same (fragmentIn p d) regained (p .n) fragment-so p ∙ alike-is _ _ v
-      ∙ sym (head-so 0 low 40 (32 * p .n) (omega arith)
-      ∙ part-part (m .desk) (m .node * recordLength p) (recordLength p) 40 (32 * p .n) (omega (arith, record-length p)))
+      from-lead (Passed p) p s d m (regained (Passed p) p s d m) (λ k h. refl)
+      (alike-is _ _ v ∙ sym (part-part (m .desk) (m .node * recordLength p) (recordLength p) 40 (32 * p .n) (omega (arith, record-length p))))
 
   crossed : crossMade p (fragmentIn p d) (p .n) ≡ crossOf p (slotOf p d 0)
   crossed = by (p .clients) refl
@@ -362,17 +372,17 @@ module _ (p : Plan) (s : Session) (d : List ℕ) (m : Mended (Passed p) p s d) (
   mended-passes : (k : ℕ) → k < p .n → Passed p k (slotOf p d k) × (stamp (slotOf p d k) ≡ stampNumber (s .stamp))
   unfolding hashesOk
   mended-passes k h =
-      let q : Passed p (m .node) old = lead-slot (Passed p) p (m .session) (m .desk) (m .node) c in
-      let x : crossOf p (slotOf p d k) ≡ crossOf p old = head-so k h 40 (32 * p .n) (omega arith) in
-      let v : verifierOf (slotOf p d k) ≡ verifierOf old = head-so k h 8 32 (omega arith) in
-      let z : crossOf p (slotOf p d k) ≡ crossMade p (fragmentIn p d) (p .n) = x ∙ sym (head-so 0 low 40 (32 * p .n) (omega arith)) ∙ sym crossed in
+      let q : Passed p (m .node) (slotOf p (m .desk) (m .node)) = lead-slot (Passed p) p (m .session) (m .desk) (m .node) (m .closing) in
+      let x : crossOf p (slotOf p d k) ≡ crossOf p (slotOf p (m .desk) (m .node)) = head-so (Passed p) p s d m k h 40 (32 * p .n) (omega arith) in
+      let v : verifierOf (slotOf p d k) ≡ verifierOf (slotOf p (m .desk) (m .node)) = head-so (Passed p) p s d m k h 8 32 (omega arith) in
+      let z : crossOf p (slotOf p d k) ≡ crossMade p (fragmentIn p d) (p .n) = x ∙ sym (head-so (Passed p) p s d m 0 (low (Passed p) p s d m) 40 (32 * p .n) (omega arith)) ∙ sym crossed in
       let one : alike (sha256 (crossOf p (slotOf p d k))) (verifierOf (slotOf p d k)) ≡ true =
-      (λ i. alike (sha256 (x i)) (v i)) ∙ both (alike (sha256 (crossOf p old)) (verifierOf old)) _ (q .hashes) .0 in
+      (λ i. alike (sha256 (x i)) (v i)) ∙ both (alike (sha256 (crossOf p (slotOf p (m .desk) (m .node)))) (verifierOf (slotOf p (m .desk) (m .node)))) _ (q .hashes) .0 in
       let two : alike (fragmentHash p k (fragmentIn p d k)) (entryOf k (crossOf p (slotOf p d k))) ≡ true =
       is-alike _ _ (sym (ap (entryOf k) z ∙ entry-of p (fragmentIn p d) k (p .n) h)) in
-      let t : time (slotOf p d k) ≡ time old = ap num (head-so k h 0 8 (omega arith)) in (
+      let t : time (slotOf p d k) ≡ time (slotOf p (m .desk) (m .node)) = ap num (head-so (Passed p) p s d m k h 0 8 (omega arith)) in (
         record { timed = omega (arith, t, q .timed); hashes = rw (one, two) },
-        ap num (head-so k h 0 40 (omega arith)) ∙ sym (lead-number (Passed p) p (m .session) (m .desk) (m .node) c) ∙ ap stampNumber (sym (m .stamped)),
+        ap num (head-so (Passed p) p s d m k h 0 40 (omega arith)) ∙ sym (lead-number (Passed p) p (m .session) (m .desk) (m .node) (m .closing)) ∙ ap stampNumber (sym (m .stamped)),
       )
 
 all-pass : (p : Plan) (cs : List Turn) → EachTurn (λ (e : Turn). Brings (Passed p) p (e .reply)) cs
@@ -388,3 +398,18 @@ read-sendable p a r d cs opens e od h range going fits =
       bound = λ x y u b. read-bound p a r d cs opens e od h range (asking (lastSession (r .session) cs .round .stage) x going) u b;
       slots = λ x. mended-passes p (lastSession (r .session) cs) (lastDesk d cs) (run-mended (Passed p) p a r opens e d cs h (all-pass p cs) x) x fits;
     }
+
+-- A REPAIR OF THE TIMESTAMP OF A WRITE FITS, under either client model: its set is of the records that were written, where the records that the replies bore
+-- do not clash with them
+pub written-fits : (p : Plan) (a : Ask) (r : Opened) (d : List ℕ) (cs : List Turn) → OpenCall Read p a r → r .answer ≡ Accepted → Calls (ReadTurn p) (r .session) d cs
+    → (t : ℕ) (i : List ℕ) → Octets i → length i ≡ p .m * p .f → lastSession (r .session) cs .stamp ≡ stampFor p t i → NoClash p t i cs
+    → RepairFits p (lastSession (r .session) cs) (lastDesk d cs)
+unfolding crossFor
+written-fits p a r d cs opens e h t i bytes whole stamped unlike crash stores =
+    let F : ℕ → List ℕ → Type 0 = Fair p t i bytes whole in
+    let m = run-mended F p a r opens e d cs h (all-fair p t i bytes whole (r .session) d cs h unlike) stores in
+    let z : closed p (m .session) (m .desk) .stamp ≡ stampFor p t i = sym (m .stamped) ∙ stamped in
+    let n16 = plan-is p (m .closing .plan) .n-high in
+    from-lead F p (lastSession (r .session) cs) (lastDesk d cs) m (fragment (p .m) (p .f) i)
+    (λ k l. pieces p t i bytes whole (m .session) (m .desk) (m .node) (m .closing) z k (omega (arith, n16, l)))
+    (sym (cross-so p t i bytes whole (m .session) (m .desk) (m .node) (m .closing) z))

@@ -8,7 +8,6 @@ use mathlib.Core.Path.{_≡_, refl, sym, subst}
 use mathlib.Core.Bool.{true}
 use mathlib.Core.List.{List, [], _∷_}
 use Prim.Native.Nat.{ℕ}
-use native.Mathlib.Omega.{arith}
 use lib.ListN.{replicate, take}
 use Rattle.octets.specs.Bytes.{part, over, num, numFrom, be, beOnto, alike}
 use Rattle.sha256.specs.Sha256.{sha256, after, compressOf, addedOf, roundsOf, roundOf, T1, T2, scheduleOf, words, padding, bigEndian, K}
@@ -42,11 +41,14 @@ use Rattle.store.proofs.Passed.{fresh-passes}
 use Rattle.client.specs.Turns.{ReadTurn, WriteTurn}
 use Rattle.client.proofs.Instances.Read.{plan, ask, hash, poor, stamp-bytes, good, desk, desk-poor, desk-good, desk-full, desk-long}
 use Rattle.client.proofs.Instances.Read as reads
+use Rattle.client.proofs.Instances.Done.{repaired-unlike}
 use Rattle.client.proofs.Instances.Write as writes
 use Rattle.report.specs.Together.{OwedBy, RepairFits, StillAsks, NoneOf}
 use Rattle.report.specs.Sent.{WriteCommands, inWriteSet, Owes}
 use Rattle.report.specs.WriteRun.{untimed, timedOver}
 use Rattle.report.proofs.Sent.{write-owes}
+use Rattle.recover.specs.Records.{stampFor}
+use Rattle.report.proofs.Sendable.{written-fits}
 use Rattle.report.proofs.StillAsks.{write-still-asks, read-still-asks}
 use Rattle.report.proofs.Together.{write-request-taken, write-reply-taken, read-request-taken, read-reply-taken}
 
@@ -182,13 +184,20 @@ unfolding taken request book stamp-bytes hash good plan served first planOk coun
     part be beOnto alike sha256 after compressOf addedOf roundsOf roundOf T1 T2 scheduleOf words padding bigEndian K reads.reply-6
 repair-reply = refl
 
--- node 1 was heard in between; clients are Byzantine, so that the set was validated
+-- node 1 was heard in between; the repair is of the timestamp of a write
 repair-still : StillAsks reads.repair-round reads.once-stored
 repair-still = read-still-asks plan reads.repair-round desk-full reads.call-5 (reads.calls .1 .1 .1 .1 .0) refl refl
 
-repair-fits : RepairFits plan reads.repair-round desk-full
+repair-stamp : stampAt desk-good 0 ≡ stampFor plan 1 (7 ∷ [])
+unfolding desk-good good stamp-bytes hash stampAt num numFrom part
+repair-stamp = sym reads.stamped-so
+
+pub repair-fits : RepairFits plan reads.repair-round desk-full
 unfolding plan
-repair-fits e = let z : _≡_ {A = ℕ} 0 1 = cc in absurd (omega arith)
+repair-fits =
+    written-fits plan ask reads.opened desk (reads.call-1 ∷ reads.call-2 ∷ reads.call-3 ∷ reads.call-4 ∷ []) reads.opened-so refl
+    (reads.calls .0, (reads.calls .1 .0, (reads.calls .1 .1 .0, (reads.calls .1 .1 .1 .0, tt)))) 1 (7 ∷ []) (small-octets (7 ∷ []) reads.seven-small) refl repair-stamp
+    (repaired-unlike .0, (repaired-unlike .1 .0, (repaired-unlike .1 .1 .0, (repaired-unlike .1 .1 .1 .0, tt))))
 
 pub read-exchanged : ((r : Refusal) → Replied 55 ≡ node.Refused r → NoneOf (4 ∷ 5 ∷ 6 ∷ []) r)
     × ((r : Refusal) → reads.call-6 .took .answer ≡ Refused r → NoneOf (4 ∷ 5 ∷ 6 ∷ 10 ∷ 12 ∷ []) r)

@@ -40,7 +40,8 @@ use Rattle.rounds.specs.declared.Lead.{Lead}
 use Rattle.rounds.specs.Rounds.{closeWith}
 use Rattle.session.specs.declared.Session.{Session}
 use Rattle.session.specs.declared.Took.{Took}
-use Rattle.session.specs.Session.{isStoring, done, saidOf}
+use Rattle.standing.specs.Standing.{isStoring}
+use Rattle.session.specs.Session.{done, saidOf}
 use Rattle.recover.specs.Recover.{lowest, decoded, collected}
 use Rattle.session.specs.Reader.{Outcome, closed, ReadReplyCall}
 use Rattle.recover.specs.Records.{crossFor, recordsFor}

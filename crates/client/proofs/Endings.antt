@@ -21,7 +21,8 @@ use Rattle.rounds.specs.Rounds.{bitOf, heardCount, markOf, setOf}
 use Rattle.rounds.proofs.Closes.{Best, candidate, Members, members-are}
 use Rattle.session.specs.declared.Session.{Session}
 use Rattle.session.specs.declared.Took.{Took}
-use Rattle.session.specs.Session.{isStoring, markedOf, Said, refused, stillOpen, done, neverWritten, aborted, roundsSpent, clockSpent, saidOf, roundOpen}
+use Rattle.standing.specs.Standing.{isStoring}
+use Rattle.session.specs.Session.{markedOf, Said, refused, stillOpen, done, neverWritten, aborted, roundsSpent, clockSpent, saidOf, roundOpen}
 use Rattle.session.specs.Reader.{ReadReplyCall, Outcome, outcome, closed, settled, stored, accepted}
 use Rattle.session.specs.Writer.{WriteReplyCall}
 use Rattle.client.specs.Endings.{Exactly, readLadder, afterReply, deskAfter, Candidate, size, WhenNever, WhenAborted, WhenSpent, WhenDone, WhenOpen, DoneByRead, RepairOpens, WriteDone, WriteClock, WriteOpen, ReadGives, WriteGives}

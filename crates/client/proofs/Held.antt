@@ -29,18 +29,18 @@ use Rattle.rounds.specs.declared.Lead.the-variants.{Node}
 use Rattle.rounds.specs.Rounds.{closeWith}
 use Rattle.recover.specs.Recover.{sound, decoded, collected, repaired}
 use Rattle.session.specs.declared.Session.{Session}
-use Rattle.session.specs.declared.Stage.{Stage}
-use Rattle.session.specs.declared.Stage.the-variants.{Asking, Storing, Ended}
-use Rattle.session.specs.declared.Operation.the-variants.{Read}
+use Rattle.standing.specs.declared.Stage.{Stage}
+use Rattle.standing.specs.declared.Stage.the-variants.{Asking, Storing, Ended}
+use Rattle.standing.specs.declared.Operation.the-variants.{Read}
 use Rattle.session.specs.declared.opening.Opened.{Opened}
 use Rattle.session.specs.declared.opening.Opening.the-variants.{Accepted}
 use Rattle.session.specs.Opening.{OpenCall}
-use Rattle.session.specs.Session.{isAsking, isStoring, isEnded, markedOf, endedOf, nextOf, storingOf, Said, refused, stillOpen, done, neverWritten, aborted, roundsSpent, clockSpent, saidOf}
-use Rattle.session.specs.Reply.{lengthsOk}
+use Rattle.standing.specs.Standing.{isAsking, isStoring, isEnded, lengthsOk}
+use Rattle.session.specs.Session.{markedOf, endedOf, nextOf, storingOf, Said, refused, stillOpen, done, neverWritten, aborted, roundsSpent, clockSpent, saidOf}
 use Rattle.session.specs.Reader.{Outcome, outcome, closed, readReply}
 use Rattle.session.proofs.Closings.{led, sized, sized-whole}
 use Rattle.session.proofs.Openings.{accepted-session}
-use Rattle.session.proofs.Rules.{lengths-are}
+use Rattle.standing.proofs.Rules.{lengths-are}
 use Rattle.client.specs.Endings.{readLadder, afterReply, deskAfter, Candidate, size, DoneByRead, DoneByRepair, Waits, RepairOpens, ReadGives}
 use Rattle.client.specs.Turns.{Turn, ReadTurn, Calls, lastSaid}
 use Rattle.client.specs.Sessions.{lastSession, lastDesk, lastItem}

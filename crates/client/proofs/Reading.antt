@@ -30,13 +30,15 @@ use Rattle.rounds.specs.Rounds.{heardCount, markOf, leadOf, Closed, closeWith}
 use Rattle.rounds.proofs.Laws.{lead-room}
 use Rattle.rounds.proofs.Closes.{candidate, no-candidate}
 use Rattle.session.specs.declared.Session.{Session}
-use Rattle.session.specs.declared.Operation.the-variants.{Read}
-use Rattle.session.specs.Session.{isStoring, replies, markedOf, endedOf, nextOf, storingOf, Said, refused, stillOpen, done, neverWritten, aborted, roundsSpent, clockSpent, roundOpen}
+use Rattle.standing.specs.declared.Operation.the-variants.{Read}
+use Rattle.standing.specs.Standing.{isStoring, replies, lengthsOk, sameOperation}
+use Rattle.session.specs.Session.{markedOf, endedOf, nextOf, storingOf, Said, refused, stillOpen, done, neverWritten, aborted, roundsSpent, clockSpent, roundOpen}
 use Rattle.session.specs.Ranges.{inRange}
-use Rattle.session.specs.Reply.{bears, lengthsOk, sameOperation}
+use Rattle.session.specs.Reply.{bears}
 use Rattle.recover.specs.Recover.{decoded, collected, repaired}
 use Rattle.session.specs.Reader.{Outcome, outcome, failing, acted, closed, settled, heard, stored, accepted, readReply}
-use Rattle.session.proofs.Rules.{lengths-are, range-stands, few-open, many-over}
+use Rattle.standing.proofs.Rules.{lengths-are}
+use Rattle.session.proofs.Rules.{range-stands, few-open, many-over}
 use Rattle.session.proofs.Readers as readers
 use Rattle.client.specs.Endings.{readLadder, afterReply, deskAfter, Closes, Candidate, size, valid, Fails, ReadGives}
 use Rattle.terms.proofs.Ladders as ladders

@@ -21,11 +21,12 @@ use Rattle.frame.specs.Frame.{frameNode, bodyOf, headBytes, versionOf}
 use Rattle.rounds.specs.declared.Heard.the-variants.{Record}
 use Rattle.rounds.specs.declared.Lead.the-variants.{Node}
 use Rattle.session.specs.declared.Session.{Session}
-use Rattle.session.specs.declared.Stage.{Stage}
-use Rattle.session.specs.declared.Stage.the-variants.{Asking, Storing, Ended}
+use Rattle.standing.specs.declared.Stage.{Stage}
+use Rattle.standing.specs.declared.Stage.the-variants.{Asking, Storing, Ended}
 use Rattle.session.specs.declared.Took.{Took}
-use Rattle.session.specs.declared.Operation.the-variants.{Read}
-use Rattle.session.specs.Session.{isAsking, isStoring, isEnded, markedOf, endedOf, refused, stillOpen, done, roundOpen}
+use Rattle.standing.specs.declared.Operation.the-variants.{Read}
+use Rattle.standing.specs.Standing.{isAsking, isStoring, isEnded}
+use Rattle.session.specs.Session.{markedOf, endedOf, refused, stillOpen, done, roundOpen}
 use Rattle.session.specs.Reply.{bears, replyLadder, recordLadder}
 use Rattle.recover.specs.Recover.{decoded, collected, repaired}
 use Rattle.session.specs.Reader.{Outcome, outcome, acted, closed, settled, stored, accepted, readReply, ReadReplyCall}

@@ -27,8 +27,9 @@ use Rattle.rounds.specs.declared.Heard.the-variants.{First, Record}
 use Rattle.rounds.specs.declared.Lead.the-variants.{Node}
 use Rattle.rounds.specs.Rounds.{heardCount, markOf, leadOf, setOf}
 use Rattle.session.specs.declared.Session.{Session}
-use Rattle.session.specs.declared.Operation.the-variants.{Write}
-use Rattle.session.specs.Session.{isStoring, replies, markedOf, Said, refused, stillOpen, done, neverWritten, aborted, roundsSpent, clockSpent}
+use Rattle.standing.specs.declared.Operation.the-variants.{Write}
+use Rattle.standing.specs.Standing.{isStoring, replies}
+use Rattle.session.specs.Session.{markedOf, Said, refused, stillOpen, done, neverWritten, aborted, roundsSpent, clockSpent}
 use Rattle.session.specs.Reply.{bears, replyLadder}
 pub use Rattle.session.specs.Reply.{readLadder}
 use Rattle.recover.specs.Recover.{sound}

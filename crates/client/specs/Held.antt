@@ -24,7 +24,7 @@ use Rattle.record.specs.Desk.{slotOf}
 use Rattle.rounds.specs.declared.Heard.the-variants.{Record}
 use Rattle.rounds.specs.declared.Mark.{Mark}
 use Rattle.rounds.specs.Rounds.{markOf}
-use Rattle.session.specs.declared.Operation.the-variants.{Read}
+use Rattle.standing.specs.declared.Operation.the-variants.{Read}
 use Rattle.session.specs.declared.opening.Opened.{Opened}
 use Rattle.session.specs.declared.opening.Opening.the-variants.{Accepted}
 use Rattle.session.specs.Opening.{OpenCall}

@@ -30,14 +30,15 @@ use Rattle.node.specs.declared.Answer.the-variants as node
 use Rattle.node.specs.declared.Made.the-variants as made
 use Rattle.node.specs.Fresh.{FreshCall, FreshOutcome, freshened, freshLadder}
 use Rattle.node.specs.Node.{NodeCall, ServedOutcome, served, nodeLadder, bookReplyOk, timeFails, hashFails}
-use Rattle.session.specs.declared.Operation.the-variants.{Read}
+use Rattle.standing.specs.declared.Operation.the-variants.{Read}
+use Rattle.standing.specs.Standing.{roomOk, roundRules}
 use Rattle.session.specs.declared.opening.Opened.{Opened}
 use Rattle.session.specs.declared.opening.Opening.the-variants as opening
 use Rattle.session.specs.declared.owed.Owed.the-variants as owed
 use Rattle.session.specs.Opening.{Opens, OpenCall, openWith, openingLadder, noSession}
 use Rattle.session.specs.Ranges.{standingRules, openRules, inRange}
 use Rattle.session.specs.Reply.{isHeard}
-use Rattle.session.specs.Owed.{OwedCall, roomOk, owedTo, owedLadder}
+use Rattle.session.specs.Owed.{OwedCall, owedTo, owedLadder}
 use Rattle.session.specs.Writer.{Leaves, writeReply}
 use Rattle.session.specs.Reader.{Outcome, readReply}
 use Rattle.client.specs.Endings.{readLadder, writeLadder}
@@ -119,7 +120,7 @@ opening-refuses = opening-exactly Read plan late-ask not-opened opening-met 13 (
 
 -- ---- a request owed to a node that is heard: node 0, in the second round of the read
 pub owed-met : OwedCall plan reads.second-heard 0 desk-good (replicate 152 0) (owed.Refused AlreadyHeard) (replicate 152 0)
-unfolding hash stamp-bytes good desk-good poor desk-poor plan owedTo first planOk countsOk limitsOk columnOf all recordLength roomOk inRange standingRules openRules heardCount every slotsFit
+unfolding hash stamp-bytes good desk-good poor desk-poor plan owedTo first planOk countsOk limitsOk columnOf all recordLength roomOk inRange standingRules roundRules openRules heardCount every slotsFit
     slotFits slotStamp underOf isHeard num numFrom part stampAt stampNumber then
 owed-met = record { is = refl }
 

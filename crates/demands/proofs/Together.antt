@@ -23,7 +23,7 @@ use Rattle.node.specs.Node.{NodeCall}
 use Rattle.session.specs.declared.Session.{Session}
 use Rattle.session.specs.declared.Took.{Took}
 use Rattle.session.specs.declared.Answer.the-variants.{Refused}
-use Rattle.session.specs.declared.Operation.the-variants.{Write, Read}
+use Rattle.standing.specs.declared.Operation.the-variants.{Write, Read}
 use Rattle.session.specs.Writer.{WriteReplyCall}
 use Rattle.session.specs.Reader.{ReadReplyCall}
 use Rattle.recover.specs.Records.{stampFor}

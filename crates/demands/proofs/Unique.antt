@@ -14,7 +14,7 @@ use Rattle.node.specs.Node as node
 use Rattle.node.specs.Node.{NodeCall}
 use Rattle.node.specs.Fresh.{FreshCall, FreshOutcome, freshOutcome, saidMade}
 use Rattle.session.specs.declared.Session.{Session}
-use Rattle.session.specs.declared.Operation.{Operation}
+use Rattle.standing.specs.declared.Operation.{Operation}
 use Rattle.session.specs.declared.Took.{Took}
 use Rattle.session.specs.declared.opening.Opened.{Opened}
 use Rattle.session.specs.declared.owed.Owed.{Owed}

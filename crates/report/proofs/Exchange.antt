@@ -39,13 +39,15 @@ use Rattle.record.specs.Desk.{slotOf}
 use Rattle.rounds.specs.declared.Bound.{Bound}
 use Rattle.rounds.specs.declared.Bound.the-variants.{Free, Under}
 use Rattle.rounds.specs.Rounds.{underOf}
+use Rattle.standing.specs.Standing.{askIn, awaitsIn, isEnded, isRead, isStoring, readRequest}
+use Rattle.standing.proofs.Rules.{room-is}
 use Rattle.session.specs.declared.Session.{Session}
 use Rattle.session.specs.declared.owed.Owed.the-variants.{Request}
-use Rattle.session.specs.Session.{isRead, isStoring, isEnded, askNow, awaitsKind}
+use Rattle.session.specs.Session.{askNow, awaitsKind}
 use Rattle.session.specs.Ranges.{inRange}
 use Rattle.session.specs.Reply.{awaited, bears}
-use Rattle.session.specs.Owed.{owedLadder, readRequest, requestOf, refused, written, Dues, dues, owedTo, OwedCall}
-use Rattle.session.proofs.Rules.{range-stands, ask-high, room-is}
+use Rattle.session.specs.Owed.{owedLadder, requestOf, refused, written, Dues, dues, owedTo, OwedCall}
+use Rattle.session.proofs.Rules.{range-stands, ask-high}
 use Rattle.book.specs.Records.{lastOf, lastBelow, those}
 use Rattle.book.specs.Book.{bookHead, goodBook, nodeOf, countOf, recordsOf}
 use Rattle.book.proofs.Laid as laid
@@ -229,7 +231,7 @@ pub record Written (p : Plan) (s : Session) (S : ℕ) (d : List ℕ) (f : List �
 
 module _ (p : Plan) (s : Session) (S : ℕ) (d q : List ℕ) (n : ℕ) (q₂ : List ℕ) (call : OwedCall p s S d q (Request n) q₂) where
   ask-small : inRange p s d ≡ true → askNow s < 256 ^ 8
-  unfolding askNow
+  unfolding askIn
   ask-small r = go (isStoring (s .round .stage))
     where
       go : (t : Bool) → cond t (s .opening .0 + s .round .number) (s .opening .0 + (s .round .number - 1)) < 256 ^ 8
@@ -371,7 +373,7 @@ module _ (p : Plan) (s : Session) (S : ℕ) (d f : List ℕ) (w : Written p s S 
   -- a read reply with none, or with one of the records
   with-body : isStoring (s .round .stage) ≡ false → isRead (s .operation) ≡ true → (body : List ℕ)
       → (body ≡ []) ⊎ (Among body rs × (underOf (s .round .bound) (stamp body) ≡ true)) → AtClient p s (frame readReplyKind S ask body)
-  unfolding forParty oneOf bodyFits awaitsKind
+  unfolding forParty oneOf bodyFits awaitsIn
   with-body x r body (inl e) =
       at-client p (w .plan) S ask (w .low) (w .ask) readReplyKind body (omega arith) (omega (arith, ap length e)) refl (rw e (either (eqb 0 (recordLength p)))) s refl (rw (x, r)) (inl x)
       (inr (inl (ap length e)))
@@ -385,7 +387,7 @@ module _ (p : Plan) (s : Session) (S : ℕ) (d f : List ℕ) (w : Written p s S 
       (rw (eq-eqb (length body) (recordLength p) l)) s refl (rw (x, r)) (inl x) (inr (inr (passes-here body (e .0), e .1)))
 
   pub reply-passes : AtClient p s (take n y₂)
-  unfolding forParty oneOf bodyFits awaitsKind replyTo underOf
+  unfolding forParty oneOf bodyFits awaitsIn replyTo underOf
   reply-passes = go (subst (Owes p s S d) (sym (w .is)) (owes p s S d))
     where
       latest : s .round .bound ≡ Free → (lastOf rs ≡ []) ⊎ Among (lastOf rs) rs → (lastOf rs ≡ []) ⊎ (Among (lastOf rs) rs × (underOf (s .round .bound) (stamp (lastOf rs)) ≡ true))

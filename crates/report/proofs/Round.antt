@@ -42,7 +42,8 @@ use Rattle.rounds.proofs.Closes.{candidate, no-candidate, members-are}
 use Rattle.recover.specs.Recover.{validates, recordFrom, refilled, trusted, sound, decoded, repaired as refill}
 use Rattle.recover.proofs.Filled.{length-filled, filled-record}
 use Rattle.session.specs.declared.Session.{Session}
-use Rattle.session.specs.Session.{replies, endedOf, storingOf, stillOpen, done, neverWritten}
+use Rattle.standing.specs.Standing.{replies}
+use Rattle.session.specs.Session.{endedOf, storingOf, stillOpen, done, neverWritten}
 use Rattle.session.specs.Reader.{Outcome, outcome, failing, actOn, actFor, acted, closed}
 use Rattle.session.proofs.Closings.{Led, led, Lowest, lowest-are, heads-alike}
 use Rattle.report.specs.Triple.{Triple, Message, null, each, strung}

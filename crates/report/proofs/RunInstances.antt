@@ -23,10 +23,11 @@ use Rattle.record.specs.Record.{timeZero}
 use Rattle.rounds.specs.Rounds.{heardCount, every, slotStamp, slotsFit, slotFits, underOf}
 use Rattle.session.specs.Session.{askNow, awaitsKind}
 use Rattle.session.specs.Ranges.{standingRules, openRules, inRange}
-use Rattle.session.specs.Reply.{lengthsOk, awaited, isHeard, bears, readLadder}
+use Rattle.standing.specs.Standing.{lengthsOk, askIn, awaitsIn, roundRules, roomOk, readRequest}
+use Rattle.standing.specs.declared.Stage.the-variants.{Asking}
+use Rattle.session.specs.Reply.{awaited, isHeard, bears, readLadder}
 use Rattle.session.specs.declared.owed.Owed.the-variants.{Request}
-use Rattle.session.specs.declared.Stage.the-variants.{Asking}
-use Rattle.session.specs.Owed.{roomOk, owedLadder, readRequest, requestOf, written, owedTo, OwedCall}
+use Rattle.session.specs.Owed.{owedLadder, requestOf, written, owedTo, OwedCall}
 use Rattle.client.specs.Turns.{Turn}
 use Rattle.terms.proofs.Small.{small, small-octets}
 use Rattle.client.proofs.Instances.Read as reads
@@ -85,11 +86,11 @@ then-closed before now set = cond (ltb (length set) 2) (at-rounds before now) (a
 
 module _ where
   polls-1 : polls plan reads.start reads.reply-1 desk 1 unpolled ≡ at-rounds [] (m1 ∷ [])
-  unfolding polls noneOf reads.reply-1 plan desk poor hash planOk countsOk limitsOk columnOf all recordLength lengthsOk inRange standingRules openRules every heardCount slotsFit slotFits slotStamp goodReply goodFrame suits shaped forParty oneOf bodyFits awaited askNow awaitsKind bears underOf timeZero num numFrom part be beOnto
+  unfolding polls noneOf reads.reply-1 plan desk poor hash planOk countsOk limitsOk columnOf all recordLength lengthsOk inRange standingRules roundRules openRules every heardCount slotsFit slotFits slotStamp goodReply goodFrame suits shaped forParty oneOf bodyFits awaited askIn awaitsIn bears underOf timeZero num numFrom part be beOnto
   polls-1 = ap (then-closed [] (m1 ∷ [])) set-1
 
   polls-2 : polls plan reads.first-heard reads.reply-2 desk-poor 1 (at-rounds [] (m1 ∷ [])) ≡ at-rounds first-round []
-  unfolding polls noneOf reads.reply-2 plan desk-poor poor hash planOk countsOk limitsOk columnOf all recordLength lengthsOk inRange standingRules openRules every heardCount slotsFit slotFits slotStamp goodReply goodFrame suits shaped forParty oneOf bodyFits awaited askNow awaitsKind bears underOf timeZero num numFrom part be beOnto
+  unfolding polls noneOf reads.reply-2 plan desk-poor poor hash planOk countsOk limitsOk columnOf all recordLength lengthsOk inRange standingRules roundRules openRules every heardCount slotsFit slotFits slotStamp goodReply goodFrame suits shaped forParty oneOf bodyFits awaited askIn awaitsIn bears underOf timeZero num numFrom part be beOnto
   polls-2 = ap (then-closed [] (m2 ∷ m1 ∷ [])) set-2
 
 -- two timestamps, so that no two cross checksums stand under one
@@ -142,8 +143,8 @@ unfoldable pub previous : List ℕ
 previous = frame readPreviousKind 1 6 (part poor 0 40)
 
 pub owed-previous : OwedCall plan reads.second-round 1 desk-poor (replicate 152 0) (Request 55) (over previous (replicate 152 0))
-unfolding previous poor hash desk-poor plan owedTo first planOk countsOk limitsOk columnOf all recordLength roomOk inRange standingRules openRules heardCount every slotsFit slotFits slotStamp
-    underOf isHeard requestOf readRequest askNow over num numFrom part be beOnto stampAt stampNumber then
+unfolding previous poor hash desk-poor plan owedTo first planOk countsOk limitsOk columnOf all recordLength roomOk inRange standingRules roundRules openRules heardCount every slotsFit slotFits slotStamp
+    underOf isHeard requestOf readRequest askIn over num numFrom part be beOnto stampAt stampNumber then
 owed-previous = record { is = refl }
 
 pub read-owes-so : Owes (Commands plan (READ (family plan) (polledOver plan reads.start desk unpolled (reads.call-1 ∷ reads.call-2 ∷ []) .rounds)) 1 (askNow reads.second-round))
@@ -163,11 +164,11 @@ module _ where
   set-4 = ap (λ (x : Decision). gathered (family plan) x (m4 ∷ m3 ∷ [])) asks-previous
 
   polls-3 : polls plan reads.second-round reads.reply-3 desk-poor 1 (at-rounds first-round []) ≡ at-rounds first-round (m3 ∷ [])
-  unfolding polls noneOf reads.reply-3 plan desk-poor poor good stamp-bytes hash stampAt stampNumber then planOk countsOk limitsOk columnOf all recordLength lengthsOk inRange standingRules openRules every heardCount slotsFit slotFits slotStamp goodReply goodFrame suits shaped forParty oneOf bodyFits awaited askNow awaitsKind bears underOf timeZero num numFrom part be beOnto
+  unfolding polls noneOf reads.reply-3 plan desk-poor poor good stamp-bytes hash stampAt stampNumber then planOk countsOk limitsOk columnOf all recordLength lengthsOk inRange standingRules roundRules openRules every heardCount slotsFit slotFits slotStamp goodReply goodFrame suits shaped forParty oneOf bodyFits awaited askIn awaitsIn bears underOf timeZero num numFrom part be beOnto
   polls-3 = ap (then-closed first-round (m3 ∷ [])) set-3
 
   polls-4 : polls plan reads.second-heard reads.reply-4 desk-good 1 (at-rounds first-round (m3 ∷ [])) ≡ at-rounds both-rounds []
-  unfolding polls noneOf reads.reply-4 plan desk-poor desk-good poor good stamp-bytes hash stampAt stampNumber then planOk countsOk limitsOk columnOf all recordLength lengthsOk inRange standingRules openRules every heardCount slotsFit slotFits slotStamp goodReply goodFrame suits shaped forParty oneOf bodyFits awaited askNow awaitsKind bears underOf timeZero num numFrom part be beOnto
+  unfolding polls noneOf reads.reply-4 plan desk-poor desk-good poor good stamp-bytes hash stampAt stampNumber then planOk countsOk limitsOk columnOf all recordLength lengthsOk inRange standingRules roundRules openRules every heardCount slotsFit slotFits slotStamp goodReply goodFrame suits shaped forParty oneOf bodyFits awaited askIn awaitsIn bears underOf timeZero num numFrom part be beOnto
   polls-4 = ap (then-closed first-round (m4 ∷ m3 ∷ [])) set-4
 
   -- a repair round closes no more

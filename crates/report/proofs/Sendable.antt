@@ -41,21 +41,23 @@ use Rattle.rounds.specs.declared.Heard.the-variants.{Record}
 use Rattle.recover.specs.Recover.{lowest, validates, trusted, sound, collected}
 use Rattle.recover.specs.Records.{crossFor, stampFor, recordsFor}
 use Rattle.recover.proofs.Records.{record-is, record-passes}
+use Rattle.standing.specs.Standing.{boundOk, isAsking, isEnded, isRead, isStoring, lengthsOk}
+use Rattle.standing.proofs.Rules.{lengths-are}
 use Rattle.session.specs.declared.Session.{Session}
-use Rattle.session.specs.declared.Operation.the-variants.{Write, Read}
+use Rattle.standing.specs.declared.Operation.the-variants.{Write, Read}
 use Rattle.session.specs.declared.opening.Opened.{Opened}
 use Rattle.session.specs.declared.opening.Opening.the-variants.{Accepted}
 use Rattle.session.specs.Opening.{OpenCall}
-use Rattle.session.specs.Session.{isRead, isAsking, isStoring, isEnded, markedOf, endedOf, storingOf, roundOpen, stillOpen, done, refused, clockSpent}
-use Rattle.session.specs.Ranges.{inRange, boundOk}
-use Rattle.session.specs.Reply.{lengthsOk, bears}
+use Rattle.session.specs.Session.{markedOf, endedOf, storingOf, roundOpen, stillOpen, done, refused, clockSpent}
+use Rattle.session.specs.Ranges.{inRange}
+use Rattle.session.specs.Reply.{bears}
 use Rattle.session.specs.Writer.{Leaves, leaves, newTime, timedOf, timeEnd, timeTurn, writeTurn, acceptedWrite, writeReply}
 use Rattle.session.specs.Reader.{Outcome, outcome, acted, closed, settled, heard, stored, accepted, readReply}
 use Rattle.session.proofs.Closings.{Ways, goes, led, lead-low}
 use Rattle.session.proofs.Kept.{Kept, opened-kept, write-kept}
 use Rattle.session.proofs.Openings.{accepted-session}
 use Rattle.session.proofs.ReadKept.{asking, not-asking}
-use Rattle.session.proofs.Rules.{lengths-are, range-stands}
+use Rattle.session.proofs.Rules.{range-stands}
 use Rattle.client.specs.Endings.{readLadder, writeLadder, afterReply, deskAfter}
 use Rattle.client.specs.Held.{Passed}
 use Rattle.client.specs.Repair.{EachTurn}

@@ -16,9 +16,10 @@ use Rattle.frame.specs.Frame.{frameNode, bodyOf}
 use Rattle.rounds.specs.declared.Heard.the-variants.{Record}
 use Rattle.recover.specs.Recover.{collected}
 use Rattle.recover.specs.Records.{stampFor, recordsFor}
+use Rattle.standing.specs.Standing.{isEnded, isStoring}
 use Rattle.session.specs.declared.Session.{Session}
-use Rattle.session.specs.declared.Stage.{Stage}
-use Rattle.session.specs.Session.{isStoring, isEnded, markedOf, endedOf, storingOf, roundOpen, stillOpen, done, refused, clockSpent}
+use Rattle.standing.specs.declared.Stage.{Stage}
+use Rattle.session.specs.Session.{markedOf, endedOf, storingOf, roundOpen, stillOpen, done, refused, clockSpent}
 use Rattle.session.specs.Writer.{Leaves, leaves, newTime, timedOf, timeEnd, timeTurn, writeTurn, acceptedWrite, writeReply}
 use Rattle.session.specs.Reader.{Outcome, outcome, acted, closed, settled, heard, stored, accepted, readReply}
 use Rattle.session.proofs.Closings.{Ways, goes}

@@ -21,11 +21,12 @@ use Rattle.node.specs.declared.Answer as node
 use Rattle.node.specs.declared.Answer.the-variants.{Replied}
 use Rattle.node.specs.declared.Answer.the-variants as node-answers
 use Rattle.node.specs.Node.{NodeCall}
+use Rattle.standing.specs.Standing.{askIn, awaitsIn}
 use Rattle.session.specs.declared.Session.{Session}
 use Rattle.session.specs.declared.Took.{Took}
 use Rattle.session.specs.declared.Answer.{Answer}
 use Rattle.session.specs.declared.Answer.the-variants.{Refused}
-use Rattle.session.specs.declared.Operation.the-variants.{Write, Read}
+use Rattle.standing.specs.declared.Operation.the-variants.{Write, Read}
 use Rattle.session.specs.Session.{askNow, awaitsKind, sessionWith, saidOf}
 use Rattle.session.specs.Reply.{awaited}
 use Rattle.session.specs.Writer.{WriteReplyCall}
@@ -42,7 +43,7 @@ use Rattle.report.proofs.Sendable.{write-sendable, read-sendable}
 -- ---- the session that asked, while its round is open
 -- what is awaited does not go by the marks or the greatest time
 awaited-bare : (s : Session) (g : Time) (f : List ℕ) → awaited s f ≡ awaited (sessionWith (s .operation) (s .round) (s .opening) g (s .stamp) unheards) f
-unfolding awaited askNow awaitsKind
+unfolding awaited askIn awaitsIn
 awaited-bare s g f = refl
 
 still-client : (p : Plan) (s u : Session) (f : List ℕ) → StillAsks s u → AtClient p s f → AtClient p u f

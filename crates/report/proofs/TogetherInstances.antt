@@ -26,14 +26,15 @@ use Rattle.node.specs.declared.Answer.the-variants as node
 use Rattle.node.specs.declared.Made.the-variants.{Fresh}
 use Rattle.node.specs.Fresh.{FreshCall, freshened}
 use Rattle.node.specs.Node.{NodeCall, ServedOutcome, servedOutcome, served, answered, sends, replyTo, replied, bookReplyOk, timeFails, hashFails, otherHeld, noRoom}
+use Rattle.standing.specs.Standing.{askIn, roomOk, roundRules}
 use Rattle.session.specs.declared.Answer.the-variants.{Refused}
-use Rattle.session.specs.declared.Operation.the-variants.{Write, Read}
+use Rattle.standing.specs.declared.Operation.the-variants.{Write, Read}
 use Rattle.session.specs.declared.owed.Owed.the-variants.{Request}
 use Rattle.session.specs.Session.{askNow}
 use Rattle.session.specs.Ranges.{standingRules, openRules, inRange}
 use Rattle.session.specs.Reply.{isHeard}
-use Rattle.session.specs.declared.Stage.the-variants.{Storing}
-use Rattle.session.specs.Owed.{owedLadder, written, roomOk, requestOf, owedTo, OwedCall}
+use Rattle.standing.specs.declared.Stage.the-variants.{Storing}
+use Rattle.session.specs.Owed.{owedLadder, written, requestOf, owedTo, OwedCall}
 use Rattle.session.specs.Writer.{WriteReplyCall}
 use Rattle.session.specs.Reader.{ReadReplyCall}
 use Rattle.store.specs.History.{OfCalls}
@@ -76,8 +77,8 @@ taken n = served plan (request n) book (replicate 152 0)
 
 -- ---- the write
 owed-write : OwedCall plan writes.write-round 2 desk-full (replicate 152 0) (Request 152) (request 6)
-unfolding request stamp-bytes hash good desk-full plan owedTo first planOk countsOk limitsOk columnOf all recordLength roomOk inRange standingRules openRules heardCount every isHeard
-    requestOf askNow over num numFrom part be beOnto stampAt
+unfolding request stamp-bytes hash good desk-full plan owedTo first planOk countsOk limitsOk columnOf all recordLength roomOk inRange standingRules roundRules openRules heardCount every isHeard
+    requestOf askIn over num numFrom part be beOnto stampAt
 owed-write = record { is = refl }
 
 whole : take 152 (request 6) ≡ request 6
@@ -141,8 +142,8 @@ write-exchanged =
 
 -- ---- the read: its repair round owes node 2 the same record, with the next ask number
 owed-repair : OwedCall plan reads.repair-round 2 desk-full (replicate 152 0) (Request 152) (request 7)
-unfolding request stamp-bytes hash good desk-good desk-full poor desk-poor plan owedTo first planOk countsOk limitsOk columnOf all recordLength roomOk inRange standingRules openRules heardCount
-    every isHeard requestOf askNow over num numFrom part be beOnto stampAt
+unfolding request stamp-bytes hash good desk-good desk-full poor desk-poor plan owedTo first planOk countsOk limitsOk columnOf all recordLength roomOk inRange standingRules roundRules openRules heardCount
+    every isHeard requestOf askIn over num numFrom part be beOnto stampAt
 owed-repair = record { is = refl }
 
 whole-repair : take 152 (request 7) ≡ request 7

@@ -22,8 +22,9 @@ use Rattle.terms.specs.Stamp.{stampNumber}
 use Rattle.terms.specs.declared.Plan.{Plan}
 use Rattle.frame.specs.Frame.{frameNode, bodyOf}
 use Rattle.session.specs.declared.Session.{Session}
-use Rattle.session.specs.declared.Stage.the-variants.{Storing}
-use Rattle.session.specs.Session.{isAsking, isStoring, Said, refused, stillOpen, done, neverWritten, aborted, roundsSpent, clockSpent, saidOf}
+use Rattle.standing.specs.declared.Stage.the-variants.{Storing}
+use Rattle.standing.specs.Standing.{isAsking, isStoring}
+use Rattle.session.specs.Session.{Said, refused, stillOpen, done, neverWritten, aborted, roundsSpent, clockSpent, saidOf}
 use Rattle.session.specs.Reply.{bears, readLadder}
 use Rattle.store.specs.History.{Call}
 use Rattle.client.specs.Turns.{Turn}

@@ -19,14 +19,14 @@ use Rattle.terms.specs.declared.Refusal.{Refusal}
 use Rattle.frame.specs.Frame.{oneOf}
 use Rattle.record.specs.Record.{crossOf}
 use Rattle.record.specs.Desk.{slotOf, fragmentIn, crossMade}
+use Rattle.standing.specs.Standing.{isStoring}
 use Rattle.session.specs.declared.Session.{Session}
-use Rattle.session.specs.declared.Operation.{Operation}
+use Rattle.standing.specs.declared.Operation.{Operation}
 use Rattle.session.specs.declared.opening.Opened.{Opened}
 use Rattle.session.specs.declared.opening.Opening.the-variants.{Accepted}
 use Rattle.session.specs.declared.owed.Owed.the-variants.{Request}
 use Rattle.session.specs.Opening.{OpenCall}
 use Rattle.session.specs.Owed.{OwedCall}
-use Rattle.session.specs.Session.{isStoring}
 use Rattle.client.specs.Sessions.{lastSession, lastDesk}
 use Rattle.client.specs.Turns.{Turn, Calls}
 

@@ -17,9 +17,10 @@ use Rattle.terms.specs.Stamp.{time, stampNumber, top}
 use Rattle.terms.specs.declared.Plan.{Plan}
 use Rattle.frame.specs.Frame.{frameNode, bodyOf}
 use Rattle.session.specs.declared.Session.{Session}
-use Rattle.session.specs.declared.Stage.the-variants.{Storing}
-use Rattle.session.specs.declared.Operation.the-variants.{Write}
-use Rattle.session.specs.Session.{isStoring, Said, refused, stillOpen, done, neverWritten, aborted, roundsSpent, clockSpent, saidOf}
+use Rattle.standing.specs.declared.Stage.the-variants.{Storing}
+use Rattle.standing.specs.declared.Operation.the-variants.{Write}
+use Rattle.standing.specs.Standing.{isStoring}
+use Rattle.session.specs.Session.{Said, refused, stillOpen, done, neverWritten, aborted, roundsSpent, clockSpent, saidOf}
 use Rattle.session.specs.Reply.{replyLadder}
 use Rattle.report.specs.Triple.{null, MAX}
 use Rattle.report.specs.Figure2.{enough, in-set, Clock, clocks, Times, acknowledged, ts-written, WRITE}

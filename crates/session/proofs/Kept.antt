@@ -24,12 +24,13 @@ use Rattle.rounds.specs.declared.Heard.{Heard}
 use Rattle.rounds.specs.declared.Heard.the-variants.{Record}
 use Rattle.session.specs.declared.Session.{Session}
 use Rattle.session.specs.declared.Took.{Took}
-use Rattle.session.specs.declared.Operation.{Operation}
+use Rattle.standing.specs.declared.Operation.{Operation}
 use Rattle.session.specs.declared.opening.Opened.{Opened}
 use Rattle.session.specs.declared.opening.Opening.the-variants.{Accepted}
 use Rattle.session.specs.Opening.{OpenCall}
-use Rattle.session.specs.declared.Operation.the-variants.{Write}
-use Rattle.session.specs.Session.{isStoring, readRound, withGreatest, withMarks, markedOf, endedOf, storingOf, refused, stillOpen, done, clockSpent, roundOpen, isRead}
+use Rattle.standing.specs.declared.Operation.the-variants.{Write}
+use Rattle.standing.specs.Standing.{isStoring, isRead}
+use Rattle.session.specs.Session.{readRound, withGreatest, withMarks, markedOf, endedOf, storingOf, refused, stillOpen, done, clockSpent, roundOpen}
 use Rattle.session.specs.Ranges.{inRange}
 use Rattle.session.specs.Reply.{replyLadder}
 use Rattle.recover.specs.Records.{crossFor, stampFor, recordsFor}

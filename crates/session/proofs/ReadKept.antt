@@ -21,10 +21,11 @@ use Rattle.rounds.specs.Rounds.{underOf, slotsFit}
 use Rattle.rounds.proofs.Closes.{candidate}
 use Rattle.session.specs.declared.Session.{Session}
 use Rattle.session.specs.declared.Took.{Took}
-use Rattle.session.specs.declared.Stage.{Stage}
-use Rattle.session.specs.declared.Stage.the-variants.{Asking, Storing, Ended}
-use Rattle.session.specs.declared.Operation.the-variants.{Read}
-use Rattle.session.specs.Session.{isRead, isAsking, isStoring, isEnded, markedOf, endedOf, nextOf, refused, stillOpen, done, roundOpen}
+use Rattle.standing.specs.declared.Stage.{Stage}
+use Rattle.standing.specs.declared.Stage.the-variants.{Asking, Storing, Ended}
+use Rattle.standing.specs.declared.Operation.the-variants.{Read}
+use Rattle.standing.specs.Standing.{isRead, isAsking, isStoring, isEnded}
+use Rattle.session.specs.Session.{markedOf, endedOf, nextOf, refused, stillOpen, done, roundOpen}
 use Rattle.session.specs.Reply.{bears, replyLadder, recordLadder}
 use Rattle.recover.specs.Recover.{collected}
 use Rattle.session.specs.Reader.{Outcome, outcome, acted, closed, settled, heard, stored, accepted, readReply, ReadReplyCall}

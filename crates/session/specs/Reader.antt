@@ -29,7 +29,8 @@ use Rattle.rounds.specs.Rounds.{Closed, closeOf}
 use Rattle.recover.specs.Recover.{sound, decoded, collected, repaired, Usable}
 use Rattle.session.specs.declared.Session.{Session}
 use Rattle.session.specs.declared.Took.{Took}
-use Rattle.session.specs.Session.{isStoring, roundOpen, markedOf, endedOf, nextOf, storingOf, Said, refused, stillOpen, done, neverWritten, aborted, roundsSpent, saidOf}
+use Rattle.standing.specs.Standing.{isStoring}
+use Rattle.session.specs.Session.{roundOpen, markedOf, endedOf, nextOf, storingOf, Said, refused, stillOpen, done, neverWritten, aborted, roundsSpent, saidOf}
 use Rattle.session.specs.Reply.{bears, readLadder}
 
 pub record Outcome : Type 0 where

@@ -23,8 +23,9 @@ use Rattle.recover.specs.Records.{stampFor, recordsFor}
 use Rattle.rounds.specs.declared.Heard.the-variants.{Record}
 use Rattle.session.specs.declared.Session.{Session}
 use Rattle.session.specs.declared.Took.{Took}
-use Rattle.session.specs.declared.Operation.the-variants.{Write}
-use Rattle.session.specs.Session.{isStoring, roundOpen, withGreatest, withMarks, markedOf, endedOf, storingOf, Said, refused, stillOpen, done, clockSpent, saidOf}
+use Rattle.standing.specs.declared.Operation.the-variants.{Write}
+use Rattle.standing.specs.Standing.{isStoring}
+use Rattle.session.specs.Session.{roundOpen, withGreatest, withMarks, markedOf, endedOf, storingOf, Said, refused, stillOpen, done, clockSpent, saidOf}
 use Rattle.session.specs.Reply.{replyLadder}
 
 -- ---- times

@@ -32,7 +32,8 @@ use Rattle.rounds.specs.Rounds.{heardCount, every, slotStamp, aheadOf, stepOf, 
 use Rattle.recover.specs.Records.{crossFor, stampFor}
 use Rattle.session.specs.Session.{askNow, awaitsKind, done}
 use Rattle.session.specs.Ranges.{standingRules, openRules, inRange}
-use Rattle.session.specs.Reply.{lengthsOk, awaited, isHeard, bears, readLadder}
+use Rattle.standing.specs.Standing.{lengthsOk, askIn, awaitsIn, roundRules}
+use Rattle.session.specs.Reply.{awaited, isHeard, bears, readLadder}
 use Rattle.client.specs.Endings.{afterReply, deskAfter, size}
 use Rattle.client.specs.Held.{EverySlot, Held, ReadDone, SetCloses, setValid}
 use Rattle.client.specs.SameStamp.{Unlike, NoClash, ItemsUnlike}
@@ -238,8 +239,8 @@ written-so =
 -- ---- and so the set of the other read's round 2 validates
 module _ where
   pub none-so : None (readLadder plan second-heard reply-4 desk-good 1)
-  unfolding reply-4 hash stamp-bytes good desk-good desk-poor poor plan planOk countsOk limitsOk columnOf all recordLength lengthsOk inRange standingRules openRules heardCount every
-      slotsFit slotFits slotStamp underOf num numFrom part goodReply goodFrame suits shaped forParty oneOf bodyFits awaited askNow awaitsKind isHeard bears be beOnto
+  unfolding reply-4 hash stamp-bytes good desk-good desk-poor poor plan planOk countsOk limitsOk columnOf all recordLength lengthsOk inRange standingRules roundRules openRules heardCount every
+      slotsFit slotFits slotStamp underOf num numFrom part goodReply goodFrame suits shaped forParty oneOf bodyFits awaited askIn awaitsIn isHeard bears be beOnto
       stampAt stampNumber then
   none-so = (refl, (refl, (refl, (refl, (refl, (refl, (refl, (refl, (refl, (refl, tt))))))))))
 

@@ -18,11 +18,12 @@ use Rattle.record.specs.Desk.{row, crossMade}
 use Rattle.rounds.specs.declared.Heard.the-variants.{First}
 use Rattle.rounds.specs.Rounds.{heardCount, every, slotStamp, slotsFit, slotFits, underOf, leadOf, stepOf, aheadOf, joinsOf, setOf, closeWith}
 use Rattle.recover.specs.Recover.{validates, sound}
+use Rattle.standing.specs.Standing.{askIn, awaitsIn, lengthsOk, roundRules}
 use Rattle.session.specs.declared.Answer.the-variants.{Open}
 use Rattle.session.specs.declared.Session.{Session}
 use Rattle.session.specs.Session.{askNow, awaitsKind, markedOf, isRefused}
 use Rattle.session.specs.Ranges.{standingRules, openRules, inRange}
-use Rattle.session.specs.Reply.{lengthsOk, awaited, isHeard, bears}
+use Rattle.session.specs.Reply.{awaited, isHeard, bears}
 use Rattle.session.specs.Reader.{Outcome, actOn, actFor, settled, heard, accepted, failing, readReply, ReadReplyCall}
 use Rattle.client.specs.Turns.{Turn, ReadTurn, Calls}
 use Rattle.client.specs.Round.{roundAt, SameReplies, answersOf, leftBy}
@@ -41,13 +42,13 @@ abbrev pub turned-2 : Turn
 turned-2 = turn reply-1 Open second-round desk-poor (0 ∷ [])
 
 met-first : ReadReplyCall plan start reply-2 desk (0 ∷ []) (turned-1 .took) desk (0 ∷ [])
-unfolding reply-2 desk plan readReply first planOk countsOk limitsOk columnOf all recordLength lengthsOk inRange standingRules openRules heardCount every slotsFit slotFits slotStamp
-    underOf num numFrom part goodReply goodFrame suits shaped forParty oneOf bodyFits awaited askNow awaitsKind isHeard bears be beOnto accepted heard settled timeZero
+unfolding reply-2 desk plan readReply first planOk countsOk limitsOk columnOf all recordLength lengthsOk inRange standingRules roundRules openRules heardCount every slotsFit slotFits slotStamp
+    underOf num numFrom part goodReply goodFrame suits shaped forParty oneOf bodyFits awaited askIn awaitsIn isHeard bears be beOnto accepted heard settled timeZero
 met-first = record { is = refl }
 
 met-second : ReadReplyCall plan heard-1 reply-1 desk (0 ∷ []) (turned-2 .took) desk-poor (0 ∷ [])
-unfolding reply-1 hash poor desk desk-poor plan readReply first planOk countsOk limitsOk columnOf all recordLength lengthsOk inRange standingRules openRules heardCount every slotsFit
-    slotFits slotStamp underOf num numFrom part goodReply goodFrame suits shaped forParty oneOf bodyFits awaited askNow awaitsKind isHeard bears be beOnto accepted heard settled
+unfolding reply-1 hash poor desk desk-poor plan readReply first planOk countsOk limitsOk columnOf all recordLength lengthsOk inRange standingRules roundRules openRules heardCount every slotsFit
+    slotFits slotStamp underOf num numFrom part goodReply goodFrame suits shaped forParty oneOf bodyFits awaited askIn awaitsIn isHeard bears be beOnto accepted heard settled
     hashesOk timeZero fragmentHash prefixOf alike put stampAt stampNumber then sha256 after compressOf addedOf roundsOf roundOf T1 T2 scheduleOf words padding bigEndian K actFor actOn
     sound failing closeWith leadOf stepOf aheadOf setOf joinsOf decided classOf validates row crossMade regenerated among tabulate value blend weightOf ratio xtime mulN mul square sumPow
     inv div

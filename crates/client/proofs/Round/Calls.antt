@@ -8,7 +8,8 @@ use native.Mathlib.Omega.{arith}
 use lib.ListN.{length}
 use Rattle.terms.specs.declared.Plan.{Plan}
 use Rattle.session.specs.declared.Session.{Session}
-use Rattle.session.specs.Session.{replies, Said, saidOf}
+use Rattle.standing.specs.Standing.{replies}
+use Rattle.session.specs.Session.{Said, saidOf}
 use Rattle.session.specs.Reader.{Outcome, outcome, readReply}
 use Rattle.client.specs.Turns.{Turn, ReadTurn, Calls}
 use Rattle.client.specs.Round.{roundAt, ending, saidInTurn, RoundOpens, Accepted, Acceptable, Each, OneANode, SameReplies, Lent, repliesOf, answersOf, leftBy}

@@ -1,9 +1,9 @@
 // A book of one node: its shape, its last records, the fate of a record that is to be written, and a record put in its place.
 // Document 01, "Records, books, frames" and "The node". A book is a value, its header read once: what goes by it serves any version.
 ghost use mathlib.Core.Path.{_≡_};
-ghost use mathlib.Core.Bool.{Bool, true, false};
-ghost use mathlib.Core.List.{List, []};
-ghost use Prim.Native.Nat.{ℕ, _+_, _*_, _≤_, _<_};
+ghost use mathlib.Core.Bool.{true, false};
+ghost use mathlib.Core.List.{[]};
+ghost use Prim.Native.Nat.{_+_, _*_, _≤_, _<_};
 ghost use lib.ListN.{length, take};
 ghost use lib.Dec.{leb, ltb};
 ghost use Rattle.octets.specs.Bytes.{part, num, over};

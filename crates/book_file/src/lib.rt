@@ -5,8 +5,7 @@
 // comes that is told that it holds the lock of the book (docs/DECISIONS.md, "keeper").
 pub mod say;
 
-ghost use Prim.Native.Nat.{ℕ, _+_, _≤_};
-ghost use mathlib.Core.Path.{_≡_};
+ghost use Prim.Native.Nat.{_+_, _≤_};
 ghost use lib.ListN.{length};
 ghost use Rattle.io.specs.Counts.{Counts};
 

@@ -12,7 +12,6 @@ use crate::walk::records;
 use pasis::store;
 use terms::Ask;
 ghost use mathlib.Core.Path.{_≡_};
-ghost use Prim.Native.Nat.{_≤_};
 ghost use lib.ListN.{length};
 
 // A book, the reply that was written and the answer.

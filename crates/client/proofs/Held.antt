@@ -4,7 +4,7 @@
 --   Found              the item of a read that ended done is decoded from such a set that validates, whether it was complete or repaired
 --   lead-of            a candidate leads the close
 --   run-finds run-slots   so after any calls, of whatever the records that the replies bring have in common
---   every-slot         the slots of the round that is open, after any calls
+--   run-mended every-slot   the desk of a repair round, and the slots of the round that is open, after any calls
 -- Assumes nothing.
 use Prim.{Unit, tt}
 use Prim.Native.Nat.{ℕ, _*_, _≤_}
@@ -302,6 +302,13 @@ module _ (P : ℕ → List ℕ → Type 0) (p : Plan) where
         go Asking e k = k
         go Storing e k = absurd (clash (sym e))
         go Ended e k = absurd (clash (sym e))
+
+    -- the desk of a repair round
+    pub run-mended : (cs : List Turn) → Calls (ReadTurn p) (r .session) d cs → EachTurn (λ (c : Turn). Brings P p (c .reply)) cs
+        → isStoring (lastSession (r .session) cs .round .stage) ≡ true → Mended P p (lastSession (r .session) cs) (lastDesk d cs)
+    run-mended cs h b stores =
+        subst (λ (x : Stage). KeepsAt x P p (lastSession (r .session) cs) (lastDesk d cs)) (at-storing (lastSession (r .session) cs .round .stage) stores)
+        (run-keeps (r .session) d cs start h b)
 
 -- ---- each of some calls is one of them
 each-turn : (P Q : Turn → Type 0) → ((c : Turn) → P c → Q c) → (cs : List Turn) → EachTurn P cs → EachTurn Q cs

@@ -5,3 +5,4 @@ pub mod Repair
 pub mod Stamp
 pub mod Done
 pub mod Round
+pub mod Orders

@@ -151,7 +151,7 @@ module _ (p : Plan) (s : Session) (d : List ℕ) (a : ℕ) (ok : planOk p ≡ tr
           omega (arith, y)
 
   -- its head is that of every node of the set
-  head-is : (k : ℕ) → k < p .n → (q at n : ℕ) → part d (q * recordLength p) (slotsOf p .head) ≡ part d (a * recordLength p) (slotsOf p .head)
+  pub head-is : (k : ℕ) → k < p .n → (q at n : ℕ) → part d (q * recordLength p) (slotsOf p .head) ≡ part d (a * recordLength p) (slotsOf p .head)
       → at + n ≤ slotsOf p .head → part (slotOf p full k) at n ≡ part (slotOf p d q) at n
   head-is k h q at n w u =
       let x : List ℕ = part d (a * recordLength p) (slotsOf p .head) in
@@ -161,7 +161,7 @@ module _ (p : Plan) (s : Session) (d : List ℕ) (a : ℕ) (ok : planOk p ≡ tr
       part-start (slotOf p full k) (slotsOf p .head) at n u ∙ ap (λ (l : List ℕ). part l at n) (new ∙ sym old) ∙ sym (part-start (slotOf p d q) (slotsOf p .head) at n u)
 
   -- its fragment is the one regenerated
-  fragment-held : (k : ℕ) → k < p .n → fragmentIn p full k ≡ fragment-of k
+  pub fragment-held : (k : ℕ) → k < p .n → fragmentIn p full k ≡ fragment-of k
   fragment-held k h =
       ap (λ (l : List ℕ). part l (slotsOf p .head) (p .f)) (repaired-record k h)
       ∙ part-last (part d (a * recordLength p) (slotsOf p .head)) (fragment-of k) (slotsOf p .head) (p .f) long-head (long-regenerated k)

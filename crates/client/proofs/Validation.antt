@@ -62,7 +62,7 @@ module _ (p : Plan) (t : ℕ) (i : List ℕ) (bytes : Octets i) (whole : length 
     slots = set-written p t i bytes whole u e a c stamped
 
     -- what it regenerates is the item's
-    pieces : (k : ℕ) → k < 256 → regenerated e (slotsOf p) qs k ≡ fragment (p .m) (p .f) i k
+    pub pieces : (k : ℕ) → k < 256 → regenerated e (slotsOf p) qs k ≡ fragment (p .m) (p .f) i k
     pieces =
         let l = lowest-so (Fair p t i bytes whole) p u e a c in
         let g = facts p (c .plan) in
@@ -70,7 +70,7 @@ module _ (p : Plan) (t : ℕ) (i : List ℕ) (bytes : Octets i) (whole : length 
         any-fragment (p .m) (slotsOf p) i (omega arith) bytes whole e qs (l .distinct) (all-map (λ z h. omega (arith, n16)) qs (l .below)) (l .few)
         (all-map2 (λ z h s. fragment-in p e z ∙ ap (fragmentOf p) s ∙ written-in p t i (c .plan) bytes whole i whole z h) qs (l .below) slots)
 
-    cross-so : crossOf p (slotOf p e a) ≡ crossFor p i
+    pub cross-so : crossOf p (slotOf p e a) ≡ crossFor p i
     cross-so =
         let l = lowest-so (Fair p t i bytes whole) p u e a c in
         ap (crossOf p) (all-among (λ (z : ℕ). slotOf p e z ≡ slotOf p (recordsFor p t i) z) a qs slots (l .leader))

@@ -5,6 +5,7 @@
 --   valid-as-the-report invalid-as-the-report   when a write request is executed, and when it is turned away
 --   write-as-the-report    a whole write, from its opening, is Figure 2's WRITE
 --   read-as-the-report     a whole read, from its opening, is Figure 3's READ, cut at W
+--   rounds-are-counted     the rounds that a read reports are those that it closed, and at most W
 --   read-requests-as-the-report write-requests-as-the-report   what is sent to a node is what the figures send to it
 --   comes-back written-comes-back   an encoded block comes back from any m of its N fragments; so does what our writer writes
 --   written-read-back      a whole read that ends done with a write's timestamp leaves what was written
@@ -40,9 +41,10 @@ use Rattle.standing.specs.declared.Operation.the-variants.{Write, Read}
 use Rattle.session.specs.Opening.{OpenCall}
 use Rattle.recover.specs.Records.{stampFor, recordsFor}
 use Rattle.store.specs.History.{Call, History, lastBook}
-use Rattle.client.specs.Turns.{Turn, ReadTurn, WriteTurn, Calls}
+use Rattle.client.specs.Turns.{Turn, ReadTurn, WriteTurn, Calls, closedRounds, Reports, lastSaid}
 use Rattle.report.specs.Triple.{Same}
 use Rattle.client.proofs.ComesBack.{block-comes-back}
+use Rattle.client.proofs.Counting.{counted-rounds}
 use Rattle.client.specs.Held.{ReadDone, SetCloses, setValid}
 use Rattle.client.specs.SameStamp.{NoClash, ItemsUnlike}
 use Rattle.client.proofs.SameStamp.{done-comes-back}
@@ -50,7 +52,7 @@ use Rattle.client.proofs.OneItem.{done-of-item, done-one-item, written-one-item
 use Rattle.client.proofs.Validation.{valid-for-all}
 use Rattle.report.specs.Figure1.{INITIALIZE, VALIDATE}
 use Rattle.report.specs.Ours.{history, family, tripleOf}
-use Rattle.report.specs.Run.{OfPlan, received, unpolled, polledOver, AllApart, AllFull, EachTells}
+use Rattle.report.specs.Run.{InBytes, received, unpolled, polledOver, AllApart, AllFull, EachTells}
 use Rattle.report.specs.WriteRun.{untimed, EachWrites, timedOver}
 use Rattle.report.proofs.Plans.{accepted-is, accepted-back}
 use Rattle.report.proofs.Node.{time-acts, latest-acts, previous-acts, write-acts, invalid-acts, valid-executes, fresh-run}
@@ -95,8 +97,8 @@ pub invalid-as-the-report : (p : Plan) (f b y : List ℕ) → Octets f → Octet
 invalid-as-the-report p f b y of ob = invalid-acts p f b y ob of
 
 -- Over any calls, from a fresh book on: the versions that a book holds are those that Figure 1 holds from INITIALIZE on, given every well-shaped write
--- request that 5, 7 and 8 do not bar.
-pub node-over-time : (p : Plan) (node : ℕ) (b b₂ : List ℕ) (cs : List Call) → FreshCall p node b Fresh b₂ → History b₂ cs → OfPlan p cs
+-- request that 5, 7 and 8 do not bar. Each call has a plan of its own: the book fixes N and F, and under others a call changes nothing.
+pub node-over-time : (p : Plan) (node : ℕ) (b b₂ : List ℕ) (cs : List Call) → FreshCall p node b Fresh b₂ → History b₂ cs → InBytes cs
     → Same (history p (lastBook b₂ cs)) (received p node INITIALIZE b₂ cs)
 node-over-time = fresh-run
 
@@ -114,6 +116,12 @@ pub read-as-the-report : (p : Plan) (a : Ask) (r : Opened) (d : List ℕ) (cs : 
     → length d ≡ p .n * recordLength p → Octets d → Calls (ReadTurn p) (r .session) d cs → AllApart p (polledOver p (r .session) d unpolled cs .rounds)
     → EachTells p (r .session) d unpolled cs × AllFull p (polledOver p (r .session) d unpolled cs .rounds)
 read-as-the-report = opened-read
+
+-- "Rounds used are reported with every read ending and never exceed W": from an accepted opening on, whatever replies come, the rounds that the last
+-- answer reports are the read rounds that the calls closed, each at its N-t-th accepted reply (closedRounds), and at most W.
+pub rounds-are-counted : (p : Plan) (a : Ask) (r : Opened) → OpenCall Read p a r → r .answer ≡ Accepted → (d : List ℕ) (t : Turn) (ts : List Turn)
+    → Calls (ReadTurn p) (r .session) d (t ∷ ts) → (n : ℕ) → Reports (lastSaid t ts) n → (n ≡ closedRounds p 0 (r .session) (t ∷ ts)) × (n ≤ p .w)
+rounds-are-counted = counted-rounds
 
 -- In every state that those replies lead to, a request owed to a node S is the frame of what READ has to send to S then, READ_LATEST, READ_PREVIOUS
 -- with the candidate's timestamp, or WRITE with S's own member of the set that is sent; and 11 is for a node that is in the response set.

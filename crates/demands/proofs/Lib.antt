@@ -4,7 +4,9 @@ pub mod Hosts
 pub mod Demand1
 pub mod Refusals
 pub mod Demand2
+pub mod Together
 pub mod Demand3
 pub mod Hosted
 pub mod HostRuns
 pub mod HostInstances
+pub mod Instances

@@ -2,9 +2,9 @@
 // its length alone; the door of a party checks a frame and gives its header as a value. Builders write a header and a body over a buffer
 // and tell the frame's length; bytes past it stay. Ask numbers and times are types of their own here: one is never taken for the other.
 ghost use mathlib.Core.Path.{_≡_};
-ghost use mathlib.Core.Bool.{Bool, true, false};
+ghost use mathlib.Core.Bool.{true, false};
 ghost use mathlib.Core.List.{[]};
-ghost use Prim.Native.Nat.{ℕ, _+_, _≤_, _<_};
+ghost use Prim.Native.Nat.{_+_, _≤_, _<_};
 ghost use lib.ListN.{length};
 ghost use lib.Dec.{leb};
 ghost use Rattle.octets.specs.Bytes.{part, over, be};

@@ -20,7 +20,7 @@ use plan_text::Numeral;
 use plan_text::Reading;
 use terms::Plan;
 use terms::Refusal;
-ghost use Prim.Native.Nat.{ℕ, _≤_};
+ghost use Prim.Native.Nat.{_≤_};
 ghost use Rattle.io.specs.Counts.{Counts};
 ghost use mathlib.Core.Path.{_≡_};
 ghost use mathlib.Core.Bool.{true, false};

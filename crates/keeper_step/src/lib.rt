@@ -1,8 +1,8 @@
 // What one request comes to: the node's call, whether the book is to be stored before the reply goes out, and what is then due. Document 01,
 // "The node". A program over files (keeper) does what this says; nothing here reads or writes a file.
 ghost use mathlib.Core.Path.{_≡_};
-ghost use mathlib.Core.Bool.{true, false};
-ghost use Prim.Native.Nat.{ℕ, _≤_};
+ghost use mathlib.Core.Bool.{false};
+ghost use Prim.Native.Nat.{_≤_};
 ghost use lib.ListN.{length};
 ghost use Rattle.keeper_step.specs.Step.{asksToWrite, Looked, Stepped, dueAfter};
 use frame::Cut;

@@ -1,8 +1,8 @@
 // The storage-node: one request frame against one book, and a fresh book. Document 01, "The node" and "Refusal numbers". Both calls take
 // any input: they check all of it, refuse by the first number that applies, and change no byte then.
 ghost use mathlib.Core.Path.{_≡_};
-ghost use mathlib.Core.Bool.{Bool, true, false};
-ghost use Prim.Native.Nat.{ℕ, _+_, _≤_};
+ghost use mathlib.Core.Bool.{true, false};
+ghost use Prim.Native.Nat.{_+_, _≤_};
 ghost use lib.ListN.{length};
 ghost use Rattle.octets.specs.Bytes.{part, be};
 ghost use Rattle.terms.specs.Terms.{planOk};

@@ -13,7 +13,7 @@
 // What follows a # is a comment; blank lines, and blanks around a name and a value, are nothing. Whether the plan is within its rules is
 // another question, and document 01's refusal 1.
 ghost use mathlib.Core.Path.{_≡_};
-ghost use Prim.Native.Nat.{ℕ, _+_, _-_, _*_, _≤_, _<_};
+ghost use Prim.Native.Nat.{_+_, _-_, _*_, _≤_, _<_};
 ghost use mathlib.Core.List.{_∷_, _++_};
 ghost use lib.ListN.{length, take, drop};
 ghost use Rattle.octets.specs.Bytes.{part, alike};

@@ -1,9 +1,9 @@
 // Records where they lie, and all N of them in a desk. Document 01, "Records, books, frames", "Fragments". A fragment is hashed inside its
 // record: a part of the lent slice that starts in the record's middle is handed on to the hash, and nothing is copied.
 ghost use mathlib.Core.Path.{_≡_};
-ghost use mathlib.Core.Bool.{Bool, true};
+ghost use mathlib.Core.Bool.{true};
 ghost use mathlib.Core.List.{[]};
-ghost use Prim.Native.Nat.{ℕ, _+_, _-_, _*_, _≤_, _<_};
+ghost use Prim.Native.Nat.{_+_, _-_, _*_, _≤_, _<_};
 ghost use lib.ListN.{length, take, drop};
 ghost use Rattle.octets.specs.Bytes.{part, put, be, alike};
 ghost use Rattle.sha256.specs.Sha256.{sha256};

@@ -18,6 +18,7 @@ use Rattle.terms.specs.declared.Ask.{Ask}
 use Rattle.terms.specs.declared.Plan.{Plan}
 use Rattle.terms.specs.declared.Member.the-variants.{Repairable}
 use Rattle.terms.specs.declared.Clients.the-variants.{Byzantine}
+use Rattle.terms.specs.declared.Refusal.the-variants.{WrongBook}
 use Rattle.fragments.specs.Fragments.{among, regenerated}
 use Rattle.frame.specs.Frame.{timeReplyKind, writeRequestKind, readReplyKind, kindOf, frame, goodRequest, shaped, bodyFits, forParty, oneOf, suits, goodFrame, goodReply}
 use Rattle.record.specs.Record.{fragmentHash, hashesOk, timeZero, prefixOf}
@@ -30,7 +31,7 @@ use Rattle.session.specs.declared.Session.{Session}
 use Rattle.standing.specs.declared.Operation.the-variants.{Write, Read}
 use Rattle.session.specs.declared.opening.Opened.{Opened}
 use Rattle.session.specs.declared.opening.Opening.the-variants.{Accepted}
-use Rattle.session.specs.Session.{askNow, awaitsKind, done, stillOpen}
+use Rattle.session.specs.Session.{done, stillOpen}
 use Rattle.session.specs.Opening.{openWith, freshOf, OpenCall}
 use Rattle.session.specs.Ranges.{standingRules, openRules, inRange}
 use Rattle.standing.specs.Standing.{lengthsOk, askIn, awaitsIn, roundRules}
@@ -40,7 +41,7 @@ use Rattle.standing.specs.declared.Stage.the-variants.{Storing}
 use Rattle.session.specs.Writer.{Leaves, leaves, timeEnd, timeTurn, acceptedWrite, writeReply, WriteReplyCall}
 use Rattle.book.specs.Records.{timed, rising, some}
 use Rattle.book.specs.Book.{bookHead, recordsFrom, header, joined, laidAs, laidOut, headed, filled, goodBook}
-use Rattle.node.specs.declared.Answer.the-variants.{Replied}
+use Rattle.node.specs.declared.Answer.the-variants.{Refused, Replied}
 use Rattle.node.specs.Node as node
 use Rattle.node.specs.Node.{NodeCall, served, answered, sends, replyTo, replied, timeFails, hashFails, otherHeld, noRoom}
 use Rattle.node.specs.declared.Made.the-variants.{Fresh}
@@ -246,9 +247,22 @@ pub node-call : Call
 node-call =
     record { plan = plan; request = request; reply = replicate 88 0; answer = Replied 55; bookLeft = taken .book; replyLeft = taken .reply }
 
--- the theorem at this run of one call
-pub node-so : Same (history plan (taken .book)) (received plan 0 INITIALIZE book (node-call ∷ []))
-unfolding node-call
+-- a request under another plan, of N2, for which the fresh book is not: refused 3
+pub other : Plan
+other = record { n = 2; t = 0; b = 0; q = 1; m = 1; f = 1; member = Repairable; clients = Byzantine; w = 1 }
+
+other-said : served other request book (replicate 120 0) ≡ node.servedOutcome (node.refused 3) book (replicate 120 0)
+unfolding other book served first planOk countsOk limitsOk columnOf all recordLength node.bookReplyOk goodBook headed over laidAs header joined num numFrom part be beOnto
+other-said = refl
+
+pub other-call : Call
+other-call =
+    record { plan = other; request = request; reply = replicate 120 0; answer = Refused WrongBook; bookLeft = book; replyLeft = replicate 120 0 }
+
+-- the theorem at a run of two calls, each under a plan of its own
+pub node-so : Same (history plan (taken .book)) (received plan 0 INITIALIZE book (other-call ∷ node-call ∷ []))
+unfolding node-call other-call
 node-so =
-    fresh-run plan 0 (replicate (bookHead 1 + 73) 0) book (node-call ∷ []) made-so (small-octets book book-small, node-met, tt)
-    (refl, small-octets request request-small, tt)
+    fresh-run plan 0 (replicate (bookHead 1 + 73) 0) book (other-call ∷ node-call ∷ []) made-so
+    (small-octets book book-small, record { is = sym other-said }, (small-octets book book-small, node-met, tt))
+    (small-octets request request-small, (small-octets request request-small, tt))

@@ -12,6 +12,11 @@ pub mod Hears
 pub mod Run
 pub mod Write
 pub mod Sent
+pub mod Exchange
+pub mod Sendable
+pub mod StillAsks
+pub mod Together
 pub mod Instances
 pub mod RunInstances
+pub mod TogetherInstances
 pub mod Examples

@@ -1,8 +1,8 @@
 -- WE ACT AS FIGURE 1. A fresh book is INITIALIZE (fresh-acts). The reply to each request is Figure 1's on the node's History (time-acts,
 -- latest-acts, previous-acts, write-acts), and the History after a write is Figure 1's. A refused request leaves the History and sends
 -- nothing (refused-acts), and so does one that VALIDATE turns away (invalid-acts); one that it lets through is executed unless one of the
--- conditions that document 01 adds stands against it (valid-acts). Over any calls the History is the one that Figure 1 holds (node-run,
--- fresh-run). Assumes nothing.
+-- conditions that document 01 adds stands against it (valid-acts). Over any calls, each under a plan of its own, the History is the one that
+-- Figure 1 holds (node-run, fresh-run): a call under another N or F than the book's changes nothing. Assumes nothing.
 use Prim.Native.Nat.{_-_, ℕ, zero, suc, _+_, _*_, _≤_}
 use Prim.{tt}
 use mathlib.Core.Path.{_≡_, refl, sym, ap, _∙_, subst}
@@ -11,13 +11,12 @@ use mathlib.Core.List.{List, [], _∷_}
 use mathlib.Core.Logic.{_⊎_, inl, inr}
 use native.Mathlib.Nat.{suc-mul}
 use native.Mathlib.Omega.{arith}
-use borrow.Author.Tests.{eq-eqb, eqb-true, eqb-false, not-false, not-true, leb-true, ltb-true}
-use lib.Dec.{leb, eqb}
+use borrow.Author.Tests.{eq-eqb, eqb-true, eqb-false, not-false, not-true}
+use lib.Dec.{eqb}
 use lib.ListN.{length, length-drop}
 use Rattle.octets.specs.Bytes.{part, be, over, Octets}
 use Rattle.octets.proofs.Laws.{length-part}
 use Rattle.octets.proofs.Meaning.{octets-part, octets-drop}
-use Rattle.terms.proofs.Down as down
 use Rattle.terms.proofs.Rungs.{both, clash}
 use Rattle.terms.specs.Ladder.{all, None}
 use Rattle.terms.specs.Stamp.{stamp, time}
@@ -29,16 +28,15 @@ use Rattle.frame.specs.Frame.{timeRequestKind, timeReplyKind, writeRequestKind,
 use Rattle.frame.proofs.Frames.{request-is, bytes-3}
 use Rattle.record.specs.Record.{hashesOk, timeZero}
 use Rattle.terms.proofs.Places.{record-length}
-use Rattle.book.specs.Records.{lastOf, lastBelow, holds, kept, timed, rising}
-use Rattle.book.specs.Book.{bookHead, goodBook, nodeOf, recordsFrom, recordsOf, countOf, laidOut}
+use Rattle.book.specs.Records.{lastOf, lastBelow, kept}
+use Rattle.book.specs.Book.{bookHead, goodBook, nodeOf, recordsFrom, recordsOf, countOf}
 use Rattle.book.proofs.Laid as laid
 use Rattle.book.proofs.Laws as books
 use Rattle.node.specs.declared.Answer.the-variants.{Refused, Replied}
 use Rattle.node.specs.declared.Answer.{Answer}
 use Rattle.node.specs.Node.{NodeCall, served, answered, sends, replyTo, saidServed, replied, refused, ServedOutcome, servedOutcome, nodeLadder, bookReplyOk, writes, timeFails, hashFails, otherHeld, noRoom}
 use Rattle.node.specs.declared.Made.the-variants.{Fresh}
-use Rattle.node.specs.Fresh.{FreshCall, FreshOutcome, freshOutcome, made, freshened, freshLadder}
-use Rattle.node.specs.Fresh as fresh
+use Rattle.node.specs.Fresh.{FreshCall}
 use Rattle.node.proofs.Laws as nodes
 use Rattle.store.specs.Deliver.{Among}
 use Rattle.store.specs.History.{Call, History, lastBook}
@@ -46,11 +44,12 @@ use Rattle.store.proofs.Order as order
 use Rattle.store.proofs.One as one
 use Rattle.store.proofs.Node as calls
 use Rattle.store.proofs.Kept as keeps
+use Rattle.store.proofs.Passed.{laid-fresh}
 use Rattle.terms.proofs.Ladders as ladders
 use Rattle.report.specs.Triple.{Triple, each, In, Same}
 use Rattle.report.specs.Figure1.{initial, INITIALIZE, RECEIVE-TIME-REQUEST, VALIDATE, with-it, Written, RECEIVE-WRITE-REQUEST, RECEIVE-READ-LATEST, RECEIVE-READ-PREVIOUS}
 use Rattle.report.specs.Ours.{family, tripleOf, history, timeIn}
-use Rattle.report.specs.Run.{OfPlan, received}
+use Rattle.report.specs.Run.{InBytes, received}
 use Rattle.report.proofs.Triples.{stamp-low, time-in, time-none, validate-is}
 use Rattle.report.proofs.Lists.{same-more, same-trans}
 use Rattle.report.proofs.Latest.{time-of, latest-of, previous-of}
@@ -81,14 +80,6 @@ module _ (p : Plan) where
   of-triples C X [] h k = absurd h
   of-triples C X (x ∷ rs) (inl e) k = k x (order.among-first x x rs refl) e
   of-triples C X (x ∷ rs) (inr h) k = of-triples C X rs h (λ z m e. k z (order.among-later x z rs m) e)
-
-  -- a record that was put among others
-  kept-only : (rec z : List ℕ) (rs : List (List ℕ)) → Among z (kept rec rs) → (rec ≡ z) ⊎ Among z rs
-  kept-only rec z rs h = go (holds rec rs) refl
-    where
-      go : (t : Bool) → holds rec rs ≡ t → (rec ≡ z) ⊎ Among z rs
-      go true e = inr (subst (Among z) (order.kept-held rec rs e) h)
-      go false e = order.insert-only rec z rs (subst (Among z) (order.kept-new rec rs e) h)
 
   with-record : (rec : List ℕ) (rs ks : List (List ℕ)) → Among rec ks → ((z : List ℕ) → Among z rs → Among z ks)
       → ((z : List ℕ) → Among z ks → (rec ≡ z) ⊎ Among z rs)
@@ -200,7 +191,7 @@ module _ (p : Plan) (f b y : List ℕ) (ob : Octets b) (of : Octets f) where
         record {
           valid = rw v;
           set = rw v (with-record p (bodyOf f) (recordsOf p b) (recordsOf p b₂) h (q .keeps)
-              (λ z m. kept-only p (bodyOf f) z (recordsOf p b) (subst (Among z) e m)));
+              (λ z m. order.kept-only (bodyOf f) z (recordsOf p b) (subst (Among z) e m)));
           sent = rw k at bytes;
         }
 
@@ -228,35 +219,9 @@ module _ (p : Plan) (f b y : List ℕ) (ob : Octets b) (of : Octets f) where
 
 -- ---- a fresh book is INITIALIZE
 module _ (p : Plan) (node : ℕ) (b b₂ : List ℕ) (c : FreshCall p node b Fresh b₂) where
-  abbrev refuse : ℕ → FreshOutcome
-  refuse k = freshOutcome (fresh.refused k) b
-
-  abbrev done : FreshOutcome
-  done = freshOutcome made (over (laidOut p node []) b)
-
-  laid-fresh : one.Laid p node b b₂ []
-  unfolding freshened timed rising
-  laid-fresh =
-      ladders.by-ladder (λ (o : FreshOutcome). freshOutcome made b₂ ≡ o → one.Laid p node b b₂ []) (freshLadder p node b) refuse done
-      (λ k g h. absurd (let s : made ≡ fresh.refused k = ap (λ (o : FreshOutcome). o .answer) h in let z : _≡_ {A = ℕ} 0 1 = cc in omega arith))
-      (λ n h.
-      let l = both (leb (bookHead 1) (length b)) (leb (length b) 65536) (not-false _ (down.clear (freshLadder p node b) n 2)) in
-      let low : bookHead 1 ≤ length b = leb-true _ _ (l .0) in
-      record {
-        plan = not-false _ (down.clear (freshLadder p node b) n 1);
-        low = ltb-true _ _ (not-false _ (down.clear (freshLadder p node b) n 4));
-        high = leb-true _ _ (l .1);
-        bytes = ap (λ (o : FreshOutcome). o .book) h;
-        sizes = tt;
-        times = refl;
-        rise = refl;
-        fits = omega arith;
-      })
-      (c .is)
-
   pub fresh-acts : history p b₂ ≡ INITIALIZE
   unfolding each
-  fresh-acts = ap (λ (rs : List (List ℕ)). initial ∷ each (tripleOf p) rs) (one.is-records laid-fresh)
+  fresh-acts = ap (λ (rs : List (List ℕ)). initial ∷ each (tripleOf p) rs) (one.is-records (laid-fresh p node b b₂ c))
 
 -- ---- a write request that reaches Figure 1
 module _ (p : Plan) (f b y : List ℕ) where
@@ -373,21 +338,71 @@ module _ (p : Plan) (f b y : List ℕ) (ob : Octets b) (of : Octets f) (g : good
           (follows-still p b b₂ H g
           (ap (λ (o : ServedOutcome). o .book) (calls.replied-is p f b y n b₂ y₂ c .1) ∙ one.answered-book p f b y ∙ nodes.after-other p (headerIn f) (bodyOf f) b w) same)
 
--- OVER ANY CALLS A NODE'S HISTORY IS THE ONE THAT FIGURE 1 HOLDS after the write requests that document 01 does not bar
-pub node-run : (p : Plan) (b : List ℕ) (H : List Triple) (cs : List Call) → goodBook p b ≡ true → Same (history p b) H → History b cs → OfPlan p cs
+-- ---- a call under any plan
+-- a plan's N and F are all that a History goes by
+history-bare : (p : Plan) (b : List ℕ) → history p b ≡ history (calls.bare (p .n) (p .f)) b
+unfolding recordLength
+history-bare p b = refl
+
+-- and Figure 1 goes by none of it
+any-family : (p q : Plan) (S : ℕ) (H : List Triple) (X : Triple) → RECEIVE-WRITE-REQUEST (family p) S H X ≡ RECEIVE-WRITE-REQUEST (family q) S H X
+unfolding RECEIVE-WRITE-REQUEST VALIDATE
+any-family p q S H X = refl
+
+module _ (p q : Plan) (f b y : List ℕ) (ob : Octets b) (of : Octets f) (g : goodBook p b ≡ true) (H : List Triple) (same : Same (history p b) H) where
+  abbrev given : Bool → List Triple
+  given t = cond t (RECEIVE-WRITE-REQUEST (family p) (nodeOf b) H (tripleOf p (bodyOf f)) .History) H
+
+  -- the book is not of this plan: the request is refused, and does not reach Figure 1
+  not-reached : goodBook q b ≡ false → reaches q f b y ≡ false
+  not-reached h = go (reaches q f b y) refl
+    where
+      go : (t : Bool) → reaches q f b y ≡ t → t ≡ false
+      go true e = absurd (clash (sym (reached q f b y e .0 .book) ∙ h))
+      go false e = refl
+
+  foreign : goodBook q b ≡ false → (a : Answer) (b₂ y₂ : List ℕ) → NodeCall q f b y a b₂ y₂ → Follows p b b₂ (given (reaches q f b y))
+  foreign h (Refused r) b₂ y₂ c =
+      follows-still p b b₂ _ g (calls.refused-is q f b y r b₂ y₂ c .1) (subst (λ (t : Bool). Same (history p b) (given t)) (sym (not-reached h)) same)
+  foreign h (Replied n) b₂ y₂ c = absurd (clash (sym (calls.clear q f b y (calls.replied-is q f b y n b₂ y₂ c .0) .good) ∙ h))
+
+  -- it is: N and F are the book's, and the call is as one under the book's own plan
+  own-plan : goodBook q b ≡ true → (a : Answer) (b₂ y₂ : List ℕ) → NodeCall q f b y a b₂ y₂ → Follows p b b₂ (given (reaches q f b y))
+  own-plan h a b₂ y₂ c =
+      let e = calls.same-plan q p b h g in
+      let hist : (x : List ℕ) → history q x ≡ history p x = λ x. history-bare q x ∙ (λ i. history (calls.bare (e .0 i) (e .1 i)) x) ∙ sym (history-bare p x) in
+      let X : tripleOf q (bodyOf f) ≡ tripleOf p (bodyOf f) = λ i. tripleOf (calls.bare (e .0 i) (e .1 i)) (bodyOf f) in
+      let G : fed q f b y ob of h H (subst (λ (l : List Triple). Same l H) (sym (hist b)) same) (reaches q f b y) ≡ given (reaches q f b y) =
+      ap (λ (x : Written). cond (reaches q f b y) (x .History) H)
+      (any-family q p (nodeOf b) H (tripleOf q (bodyOf f)) ∙ ap (RECEIVE-WRITE-REQUEST (family p) (nodeOf b) H) X) in
+      let k = call-follows q f b y ob of h H (subst (λ (l : List Triple). Same l H) (sym (hist b)) same) a b₂ y₂ c in
+      record {
+        good = sym (calls.same-good q p b₂ (e .0) (e .1)) ∙ k .good;
+        node = k .node;
+        set = subst (λ (l : List Triple). Same l (given (reaches q f b y))) (hist b₂) (subst (Same (history q b₂)) G (k .set));
+      }
+
+  any-call-follows : (a : Answer) (b₂ y₂ : List ℕ) → NodeCall q f b y a b₂ y₂ → Follows p b b₂ (given (reaches q f b y))
+  any-call-follows = go (goodBook q b) refl
+    where
+      go : (t : Bool) → goodBook q b ≡ t → (a : Answer) (b₂ y₂ : List ℕ) → NodeCall q f b y a b₂ y₂ → Follows p b b₂ (given (reaches q f b y))
+      go true h = own-plan h
+      go false h = foreign h
+
+-- OVER ANY CALLS A NODE'S HISTORY IS THE ONE THAT FIGURE 1 HOLDS after the write requests that document 01 does not bar. Each call has a plan of its
+-- own: the book fixes N and F, and under others a call is refused 1 or 3.
+pub node-run : (p : Plan) (b : List ℕ) (H : List Triple) (cs : List Call) → goodBook p b ≡ true → Same (history p b) H → History b cs → InBytes cs
     → Same (history p (lastBook b cs)) (received p (nodeOf b) H b cs)
 node-run p b H [] g s h o = s
 node-run p b H (c ∷ cs) g s h o =
-    let k : NodeCall p (c .request) b (c .reply) (c .answer) (c .bookLeft) (c .replyLeft) =
-    subst (λ (x : Plan). NodeCall x (c .request) b (c .reply) (c .answer) (c .bookLeft) (c .replyLeft)) (o .0) (h .1) in
-    let q = call-follows p (c .request) b (c .reply) (h .0) (o .1) g H s (c .answer) (c .bookLeft) (c .replyLeft) k in
+    let q = any-call-follows p (c .plan) (c .request) b (c .reply) (h .0) (o .0) g H s (c .answer) (c .bookLeft) (c .replyLeft) (h .1) in
     subst
     (λ (S : ℕ). Same (history p (lastBook (c .bookLeft) cs))
-    (received p S (fed p (c .request) b (c .reply) (h .0) (o .1) g H s (reaches p (c .request) b (c .reply))) (c .bookLeft) cs))
-    (q .node) (node-run p (c .bookLeft) _ cs (q .good) (q .set) (h .2) (o .2))
+    (received p S (given p (c .plan) (c .request) b (c .reply) (h .0) (o .0) g H s (reaches (c .plan) (c .request) b (c .reply))) (c .bookLeft) cs))
+    (q .node) (node-run p (c .bookLeft) _ cs (q .good) (q .set) (h .2) (o .1))
 
 -- and from a fresh book, the one that it holds from INITIALIZE on
-pub fresh-run : (p : Plan) (node : ℕ) (b b₂ : List ℕ) (cs : List Call) → FreshCall p node b Fresh b₂ → History b₂ cs → OfPlan p cs
+pub fresh-run : (p : Plan) (node : ℕ) (b b₂ : List ℕ) (cs : List Call) → FreshCall p node b Fresh b₂ → History b₂ cs → InBytes cs
     → Same (history p (lastBook b₂ cs)) (received p node INITIALIZE b₂ cs)
 fresh-run p node b b₂ cs c h o =
     let i = laid-fresh p node b b₂ c in

@@ -1,28 +1,33 @@
 -- The hypotheses of the theorems on whole runs can be met by a read of two rounds and a repair, and by a write that is done: those of client's
 -- Instances/Read.antt and Instances/Write.antt, call by call from their openings. Instances.antt has runs of one call.
 --   read-repairs-so    READ, of round 1, of both rounds and of the repair; each closed set is what DO_READ gathered for the command to be sent
+--   read-owes-so       round 2 owes what READ has to send, READ_PREVIOUS with the timestamp of the record that did not validate
 --   write-done-so      WRITE, up to done
 -- Assumes nothing.
 use Prim.{tt}
+use Prim.Native.Nat.{ℕ}
 use mathlib.Core.Path.{_≡_, refl, sym, ap, _∙_, subst}
 use mathlib.Core.Bool.{true, false, cond, Bool}
 use mathlib.Core.List.{List, [], _∷_}
 use mathlib.Core.Logic.{inl, inr}
 use borrow.Author.Tests.{eqb-false}
 use lib.Dec.{ltb, eqb}
-use lib.ListN.{length}
-use Rattle.octets.specs.Bytes.{part, num, numFrom, be, beOnto, alike}
+use lib.ListN.{length, replicate}
+use Rattle.octets.specs.Bytes.{part, over, num, numFrom, be, beOnto, alike}
 use Rattle.sha256.specs.Sha256.{sha256, after, compressOf, addedOf, roundsOf, roundOf, T1, T2, scheduleOf, words, padding, bigEndian, K}
-use Rattle.terms.specs.Ladder.{all}
+use Rattle.terms.specs.Ladder.{all, first}
 use Rattle.terms.specs.Stamp.{then, stampAt, stampNumber}
 use Rattle.terms.specs.Terms.{planOk, countsOk, limitsOk, columnOf, recordLength}
-use Rattle.frame.specs.Frame.{shaped, bodyFits, forParty, oneOf, suits, goodFrame, goodReply}
+use Rattle.frame.specs.Frame.{readPreviousKind, frame, shaped, bodyFits, forParty, oneOf, suits, goodFrame, goodReply}
 use Rattle.record.specs.Record.{timeZero}
 use Rattle.rounds.specs.Rounds.{heardCount, every, slotStamp, slotsFit, slotFits, underOf}
-use Rattle.session.specs.Session.{askNow, awaitsKind}
+use Rattle.session.specs.Session.{askNow}
 use Rattle.session.specs.Ranges.{standingRules, openRules, inRange}
-use Rattle.standing.specs.Standing.{lengthsOk, askIn, awaitsIn, roundRules}
-use Rattle.session.specs.Reply.{awaited, bears, readLadder}
+use Rattle.standing.specs.Standing.{lengthsOk, askIn, awaitsIn, roundRules, roomOk, readRequest}
+use Rattle.standing.specs.declared.Stage.the-variants.{Asking}
+use Rattle.session.specs.Reply.{awaited, isHeard, bears, readLadder}
+use Rattle.session.specs.declared.owed.Owed.the-variants.{Request}
+use Rattle.session.specs.Owed.{owedLadder, requestOf, written, owedTo, OwedCall}
 use Rattle.client.specs.Turns.{Turn}
 use Rattle.terms.proofs.Small.{small, small-octets}
 use Rattle.client.proofs.Instances.Read as reads
@@ -34,6 +39,8 @@ use Rattle.report.specs.Run.{Polled, unpolled, messageOf, polls, polledO
 use Rattle.report.specs.WriteRun.{noneOf, isResponse, untimed, EachWrites}
 use Rattle.report.proofs.Run.{Keeps, opened-run, opened-read}
 use Rattle.report.proofs.Write.{opened-write}
+use Rattle.report.specs.Sent.{Commands, inResponseSet, Owes}
+use Rattle.report.proofs.Sent.{read-owes}
 use Rattle.report.specs.Figure1 as figure1
 use Rattle.report.specs.Figure3.{READ-PREVIOUS, Decision, reading, VALIDATE, in-time, has, with-it, receives, DO-READ, READ, gathered, ResponseSet}
 
@@ -114,19 +121,38 @@ desk-small = refl
 apart-first : Apart (ResponseSet (family plan) [] (m2 ∷ m1 ∷ []))
 apart-first = subst Apart (sym set-2) (pair-apart m1 m2 (eqb-false (m1 .Response .ts) (m2 .Response .ts) poor-later))
 
+two-polled : polledOver plan reads.start desk unpolled (reads.call-1 ∷ reads.call-2 ∷ []) ≡ at-rounds first-round []
+two-polled = ap (polls plan reads.first-heard reads.reply-2 desk-poor 1) polls-1 ∙ polls-2
+
+apart-two : AllApart plan (polledOver plan reads.start desk unpolled (reads.call-1 ∷ reads.call-2 ∷ []) .rounds)
+apart-two = subst (λ (w : Polled). AllApart plan (w .rounds)) (sym two-polled) (apart-first, tt)
+
 -- the theorem at the first two calls: READ is to ask for what is before node 0's record, whose cross checksum is not that of its fragments
 asks-previous : READ (family plan) first-round ≡ reading (READ-PREVIOUS (m1 .Response .ts))
 unfolding reads.reply-1 plan bears recordLength poor hash desk-poor num numFrom part be beOnto stampAt stampNumber then
 asks-previous = kept-two .decision
   where
-    two-polled : polledOver plan reads.start desk unpolled (reads.call-1 ∷ reads.call-2 ∷ []) ≡ at-rounds first-round []
-    two-polled = ap (polls plan reads.first-heard reads.reply-2 desk-poor 1) polls-1 ∙ polls-2
-
     kept-two : Keeps plan reads.second-round desk-poor (at-rounds first-round [])
     kept-two =
         subst (Keeps plan reads.second-round desk-poor) two-polled
         (opened-run plan ask reads.opened desk (reads.call-1 ∷ reads.call-2 ∷ []) reads.opened-so refl desk-long (small-octets desk desk-small)
-        (reads.calls .0, (reads.calls .1 .0, tt)) (subst (λ (w : Polled). AllApart plan (w .rounds)) (sym two-polled) (apart-first, tt)) .keeps)
+        (reads.calls .0, (reads.calls .1 .0, tt)) apart-two .keeps)
+
+-- ---- round 2 owes node 1 the request for what is before that record
+unfoldable pub previous : List ℕ
+previous = frame readPreviousKind 1 6 (part poor 0 40)
+
+pub owed-previous : OwedCall plan reads.second-round 1 desk-poor (replicate 152 0) (Request 55) (over previous (replicate 152 0))
+unfolding previous poor hash desk-poor plan owedTo first planOk countsOk limitsOk columnOf all recordLength roomOk inRange standingRules roundRules openRules heardCount every slotsFit slotFits slotStamp
+    underOf isHeard requestOf readRequest askIn over num numFrom part be beOnto stampAt stampNumber then
+owed-previous = record { is = refl }
+
+pub read-owes-so : Owes (Commands plan (READ (family plan) (polledOver plan reads.start desk unpolled (reads.call-1 ∷ reads.call-2 ∷ []) .rounds)) 1 (askNow reads.second-round))
+    (owedLadder plan reads.second-round 1 desk-poor 152) (inResponseSet plan Asking (polledOver plan reads.start desk unpolled (reads.call-1 ∷ reads.call-2 ∷ [])) 1) (written 55)
+    (replicate 152 0) (over previous (replicate 152 0))
+read-owes-so =
+    read-owes plan ask reads.opened desk (reads.call-1 ∷ reads.call-2 ∷ []) reads.opened-so refl desk-long (small-octets desk desk-small) (reads.calls .0, (reads.calls .1 .0, tt)) apart-two 1
+    (replicate 152 0) (Request 55) (over previous (replicate 152 0)) owed-previous
 
 module _ where
   set-3 : ResponseSet (family plan) first-round (m3 ∷ []) ≡ m3 ∷ []

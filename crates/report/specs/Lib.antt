@@ -9,3 +9,4 @@ pub mod Run
 pub mod WriteRun
 pub mod Acts
 pub mod Sent
+pub mod Together

@@ -1,6 +1,6 @@
 -- Whole runs of a node and of a read: calls one after another, each on the book, or the session and the desk, that the one before it handed
 -- back; and what the figures are given from them. Writes are in WriteRun.
---   OfPlan received      the calls of a node under one plan; what Figure 1 makes of them
+--   InBytes received     the requests of a node's calls are bytes; what Figure 1 makes of the calls
 --   Polled messageOf isMessage   what was received in each round of a read; a frame as a message, and which frames are (01)
 --   polls polledOver     what was received after a frame, and after the frames of some calls
 --   Tells EachTells      what an answer says, and that Figure 3's READ says it of the rounds closed so far; the same of each call of a run
@@ -37,17 +37,17 @@ use Rattle.report.specs.Ours.{family, tripleOf, sending}
 use Rattle.report.specs.WriteRun.{noneOf, isResponse}
 
 -- ---- a node
-abbrev pub OfPlan : Plan → List Call → Type 0
-OfPlan p [] = Unit {0}
-OfPlan p (c ∷ cs) = (c .plan ≡ p) × Octets (c .request) × OfPlan p cs
+abbrev pub InBytes : List Call → Type 0
+InBytes [] = Unit {0}
+InBytes (c ∷ cs) = Octets (c .request) × InBytes cs
 
 -- RECEIVE_WRITE_REQUEST for each well-shaped write request that 5, 7 and 8 of document 01 do not bar, whatever was answered; all else leaves the
--- History. The first call is lent the book b, each other what the one before it left.
+-- History. The first call is lent the book b, each other what the one before it left; each has a plan of its own, and p is the book's.
 abbrev pub received : Plan → ℕ → List Triple → (b : List ℕ) → List Call → List Triple
 received p S History b [] = History
 received p S History b (c ∷ cs) =
     received p S
-    (cond (reaches p (c .request) b (c .reply)) (RECEIVE-WRITE-REQUEST (family p) S History (tripleOf p (bodyOf (c .request))) .History) History)
+    (cond (reaches (c .plan) (c .request) b (c .reply)) (RECEIVE-WRITE-REQUEST (family p) S History (tripleOf p (bodyOf (c .request))) .History) History)
     (c .bookLeft) cs
 
 -- ---- reading

@@ -6,7 +6,7 @@ use terms::Thresholds;
 use terms::Timestamp;
 use terms::Verdict;
 ghost use mathlib.Core.Path.{_≡_};
-ghost use Prim.Native.Nat.{ℕ, _+_, _*_, _≤_, _<_};
+ghost use Prim.Native.Nat.{_+_, _*_, _≤_, _<_};
 ghost use lib.ListN.{length};
 ghost use Rattle.octets.specs.Bytes.{part, num};
 ghost use Rattle.rounds.specs.Rounds.{bitOf, heardAt, heardCount, aheadOf, stepOf, leadOf, leadIn, joinsOf, setOf, addOf, listed, told, closeOf, isUnheard, isNotFirst, restUnheard, noneFirst, underOf, slotFits, slotsFit};

@@ -36,7 +36,7 @@ use Rattle.node.specs.Fresh.{FreshCall, freshened}
 use Rattle.terms.specs.declared.Refusal.the-variants.{OutsidePlan}
 use Rattle.store.proofs.Node as calls
 use Rattle.node.specs.Node.{timeFails, hashFails, served, answered, sends, replyTo, replied, ServedOutcome, servedOutcome, NodeCall, nodeLadder}
-use Rattle.store.specs.Deliver.{Among, passes, acceptedAt, keptAll, gathered, Delivery, sent, delivered, Ready, Delivers, Setting}
+use Rattle.store.specs.Deliver.{Among, passes, acceptedAt, keptAll, gathered, Delivery, sent, delivered, Called, Ready, Delivers, Setting}
 use Rattle.store.specs.History.{Call, History}
 use Rattle.store.proofs.Order as order
 use Rattle.store.proofs.One as one
@@ -243,18 +243,114 @@ ready =
       room = rw (g, r-is) (omega arith);
     }
 
--- ---- two runs
-pub brought : ℕ → Delivery
-brought t = record { node = 0; request = request t; reply = zeros 88 }
-
-pub first-run : List Delivery
-first-run = brought 1 ∷ brought 2 ∷ []
-
-pub second-run : List Delivery
-second-run = brought 2 ∷ brought 1 ∷ brought 2 ∷ []
-
+-- ---- calls that acknowledge
 roomy : longest 1 plan ≤ length (zeros 88)
 roomy = rw r-is (omega (arith, length-zeros 88))
+
+alone : (x : List ℕ) → length (kept x []) ≤ 1
+unfolding keptAll
+alone x = let a = kept-most (x ∷ []) [] in omega arith
+
+two : (x y : List ℕ) → length (kept y (kept x [])) ≤ 2
+unfolding keptAll
+two x y = let a = kept-most (x ∷ y ∷ []) [] in omega arith
+
+-- a book over the same bytes, in which no record is another than the two of the set
+record Takes (b : List ℕ) (rs : List (List ℕ)) : Type 0 where
+  laid : one.Laid plan 0 (zeros room) b rs
+  of : (z : List ℕ) → Among z rs → (record-of 1 ≡ z) ⊎ (record-of 2 ≡ z)
+
+takes-fresh : Takes book []
+takes-fresh = record { laid = fresh; of = λ z h. absurd (order.among-none z h) }
+
+-- what a call at such a book leaves, and how it answers
+pub left-of : ℕ → List ℕ → ServedOutcome
+left-of t b = served plan (request t) b (zeros 88)
+
+module _ (t : ℕ) (low : 0 < t) (high : t < 256) (is : (record-of 1 ≡ record-of t) ⊎ (record-of 2 ≡ record-of t)) (b : List ℕ) (rs : List (List ℕ)) (q : Takes b rs)
+    (few : length (kept (record-of t) rs) ≤ 2) where
+  body : bodyOf (request t) ≡ record-of t
+  body = body-is t low high
+
+  own : one.Own (bodyOf (request t)) rs
+  own z h e = one-each z (record-of t) (q .of z h) is (e ∙ ap (λ (x : List ℕ). stamp x) body) ∙ sym body
+
+  fits : bookHead 1 + length (kept (bodyOf (request t)) rs) * recordLength plan ≤ length (zeros room)
+  fits = rw (body, r-is) (omega (arith, few, length-zeros room))
+
+  reply-length : answered plan (headerIn (request t)) (bodyOf (request t)) b (zeros 88) .answer ≡ replied (framed 1 40)
+  unfolding answered sends replyTo
+  reply-length =
+      let k : kindOf (request t) ≡ writeRequestKind = kind-is t low high in
+      let l : length (bodyOf (request t)) ≡ 73 = ap length body ∙ length-record t in
+      rw (ne-eqb (kindOf (request t)) timeRequestKind (λ z. omega arith), eq-eqb (kindOf (request t)) writeRequestKind k)
+      (ap (λ (n : ℕ). replied (framed 1 n)) (length-part (bodyOf (request t)) 0 40 (omega arith)))
+
+  acknowledges : NodeCall plan (request t) b (zeros 88) (Replied (framed 1 40)) (left-of t b .book) (left-of t b .reply)
+  unfolding left-of
+  acknowledges =
+      let s = one.served-is (q .laid) (request t) (zeros 88) roomy (passing t low high) own fits in
+      record { is = λ i. servedOutcome ((sym (ap (λ (x : ServedOutcome). x .answer) s ∙ reply-length)) i) (left-of t b .book) (left-of t b .reply) }
+
+  takes-more : Takes (left-of t b .book) (kept (record-of t) rs)
+  unfolding left-of
+  takes-more =
+      let l = one.deliver-one (q .laid) (request t) (zeros 88) roomy (passing t low high) own fits in
+      let k = order.kept-is rs (record-of t) (q .laid .rise) (λ z h e. own z h (e ∙ ap (λ (x : List ℕ). stamp x) (sym body)) ∙ body) in
+      record { laid = subst (λ (x : List ℕ). one.Laid plan 0 (zeros room) (left-of t b .book) (kept x rs)) body l; of = λ z h. back z (k .only z h) }
+    where
+      back : (z : List ℕ) → (record-of t ≡ z) ⊎ Among z rs → (record-of 1 ≡ z) ⊎ (record-of 2 ≡ z)
+      back z (inl e) = go is
+        where
+          go : (record-of 1 ≡ record-of t) ⊎ (record-of 2 ≡ record-of t) → (record-of 1 ≡ z) ⊎ (record-of 2 ≡ z)
+          go (inl a) = inl (a ∙ e)
+          go (inr a) = inr (a ∙ e)
+      back z (inr h) = q .of z h
+
+-- ---- two runs of calls
+pub brought : ℕ → List ℕ → Delivery
+brought t b =
+    record { node = 0; request = request t; reply = zeros 88; answer = Replied (framed 1 40); bookLeft = left-of t b .book; replyLeft = left-of t b .reply }
+
+pub first-run : List Delivery
+first-run = brought 1 book ∷ brought 2 (left-of 1 book .book) ∷ []
+
+pub second-run : List Delivery
+second-run = brought 2 book ∷ brought 1 (left-of 2 book .book) ∷ brought 2 (left-of 1 (left-of 2 book .book) .book) ∷ []
+
+after-1 : Takes (left-of 1 book .book) (kept (record-of 1) [])
+after-1 = takes-more 1 (omega arith) (omega arith) (inl refl) book [] takes-fresh (omega (arith, alone (record-of 1)))
+
+after-2 : Takes (left-of 2 book .book) (kept (record-of 2) [])
+after-2 = takes-more 2 (omega arith) (omega arith) (inr refl) book [] takes-fresh (omega (arith, alone (record-of 2)))
+
+after-21 : Takes (left-of 1 (left-of 2 book .book) .book) (kept (record-of 1) (kept (record-of 2) []))
+after-21 = takes-more 1 (omega arith) (omega arith) (inl refl) (left-of 2 book .book) (kept (record-of 2) []) after-2 (two (record-of 2) (record-of 1))
+
+-- the repeat is held already
+held-2 : length (kept (record-of 2) (kept (record-of 1) (kept (record-of 2) []))) ≤ 2
+held-2 =
+    let own : one.Own (record-of 1) (kept (record-of 2) []) = (λ z h e. one-each z (record-of 1) (after-2 .of z h) (inl refl) e) in
+    let k = order.kept-is (kept (record-of 2) []) (record-of 1) (after-2 .laid .rise) own in
+    let j = order.kept-is [] (record-of 2) (fresh .rise) (λ z h e. absurd (order.among-none z h)) in
+    rw (order.kept-held (record-of 2) (kept (record-of 1) (kept (record-of 2) [])) (k .keeps (record-of 2) (j .has))) (two (record-of 2) (record-of 1))
+
+first-calls : Called plan books first-run
+unfolding first-run brought books
+first-calls = (
+  acknowledges 1 (omega arith) (omega arith) (inl refl) book [] takes-fresh (omega (arith, alone (record-of 1))),
+  (acknowledges 2 (omega arith) (omega arith) (inr refl) (left-of 1 book .book) (kept (record-of 1) []) after-1 (two (record-of 1) (record-of 2)), tt),
+)
+
+second-calls : Called plan books second-run
+unfolding second-run brought books
+second-calls = (
+  acknowledges 2 (omega arith) (omega arith) (inr refl) book [] takes-fresh (omega (arith, alone (record-of 2))),
+  (
+    acknowledges 1 (omega arith) (omega arith) (inl refl) (left-of 2 book .book) (kept (record-of 2) []) after-2 (two (record-of 2) (record-of 1)),
+    (acknowledges 2 (omega arith) (omega arith) (inr refl) (left-of 1 (left-of 2 book .book) .book) (kept (record-of 1) (kept (record-of 2) [])) after-21 held-2, tt),
+  ),
+)
 
 first-delivers : Delivers plan set first-run 0
 unfolding first-run brought sent set
@@ -280,40 +376,24 @@ at-zero P h (suc i) l = absurd (omega arith)
 pub given-first : Setting plan books set first-run
 unfolding plan
 given-first =
-    record { plan = accepted-plan; ready = at-zero (Ready plan books set) ready; delivers = at-zero (Delivers plan set first-run) first-delivers }
+    record { plan = accepted-plan; ready = at-zero (Ready plan books set) ready; delivers = at-zero (Delivers plan set first-run) first-delivers; calls = first-calls }
 
 pub given-second : Setting plan books set second-run
 unfolding plan
 given-second =
-    record { plan = accepted-plan; ready = at-zero (Ready plan books set) ready; delivers = at-zero (Delivers plan set second-run) second-delivers }
+    record { plan = accepted-plan; ready = at-zero (Ready plan books set) ready; delivers = at-zero (Delivers plan set second-run) second-delivers; calls = second-calls }
 
-pub same-bytes : delivered plan first-run books 0 ≡ delivered plan second-run books 0
+pub same-bytes : delivered first-run books 0 ≡ delivered second-run books 0
 unfolding plan
 same-bytes = theorems.any-order plan books set first-run second-run given-first given-second 0 (omega arith)
 
--- ---- a call that acknowledges
-alone : (x : List ℕ) → length (kept x []) ≤ 1
-unfolding keptAll
-alone x = let a = kept-most (x ∷ []) [] in omega arith
-
-reply-length : answered plan (headerIn (request 1)) (bodyOf (request 1)) book (zeros 88) .answer ≡ replied (framed 1 40)
-unfolding answered sends replyTo
-reply-length =
-    let k : kindOf (request 1) ≡ writeRequestKind = kind-is 1 (omega arith) (omega arith) in
-    let l : length (bodyOf (request 1)) ≡ 73 = ap length (body-is 1 (omega arith) (omega arith)) ∙ length-record 1 in
-    rw (ne-eqb (kindOf (request 1)) timeRequestKind (λ z. omega arith), eq-eqb (kindOf (request 1)) writeRequestKind k)
-    (ap (λ (n : ℕ). replied (framed 1 n)) (length-part (bodyOf (request 1)) 0 40 (omega arith)))
-
+-- ---- a history
 pub left : ServedOutcome
-left = served plan (request 1) book (zeros 88)
+left = left-of 1 book
 
 pub acknowledged : NodeCall plan (request 1) book (zeros 88) (Replied (framed 1 40)) (left .book) (left .reply)
 unfolding left
-acknowledged =
-    let fits : bookHead 1 + length (kept (bodyOf (request 1)) []) * recordLength plan ≤ length (zeros room) = rw r-is
-    (omega (arith, length-zeros room, alone (bodyOf (request 1)))) in
-    let s = one.served-is fresh (request 1) (zeros 88) roomy (passing 1 (omega arith) (omega arith)) (λ z h e. absurd (order.among-none z h)) fits in
-    record { is = λ i. servedOutcome ((sym (ap (λ (x : ServedOutcome). x .answer) s ∙ reply-length)) i) (left .book) (left .reply) }
+acknowledged = acknowledges 1 (omega arith) (omega arith) (inl refl) book [] takes-fresh (omega (arith, alone (record-of 1)))
 
 -- it is a history of one call, and its record is there for good
 pub call : Call

@@ -135,7 +135,7 @@ module _ (p : Plan) (node : ℕ) (b : List ℕ) where
 
 -- ---- the plan at a node
 -- a plan's N and F, and nothing else of it
-abbrev bare : ℕ → ℕ → Plan
+abbrev pub bare : ℕ → ℕ → Plan
 bare n f = record { n = n; t = 0; b = 0; q = 0; m = 0; f = f; member = Repairable; clients = Crash; w = 0 }
 
 -- a call, with the verdict on its plan given

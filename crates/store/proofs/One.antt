@@ -100,7 +100,7 @@ no-other rec (x ∷ rs) g = rw (go (eqb (stamp x) (stamp rec)) refl) (no-other r
     go true e = rw (is-alike x rec (g x (order.among-first x x rs refl) (eqb-true _ _ e)))
     go false e = refl
 
-write-time : (f : List ℕ) → writes (headerIn f) ≡ true → timeFails (headerIn f) (bodyOf f) ≡ false → 1 ≤ time (bodyOf f)
+pub write-time : (f : List ℕ) → writes (headerIn f) ≡ true → timeFails (headerIn f) (bodyOf f) ≡ false → 1 ≤ time (bodyOf f)
 unfolding timeFails timeZero
 write-time f w e =
     let q : eqb (time (bodyOf f)) 0 ≡ false = rw w at e in

@@ -209,6 +209,13 @@ pub kept-new : (x : List ℕ) (rs : List (List ℕ)) → holds x rs ≡ false �
 unfolding kept
 kept-new x rs e = rw e
 
+pub kept-only : (x z : List ℕ) (rs : List (List ℕ)) → Among z (kept x rs) → (x ≡ z) ⊎ Among z rs
+kept-only x z rs h = go (holds x rs) refl
+  where
+    go : (t : Bool) → holds x rs ≡ t → (x ≡ z) ⊎ Among z rs
+    go true e = inr (subst (Among z) (kept-held x rs e) h)
+    go false e = insert-only x z rs (subst (Among z) (kept-new x rs e) h)
+
 pub record Kept (rs : List (List ℕ)) (x : List ℕ) : Type 0 where
   pub up : rising (kept x rs) ≡ true
   pub has : Among x (kept x rs)

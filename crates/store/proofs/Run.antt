@@ -6,6 +6,7 @@ use mathlib.Core.Logic.{_⊎_, inl, inr}
 use Prim.Native.Nat.{ℕ, _+_, _*_, _≤_}
 use native.Mathlib.Nat.{mul-le-mul-right}
 use native.Mathlib.Omega.{arith}
+use borrow.Author.Tests.{eqb-true}
 use lib.ListN.{length}
 use lib.Dec.{eqb}
 use Rattle.terms.specs.Terms.{recordLength}
@@ -15,22 +16,27 @@ use Rattle.book.specs.Book.{bookHead}
 use Rattle.frame.specs.Frame.{bodyOf}
 use Rattle.book.specs.Records.{holds, kept}
 use Rattle.book.proofs.Lists.{length-insert}
-use Rattle.node.specs.Node.{served}
-use Rattle.store.specs.Deliver.{Among, passes, acceptedAt, keptAll, Delivery, sent, delivered, Roomy}
+use Rattle.node.specs.Node.{ServedOutcome, served}
+use Rattle.store.specs.Deliver.{Among, passes, acceptedAt, keptAll, Delivery, sent, booksAfter, delivered, Called, Roomy}
 use Rattle.store.proofs.Order as order
 use Rattle.store.proofs.Order.{Agree, Of}
 use Rattle.store.proofs.One as one
 
--- ---- the book of node i, apart from the others
+-- ---- the book of node i, apart from the others: by their contracts, what its calls leave
 unfoldable pub through : Plan → ℕ → List Delivery → List ℕ → List ℕ
 through p i [] b = b
 through p i (d ∷ ds) b = through p i ds (cond (eqb i (d .node)) (served p (d .request) b (d .reply) .book) b)
 
-pub after-through : (p : Plan) (ds : List Delivery) (books : ℕ → List ℕ) (i : ℕ) → delivered p ds books i ≡ through p i ds (books i)
+pub after-through : (p : Plan) (ds : List Delivery) (books : ℕ → List ℕ) (i : ℕ) → Called p books ds → delivered ds books i ≡ through p i ds (books i)
 unfolding delivered through
-after-through p [] books i = refl
-after-through p (d ∷ ds) books i =
-    after-through p ds (λ (j : ℕ). cond (eqb j (d .node)) (served p (d .request) (books j) (d .reply) .book) (books j)) i
+after-through p [] books i h = refl
+after-through p (d ∷ ds) books i h = after-through p ds (booksAfter d books) i (h .1) ∙ ap (through p i ds) (go (eqb i (d .node)) refl)
+  where
+    go : (t : Bool) → eqb i (d .node) ≡ t → cond t (d .bookLeft) (books i) ≡ cond t (served p (d .request) (books i) (d .reply) .book) (books i)
+    go true e =
+        ap (λ (o : ServedOutcome). o .book) (h .0 .is)
+        ∙ ap (λ (j : ℕ). served p (d .request) (books j) (d .reply) .book) (sym (eqb-true i (d .node) e))
+    go false e = refl
 
 -- ---- requests and the records that they bring
 record From (p : Plan) (node : ℕ) (fs : List (List ℕ)) (z : List ℕ) : Type 0 where

@@ -5,7 +5,8 @@
 --   Among                 z is one of a list
 --   passes, acceptedAt      a request passes the checks of a node; the records of those that do
 --   gathered, finalBook   the old records and the accepted ones, each once, by timestamp; laid out over the old book
---   Delivery sent delivered   a request brought to a node; those that a run brings to one node; the books after a run
+--   Delivery, sent, Called   a request brought to a node, a call; those that a run brings to one node; the calls of a run met their contracts
+--   booksAfter, delivered   the books after a delivery, and after a run of them
 --   Ready, Delivers, Setting   what the demand takes of a node's book and a set, of a run, and of all N
 --   Contents              what it says of the bytes that are left
 -- books i is the book of node i. Assumes nothing.
@@ -25,7 +26,8 @@ use Rattle.terms.specs.declared.Plan.{Plan}
 use Rattle.frame.specs.Frame.{bodyOf, goodRequest, headerIn, longest}
 use Rattle.book.specs.Records.{holds, kept, rising}
 use Rattle.book.specs.Book.{goodBook, laidOut, nodeOf, recordsOf, usedOf, bookHead}
-use Rattle.node.specs.Node.{timeFails, hashFails, writes, served}
+use Rattle.node.specs.declared.Answer.{Answer}
+use Rattle.node.specs.Node.{timeFails, hashFails, writes, NodeCall}
 
 abbrev pub Among : List ℕ → List (List ℕ) → Type 0
 Among z xs = holds z xs ≡ true
@@ -49,21 +51,31 @@ gathered p b fs = keptAll (acceptedAt p (nodeOf b) fs) (recordsOf p b)
 unfoldable pub finalBook : Plan → List ℕ → List (List ℕ) → List ℕ
 finalBook p b fs = over (laidOut p (nodeOf b) (gathered p b fs)) b
 
--- a request frame brought to a node, and the reply buffer lent with it
+-- a request frame brought to a node: a call, with the reply buffer lent to it, its answer and what it left
 pub record Delivery : Type 0 where
   pub node : ℕ
   pub request : List ℕ
   pub reply : List ℕ
+  pub answer : Answer
+  pub bookLeft : List ℕ
+  pub replyLeft : List ℕ
 
 unfoldable pub sent : ℕ → List Delivery → List (List ℕ)
 sent i [] = []
 sent i (d ∷ ds) = cond (eqb i (d .node)) (d .request ∷ sent i ds) (sent i ds)
 
--- each delivery is one call at its node, which by its contract leaves this book there
-unfoldable pub delivered : Plan → List Delivery → (ℕ → List ℕ) → ℕ → List ℕ
-delivered p [] books i = books i
-delivered p (d ∷ ds) books i =
-    delivered p ds (λ (j : ℕ). cond (eqb j (d .node)) (served p (d .request) (books j) (d .reply) .book) (books j)) i
+abbrev pub booksAfter : Delivery → (ℕ → List ℕ) → ℕ → List ℕ
+booksAfter d books i = cond (eqb i (d .node)) (d .bookLeft) (books i)
+
+unfoldable pub delivered : List Delivery → (ℕ → List ℕ) → ℕ → List ℕ
+delivered [] books = books
+delivered (d ∷ ds) books = delivered ds (booksAfter d books)
+
+-- each call met its contract, on the book that the calls before it left at its node
+abbrev pub Called : Plan → (ℕ → List ℕ) → List Delivery → Type 0
+Called p books [] = Unit {0}
+Called p books (d ∷ ds) =
+    NodeCall p (d .request) (books (d .node)) (d .reply) (d .answer) (d .bookLeft) (d .replyLeft) × Called p (booksAfter d books) ds
 
 -- a good book of this node, with room for what the set brings; one timestamp is one record
 pub record Ready (p : Plan) (books : ℕ → List ℕ) (fs : List (List ℕ)) (i : ℕ) : Type 0 where
@@ -96,8 +108,9 @@ pub record Contents (p : Plan) (b : List ℕ) (fs : List (List ℕ)) : Type 0 wh
   pub size : length (finalBook p b fs) ≡ length b
   pub tail : drop (usedOf p (finalBook p b fs)) (finalBook p b fs) ≡ drop (usedOf p (finalBook p b fs)) b
 
--- what the demand takes: an accepted plan, N books that are ready for the set, and a run that delivers it.
+-- what the demand takes: an accepted plan, N books that are ready for the set, and a run of calls that delivers it.
 pub record Setting (p : Plan) (books : ℕ → List ℕ) (fs : List (List ℕ)) (ds : List Delivery) : Type 0 where
   pub plan : planOk p ≡ true
   pub ready : (i : ℕ) → i < p .n → Ready p books fs i
   pub delivers : (i : ℕ) → i < p .n → Delivers p fs ds i
+  pub calls : Called p books ds

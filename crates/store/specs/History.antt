@@ -1,15 +1,23 @@
 -- Calls of a node one after another on one book, each with its own plan, request, reply buffer and outcome, whatever they are.
+--   Call History lastBook   a call with what it was lent and left; calls that met their contracts; the book that the last of them left
+--   After              what is left of a good book
+--   OfCalls            a book that such calls made of a fresh one
+--   AllPass            every record of a book has a time of 1 or more and passes its two hash checks
 -- Assumes nothing.
 use Prim.{Unit}
-use Prim.Native.Nat.{ℕ}
+use Prim.Native.Nat.{ℕ, _≤_}
 use mathlib.Core.Path.{_≡_}
 use mathlib.Core.Bool.{true}
 use mathlib.Core.List.{List, [], _∷_}
 use Rattle.octets.specs.Bytes.{Octets}
+use Rattle.terms.specs.Stamp.{time}
 use Rattle.terms.specs.declared.Plan.{Plan}
+use Rattle.record.specs.Record.{hashesOk}
 use Rattle.node.specs.declared.Answer.{Answer}
+use Rattle.node.specs.declared.Made.the-variants.{Fresh}
+use Rattle.node.specs.Fresh.{FreshCall}
 use Rattle.node.specs.Node.{NodeCall}
-use Rattle.book.specs.Book.{goodBook, recordsOf}
+use Rattle.book.specs.Book.{goodBook, nodeOf, recordsOf}
 use Rattle.store.specs.Deliver.{Among}
 
 -- what a call was lent beside the book, its answer, and what it left
@@ -35,3 +43,15 @@ lastBook b (c ∷ cs) = lastBook (c .bookLeft) cs
 pub record After (p : Plan) (b b₂ : List ℕ) : Type 0 where
   pub good : goodBook p b₂ ≡ true
   pub keeps : (z : List ℕ) → Among z (recordsOf p b) → Among z (recordsOf p b₂)
+
+-- of a plan and a node
+pub record OfCalls (p : Plan) (node : ℕ) (b : List ℕ) : Type 0 where
+  pub lent : List ℕ
+  pub fresh : List ℕ
+  pub makes : FreshCall p node lent Fresh fresh
+  pub calls : List Call
+  pub history : History fresh calls
+  pub is : b ≡ lastBook fresh calls
+
+abbrev pub AllPass : Plan → List ℕ → Type 0
+AllPass p b = (z : List ℕ) → Among z (recordsOf p b) → (1 ≤ time z) × (hashesOk p (nodeOf b) z ≡ true)

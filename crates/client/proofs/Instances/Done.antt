@@ -30,7 +30,7 @@ use Rattle.record.proofs.Desks.{time-made}
 use Rattle.rounds.specs.declared.Lead.the-variants.{Node}
 use Rattle.rounds.specs.Rounds.{heardCount, every, slotStamp, aheadOf, stepOf, leadOf, joinsOf, setOf, underOf, slotFits, slotsFit}
 use Rattle.recover.specs.Records.{crossFor, stampFor}
-use Rattle.session.specs.Session.{askNow, awaitsKind, done}
+use Rattle.session.specs.Session.{done}
 use Rattle.session.specs.Ranges.{standingRules, openRules, inRange}
 use Rattle.standing.specs.Standing.{lengthsOk, askIn, awaitsIn, roundRules}
 use Rattle.session.specs.Reply.{awaited, isHeard, bears, readLadder}

@@ -43,7 +43,7 @@ use Rattle.session.specs.declared.Answer.{Answer}
 use Rattle.session.specs.declared.Answer.the-variants.{Refused, Open, Done}
 use Rattle.session.specs.declared.opening.Opened.{Opened}
 use Rattle.session.specs.declared.opening.Opening.the-variants.{Accepted}
-use Rattle.session.specs.Session.{askNow, awaitsKind, markedOf, nextOf, storingOf, endedOf, refused}
+use Rattle.session.specs.Session.{askNow, markedOf, nextOf, storingOf, endedOf, refused}
 use Rattle.session.specs.Opening.{freshOf, openWith, OpenCall}
 use Rattle.session.specs.Ranges.{standingRules, openRules, inRange}
 use Rattle.standing.specs.Standing.{lengthsOk, sameOperation, askIn, awaitsIn, roundRules}
@@ -284,7 +284,7 @@ rested-so =
 unfoldable pub late : List ℕ
 late = frame readReplyKind 2 5 []
 
-late-met : ReadReplyCall plan second-heard late desk-good (0 ∷ []) (record { answer = Refused NotAwaited; session = second-heard }) desk-good (0 ∷ [])
+pub late-met : ReadReplyCall plan second-heard late desk-good (0 ∷ []) (record { answer = Refused NotAwaited; session = second-heard }) desk-good (0 ∷ [])
 unfolding late hash stamp-bytes good desk-good plan readReply first planOk countsOk limitsOk columnOf all recordLength lengthsOk inRange standingRules roundRules openRules heardCount every
     slotsFit slotFits slotStamp underOf num numFrom part goodReply goodFrame suits shaped forParty oneOf bodyFits awaited askIn awaitsIn be beOnto stampAt stampNumber then
     desk-poor poor

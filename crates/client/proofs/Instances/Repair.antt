@@ -28,7 +28,7 @@ use Rattle.session.specs.declared.Session.{Session}
 use Rattle.session.specs.declared.Took.{Took}
 use Rattle.standing.specs.declared.Operation.the-variants.{Read}
 use Rattle.session.specs.declared.Answer.the-variants.{Open, Done}
-use Rattle.session.specs.Session.{askNow, awaitsKind, withMarks, storingOf, markedOf, endedOf}
+use Rattle.session.specs.Session.{withMarks, storingOf, markedOf, endedOf}
 use Rattle.session.specs.Ranges.{standingRules, openRules, inRange}
 use Rattle.standing.specs.Standing.{lengthsOk, askIn, awaitsIn, roundRules}
 use Rattle.session.specs.Reply.{awaited, isHeard, bears}

@@ -36,7 +36,6 @@ use Rattle.session.specs.declared.Session.{Session}
 use Rattle.standing.specs.declared.Operation.the-variants.{Read}
 use Rattle.session.specs.declared.opening.Opened.{Opened}
 use Rattle.session.specs.declared.opening.Opening.the-variants.{Accepted as Granted}
-use Rattle.session.specs.Session.{askNow, awaitsKind}
 use Rattle.session.specs.Opening.{freshOf, openWith, OpenCall}
 use Rattle.standing.specs.Standing.{lengthsOk, askIn, awaitsIn}
 use Rattle.session.specs.Reply.{awaited, isHeard, bears}

@@ -25,7 +25,7 @@ use Rattle.rounds.specs.Rounds.{heardCount, every, slotStamp, aheadOf, stepOf, 
 use Rattle.recover.specs.Recover.{validates, lowest, sound, decoded}
 use Rattle.session.specs.declared.Session.{Session}
 use Rattle.session.specs.declared.Answer.the-variants.{Open, Done}
-use Rattle.session.specs.Session.{askNow, awaitsKind, markedOf, endedOf}
+use Rattle.session.specs.Session.{markedOf, endedOf}
 use Rattle.session.specs.Ranges.{standingRules, openRules, inRange}
 use Rattle.standing.specs.Standing.{lengthsOk, askIn, awaitsIn, roundRules}
 use Rattle.session.specs.Reply.{awaited, isHeard, bears}

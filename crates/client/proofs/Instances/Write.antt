@@ -27,7 +27,7 @@ use Rattle.session.specs.declared.Answer.{Answer}
 use Rattle.session.specs.declared.Answer.the-variants.{Refused, Open, Done}
 use Rattle.session.specs.declared.opening.Opened.{Opened}
 use Rattle.session.specs.declared.opening.Opening.the-variants.{Accepted}
-use Rattle.session.specs.Session.{askNow, awaitsKind, markedOf, storingOf, endedOf, refused, stillOpen}
+use Rattle.session.specs.Session.{askNow, markedOf, storingOf, endedOf, refused, stillOpen}
 use Rattle.session.specs.Opening.{freshOf, openWith, OpenCall}
 use Rattle.session.specs.Ranges.{standingRules, openRules, inRange}
 use Rattle.standing.specs.Standing.{lengthsOk, askIn, awaitsIn, roundRules}
@@ -134,7 +134,7 @@ pub kept-so : Kept plan ended desk-full
 kept-so = every-session Write plan ask opened opened-so refl desk desk-long (call-1 ∷ call-2 ∷ call-3 ∷ call-4 ∷ []) replies-so
 
 -- ---- node 2 answers the time round late, when the write round has heard node 0: refused 10
-late-met : WriteReplyCall plan once-stored (time-reply 2) desk-full (7 ∷ []) (record { answer = Refused NotAwaited; session = once-stored }) desk-full
+pub late-met : WriteReplyCall plan once-stored (time-reply 2) desk-full (7 ∷ []) (record { answer = Refused NotAwaited; session = once-stored }) desk-full
 unfolding time-reply stamp-bytes hash good desk-full plan writeReply first planOk countsOk limitsOk columnOf all recordLength lengthsOk inRange standingRules roundRules openRules heardCount every
     num numFrom part goodReply goodFrame suits shaped forParty oneOf bodyFits awaited askIn awaitsIn be beOnto stampAt
 late-met = record { is = refl }

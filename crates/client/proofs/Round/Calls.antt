@@ -1,8 +1,10 @@
 -- The third demand for read rounds, of the calls themselves: whatever calls met their contracts, each on the session, the desk and the item
--- that the one before it left (any-order-calls). Assumes nothing.
+-- that the one before it left (any-order-calls); and as the demand is worded, of N-t replies that are acceptable where the round opens, one a
+-- node (any-order-acceptable-calls). Assumes nothing.
 use mathlib.Core.Path.{_≡_, refl, sym, ap, _∙_, subst}
 use mathlib.Core.List.{List, [], _∷_}
 use Prim.Native.Nat.{ℕ, _≤_}
+use native.Mathlib.Omega.{arith}
 use lib.ListN.{length}
 use Rattle.terms.specs.declared.Plan.{Plan}
 use Rattle.session.specs.declared.Session.{Session}
@@ -10,8 +12,8 @@ use Rattle.standing.specs.Standing.{replies}
 use Rattle.session.specs.Session.{Said, saidOf}
 use Rattle.session.specs.Reader.{Outcome, outcome, readReply}
 use Rattle.client.specs.Turns.{Turn, ReadTurn, Calls}
-use Rattle.client.specs.Round.{roundAt, ending, saidInTurn, RoundOpens, Accepted, SameReplies, Lent, repliesOf, answersOf, leftBy}
-use Rattle.client.proofs.Round.AnyOrder.{any-order-read, any-order-answers}
+use Rattle.client.specs.Round.{roundAt, ending, saidInTurn, RoundOpens, Accepted, Acceptable, Each, OneANode, SameReplies, Lent, repliesOf, answersOf, leftBy}
+use Rattle.client.proofs.Round.AnyOrder.{in-turn, any-order-read, any-order-answers}
 
 -- what calls that met their contracts leave and answer is what the definition gives
 calls-are : (p : Plan) (ts : List Turn) (o : Outcome) → Calls (ReadTurn p) (o .session) (o .desk) ts → Lent (o .item) ts
@@ -38,3 +40,11 @@ any-order-calls p s d i ts us q ht lt hu lu few a e =
       y .0 ∙ any-order-read p s d i q (repliesOf ts) (repliesOf us) few b e ∙ sym (x .0),
       y .1 ∙ any-order-answers p s d i q (repliesOf ts) (repliesOf us) few b e ∙ sym (x .1),
     )
+
+-- The same in the customer's words.
+pub any-order-acceptable-calls : (p : Plan) (s : Session) (d i : List ℕ) (ts us : List Turn) → RoundOpens s → Calls (ReadTurn p) s d ts → Lent i ts → Calls (ReadTurn p) s d us
+    → Lent i us → length (repliesOf ts) ≡ replies p → Each (Acceptable p s d i) (repliesOf ts) → OneANode (repliesOf ts) → SameReplies (repliesOf ts) (repliesOf us)
+    → (leftBy (roundAt s d i) us ≡ leftBy (roundAt s d i) ts) × (answersOf us ≡ answersOf ts)
+any-order-acceptable-calls p s d i ts us q ht lt hu lu size a o e =
+    any-order-calls p s d i ts us q ht lt hu lu (omega arith)
+    (subst Accepted (sym (calls-are p ts (roundAt s d i) ht lt .1)) (in-turn p s d i q (repliesOf ts) (omega arith) a o)) e

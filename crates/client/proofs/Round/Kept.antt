@@ -21,7 +21,7 @@ use Rattle.rounds.specs.declared.Mark.{Mark}
 use Rattle.rounds.specs.Rounds.{heardCount, bitOf, markOf, unheard, underOf, slotsFit}
 use Rattle.rounds.proofs.Laws.{count-set, not-heard}
 use Rattle.session.specs.declared.Session.{Session}
-use Rattle.session.specs.Session.{askNow, awaitsKind, markedOf, roundOpen}
+use Rattle.session.specs.Session.{markedOf, roundOpen}
 use Rattle.standing.specs.Standing.{lengthsOk, askIn, awaitsIn}
 use Rattle.session.specs.Reply.{awaited, isHeard, bears}
 use Rattle.standing.proofs.Rules.{lengths-are}

@@ -87,16 +87,16 @@ fn folder_length(path: &[u8]) -> usize
     k
 }
 
-// Waits until the names in a folder are on the disk.
-fn sync_folder(folder: &[u8]) -> bool {
-    let fd = os::open_read(folder);
+// Waits until the bytes of a file, or the names in a folder, are on the disk. Where it answers false a line has said why.
+fn sync_one(path: &[u8]) -> bool {
+    let fd = os::open_read(path);
     if fd < 0 {
-        say::failed(folder);
+        say::failed(path);
         return false;
     }
     let done = libc::fsync(fd) == 0;
     if !done {
-        say::failed(folder);
+        say::failed(path);
     }
     libc::close(fd);
     done
@@ -106,9 +106,18 @@ fn sync_folder(folder: &[u8]) -> bool {
 fn sync_name(path: &[u8]) -> bool {
     let n = folder_length(path);
     if n == 0 {
-        return sync_folder(b".");
+        return sync_one(b".");
     }
-    sync_folder(&path[..n])
+    sync_one(&path[..n])
+}
+
+// Waits until a book that was read is on the disk, its bytes and its name, whoever wrote it. Where another has taken its name since, that one
+// is waited for: it was on the disk before it took the name, and holds all that the one before it held. Where it answers false a line has said why.
+pub fn sync(path: &[u8]) -> bool {
+    if !sync_one(path) {
+        return false;
+    }
+    sync_name(path)
 }
 
 fn clock() -> i64 {

@@ -135,20 +135,31 @@ fn refuse(r: Refusal) -> bool {
     r.number() > 3
 }
 
-// A request that cannot change a book, and its reply.
-fn look_at(p: Plan, request: &[u8], book: &mut [u8]) -> bool
-    requires { ⌜ asksToWrite (now request) ≡ false ⌝ }
-{
-    let mut reply = frame_area();
-    let a = keeper_step::look(p, request, book, &mut reply);
-    match a {
-        Answer::Refused(r) => refuse(r),
-        Answer::Replied(k) => send(&reply, k),
+// Whether a book that a look left is on the disk, where the reply waits for that.
+fn synced(x: Next, path: &[u8]) -> bool {
+    match x {
+        Next::Sync(_) => book_file::sync(path),
+        _ => true,
     }
 }
 
-// A request that cannot change the book: BOOK.new is not asked for, and nothing is written to the disk.
-fn answer_look(p: Plan, path: &[u8], request: &[u8]) -> bool
+// A request that cannot change a book, and its reply, which goes out over a book that is on the disk.
+fn look_at(p: Plan, path: &[u8], durable: bool, request: &[u8], book: &mut [u8]) -> bool
+    requires { ⌜ asksToWrite (now request) ≡ false ⌝ }
+{
+    let mut reply = frame_area();
+    let next = keeper_step::look(p, durable, request, book, &mut reply);
+    let safe = synced(next, path);
+    let due = keeper_step::due_after(next, safe);
+    match due {
+        Due::Say(r) => refuse(r),
+        Due::Reply(k) => send(&reply, k),
+        Due::Nothing => false,
+    }
+}
+
+// A request that cannot change the book: BOOK.new is not asked for, and no byte is written.
+fn answer_look(p: Plan, path: &[u8], durable: bool, request: &[u8]) -> bool
     requires { ⌜ asksToWrite (now request) ≡ false ⌝ }
 {
     let mut area = io::large_buffer();
@@ -157,29 +168,30 @@ fn answer_look(p: Plan, path: &[u8], request: &[u8]) -> bool
         return false;
     }
     let n = got.length;
-    look_at(p, request, &mut area[..n])
+    look_at(p, path, durable, request, &mut area[..n])
 }
 
-// Stores the book that a step left, where it is to be stored, and lets BOOK.new go where not. Whether the book is safe.
+// Stores the book that a step left, where it is to be stored, and lets BOOK.new go where not. Whether the book is on the disk, where the
+// reply waits for that.
 fn keep(x: Next, fd: i32, path: &[u8], book: &[u8]) -> bool {
     match x {
         Next::Store(_) => book_file::store(fd, path, book),
         _ => {
             book_file::let_go(fd, path);
-            true
+            synced(x, path)
         }
     }
 }
 
-// A write request against the book as it is on the disk, while BOOK.new is held: the book that the node leaves is stored, and then the reply
-// goes out.
-fn settle(p: Plan, path: &[u8], fd: i32, request: &[u8], book: &mut [u8]) -> bool
+// A write request against the book as it is in its file, while BOOK.new is held: the book that the node leaves gets to the disk, and then
+// the reply goes out.
+fn settle(p: Plan, path: &[u8], durable: bool, fd: i32, request: &[u8], book: &mut [u8]) -> bool
     requires { ⌜ length (now book) ≤ 65536 ⌝ }
 {
     let mut reply = frame_area();
-    let next = keeper_step::step(p, request, book, &mut reply);
-    let stored = keep(next, fd, path, book);
-    let due = keeper_step::due_after(next, stored);
+    let next = keeper_step::step(p, durable, request, book, &mut reply);
+    let safe = keep(next, fd, path, book);
+    let due = keeper_step::due_after(next, safe);
     match due {
         Due::Say(r) => refuse(r),
         Due::Reply(k) => send(&reply, k),
@@ -188,7 +200,7 @@ fn settle(p: Plan, path: &[u8], fd: i32, request: &[u8], book: &mut [u8]) -> boo
 }
 
 // A write request, once BOOK.new is held.
-fn answer_held(p: Plan, path: &[u8], fd: i32, request: &[u8]) -> bool {
+fn answer_held(p: Plan, path: &[u8], durable: bool, fd: i32, request: &[u8]) -> bool {
     let mut area = io::large_buffer();
     let got = book_file::load(path, &mut area);
     if !got.is {
@@ -196,19 +208,20 @@ fn answer_held(p: Plan, path: &[u8], fd: i32, request: &[u8]) -> bool {
         return false;
     }
     let n = got.length;
-    settle(p, path, fd, request, &mut area[..n])
+    settle(p, path, durable, fd, request, &mut area[..n])
 }
 
-// A request, and whether to go on.
+// A request, and whether to go on. Who holds the lock of the book has had it on the disk at the start, and no other changes it, so that it is
+// still there; who does not knows nothing of a book that another may have changed.
 fn answer(p: Plan, path: &[u8], locked: bool, request: &[u8]) -> bool {
     if !keeper_step::asks_to_write(request) {
-        return answer_look(p, path, request);
+        return answer_look(p, path, locked, request);
     }
     let fd = book_file::hold(path, locked);
     if fd < 0 {
         return false;
     }
-    answer_held(p, path, fd, request)
+    answer_held(p, path, locked, fd, request)
 }
 
 // Whether no more bytes came because the input cannot be read; then a line says so. One that has ended says so again.
@@ -426,13 +439,20 @@ fn run_turns(p: Plan, path: &[u8], locked: bool) {
     }
 }
 
+// The same by who holds the lock of the book, once the book is on the disk: it stays there, since no other changes it.
+fn run_durable(p: Plan, path: &[u8]) {
+    if book_file::sync(path) {
+        run_turns(p, path, true);
+    }
+}
+
 // The requests of the input, by who holds the lock of the book.
 fn run_locked(p: Plan, path: &[u8]) {
     if !is_word(b"locked") {
         usage();
         return;
     }
-    run_turns(p, path, true);
+    run_durable(p, path);
 }
 
 // What these arguments ask for.

@@ -5,6 +5,8 @@
 //     keeper PLAN BOOK locked           so does this, while whoever started it holds the lock of the book (host/keeper-locked)
 //     keeper PLAN BOOK new NODE BYTES   makes a fresh book for node NODE, of BYTES bytes
 //
+// The file BOOK.plan has the plan that the book was made with; one that differs from PLAN but in W is told, and nothing is served.
+//
 // The book is read from its file for each request and kept nowhere else, so that several keepers may serve one book: each reads an old
 // or a new book whole, and only the one that has made the file BOOK.new may change it (crate book_file).
 use book::Shape;
@@ -18,6 +20,8 @@ use node::Answer;
 use node::Made;
 use plan_text::Numeral;
 use plan_text::Reading;
+use terms::Clients;
+use terms::Member;
 use terms::Plan;
 use terms::Refusal;
 ghost use Prim.Native.Nat.{ℕ, _≤_};
@@ -312,23 +316,29 @@ fn book_ok(p: Plan, path: &[u8]) -> bool {
     good(p, &area[..n])
 }
 
+fn say_made() {
+    if !io::write_all(STDOUT_FILENO, b"made\n") {
+        say::failed(b"standard output");
+    }
+}
+
 // A fresh book on the disk, where nothing has its name.
-fn lay_down(path: &[u8], book: &[u8]) {
+fn lay_down(path: &[u8], book: &[u8], text: &[u8]) {
     let fd = book_file::hold(path, false);
     if fd < 0 {
         return;
     }
-    if book_file::make(fd, path, book) {
-        io::write_all(STDOUT_FILENO, b"made\n");
+    if book_file::make(fd, path, book, text) {
+        say_made();
     }
 }
 
 // A fresh book, and its file.
-fn fill(p: Plan, path: &[u8], node: u64, book: &mut [u8]) {
+fn fill(p: Plan, path: &[u8], text: &[u8], node: u64, book: &mut [u8]) {
     let made = node::fresh(p, node, book);
     match made {
         Made::Refused(r) => say::refused(r),
-        Made::Fresh => lay_down(path, book),
+        Made::Fresh => lay_down(path, book, text),
     }
 }
 
@@ -342,17 +352,17 @@ fn too_large(p: Plan) {
 }
 
 // The first bytes of an area of zeros are the book.
-fn make(p: Plan, path: &[u8], node: u64, bytes: u64) {
+fn make(p: Plan, path: &[u8], text: &[u8], node: u64, bytes: u64) {
     if bytes > 65536 {
         too_large(p);
         return;
     }
     let mut area = io::large_buffer();
     let n = bytes as usize;
-    fill(p, path, node, &mut area[0..n]);
+    fill(p, path, text, node, &mut area[0..n]);
 }
 
-// ---- arguments
+// ---- the arguments of a fresh book, and what is said of a plan's text
 
 fn usage() {
     say::line(b"usage: keeper PLAN BOOK [locked], or keeper PLAN BOOK new NODE BYTES");
@@ -376,7 +386,7 @@ fn is_word(word: &[u8]) -> bool {
 }
 
 // The numbers of `new NODE BYTES`, and the fresh book.
-fn run_new(p: Plan, path: &[u8]) {
+fn run_new(p: Plan, path: &[u8], text: &[u8]) {
     if !is_word(b"new") {
         usage();
         return;
@@ -391,7 +401,7 @@ fn run_new(p: Plan, path: &[u8]) {
         usage();
         return;
     };
-    make(p, path, node, bytes);
+    make(p, path, text, node, bytes);
 }
 
 // The letter that is the name of value k of a plan's text, where its value is a number.
@@ -407,9 +417,13 @@ fn letter(k: usize) -> u8 {
     }
 }
 
-fn say_number(k: usize) {
+fn say_letter(k: usize) {
     let name = [letter(k)];
     say::text(&name);
+}
+
+fn say_number(k: usize) {
+    say_letter(k);
     say::text(b" and a number");
 }
 
@@ -431,6 +445,119 @@ fn say_wrong(path: &[u8], line: u64, k: usize) {
     say_form(k);
     say::text(b"\n");
 }
+
+// ---- the plan that the book was made with
+
+fn is_repairable(p: Plan) -> bool {
+    let member = p.member;
+    match member {
+        Member::Repairable => true,
+        Member::NonRepair => false,
+    }
+}
+
+fn is_crash(p: Plan) -> bool {
+    let clients = p.clients;
+    match clients {
+        Clients::Crash => true,
+        Clients::Byzantine => false,
+    }
+}
+
+// The first number in which two plans differ, 6 where in none.
+fn first_number(p: Plan, q: Plan) -> usize {
+    if p.n != q.n {
+        return 0;
+    }
+    if p.t != q.t {
+        return 1;
+    }
+    if p.b != q.b {
+        return 2;
+    }
+    if p.q != q.q {
+        return 3;
+    }
+    if p.m != q.m {
+        return 4;
+    }
+    if p.f != q.f {
+        return 5;
+    }
+    6
+}
+
+// The first value of a plan's text in which two plans differ, 8 where in none but W: that is the reader's alone.
+fn first_edit(p: Plan, q: Plan) -> usize {
+    let k = first_number(p, q);
+    if k < 6 {
+        return k;
+    }
+    if is_repairable(p) != is_repairable(q) {
+        return 6;
+    }
+    if is_crash(p) != is_crash(q) {
+        return 7;
+    }
+    8
+}
+
+fn say_name(k: usize) {
+    match k {
+        6 => say::text(b"member"),
+        7 => say::text(b"clients"),
+        _ => say_letter(k),
+    }
+}
+
+// PLAN: not the plan that the book was made with.
+fn say_edited(plan_path: &[u8], path: &[u8], k: usize) {
+    say::text(plan_path);
+    say::text(b": this is not the plan that the book was made with: ");
+    say_name(k);
+    say::text(b" differs from ");
+    say::text(path);
+    say::text(b".plan\n");
+}
+
+// Whether two plans are the same but for W; else a line says which value is not.
+fn same_plan(p: Plan, q: Plan, plan_path: &[u8], path: &[u8]) -> bool {
+    let k = first_edit(p, q);
+    if k < 8 {
+        say_edited(plan_path, path, k);
+        return false;
+    }
+    true
+}
+
+// Whether the plan is the one of this text.
+fn plan_as(p: Plan, plan_path: &[u8], path: &[u8], text: &[u8]) -> bool {
+    let r = plan_text::read_plan(text);
+    match r {
+        Reading::Wrong(line, k) => {
+            say::text(path);
+            say_wrong(b".plan", line, k);
+            false
+        }
+        Reading::Good(q) => same_plan(p, q, plan_path, path),
+    }
+}
+
+// Whether the plan is the one that the book was made with, or no one knows which that was; else a line says why.
+fn plan_kept(p: Plan, plan_path: &[u8], path: &[u8]) -> bool {
+    let mut area = io::buffer();
+    let got = book_file::load_plan(path, &mut area);
+    if got.missing {
+        return true;
+    }
+    if !got.is {
+        return false;
+    }
+    let n = got.length;
+    plan_as(p, plan_path, path, &area[..n])
+}
+
+// ---- what the arguments ask for
 
 // The requests of the input, where the book is good.
 fn run_turns(p: Plan, path: &[u8], locked: bool) {
@@ -455,12 +582,21 @@ fn run_locked(p: Plan, path: &[u8]) {
     run_durable(p, path);
 }
 
-// What these arguments ask for.
-fn run(p: Plan, path: &[u8], count: usize) {
-    match count {
-        3 => run_turns(p, path, false),
-        4 => run_locked(p, path),
-        _ => run_new(p, path),
+// What these arguments ask for, of a book that is there.
+fn run_served(p: Plan, path: &[u8], count: usize) {
+    if count == 3 {
+        run_turns(p, path, false);
+    } else {
+        run_locked(p, path);
+    }
+}
+
+// What these arguments ask for. `text` is the plan's.
+fn run(p: Plan, plan_path: &[u8], path: &[u8], text: &[u8], count: usize) {
+    if count > 4 {
+        run_new(p, path, text);
+    } else if plan_kept(p, plan_path, path) {
+        run_served(p, path, count);
     }
 }
 
@@ -475,7 +611,7 @@ fn run_plan(plan_path: &[u8], path: &[u8], count: usize) {
     let r = plan_text::read_plan(&area[..n]);
     match r {
         Reading::Wrong(line, k) => say_wrong(plan_path, line, k),
-        Reading::Good(p) => run(p, path, count),
+        Reading::Good(p) => run(p, plan_path, path, &area[..n], count),
     }
 }
 

@@ -21,7 +21,8 @@ use std::process::{Command, Output, Stdio};
 pub const NODE: usize = 3;
 pub const BOOK: usize = 65_536;
 
-const TEXT: &str = "N 5\nt 1\nb 1\nQ 3\nm 2\nF 16\nmember repairable\nclients crash\nW 16\n";
+/// The text of the plan.
+pub const TEXT: &str = "N 5\nt 1\nb 1\nQ 3\nm 2\nF 16\nmember repairable\nclients crash\nW 16\n";
 
 pub fn plan() -> Plan {
     Plan { n: 5, t: 1, b: 1, q: 3, m: 2, f: 16, member: Member::Repairable, clients: Clients::Crash, w: 16 }
@@ -60,7 +61,7 @@ impl Place {
         self.folder.join(name)
     }
 
-    /// An empty book, as the second program makes it.
+    /// An empty book, as the second program makes it, and its plan beside it.
     pub fn fresh(&self) {
         self.fresh_of(BOOK);
     }
@@ -69,6 +70,7 @@ impl Place {
         let mut book = vec![0; bytes];
         assert_eq!(wire::fresh_book(&wire::plan_bytes(&plan()), NODE as u64, &mut book), 0);
         fs::write(self.file("BOOK"), book).expect("BOOK");
+        fs::write(self.file("BOOK.plan"), TEXT).expect("BOOK.plan");
     }
 
     /// The files of the folder, but the log of the calls.
@@ -210,6 +212,16 @@ impl Told {
 fn first_frame(bytes: &[u8]) -> Option<Vec<u8>> {
     let length = bytes.first_chunk::<4>()?;
     bytes.get(..u32::from_be_bytes(*length) as usize + 4).map(<[u8]>::to_vec)
+}
+
+/// How many whole frames these are.
+pub fn replies(mut output: &[u8]) -> usize {
+    let mut count = 0;
+    while let Some(frame) = first_frame(output) {
+        output = &output[frame.len()..];
+        count += 1;
+    }
+    count
 }
 
 /// Calls for people, one a line.

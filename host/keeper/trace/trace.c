@@ -3,7 +3,7 @@
 //
 //     TRACE_LOG=FILE      each call that changes or makes safe what is on the disk, and each write to standard output, one line a call, in
 //                         the order in which they took effect, of several programs too: a lock is held over a call and its line
-//     TRACE_FAIL=CALL.N.ERRNO   the N-th such call of this program (open, read, write, fsync, rename, unlink, link) fails so
+//     TRACE_FAIL=CALL.N.ERRNO   the N-th such call of this program (open, read, write, fsync, rename, unlink, link) fails so, and a line says it
 //     TRACE_SHORT=N       the N-th write of this program takes half of its bytes
 //     TRACE_KILL=N        this program is killed before its N-th line
 //     TRACE_WAIT=N        before its N-th line it makes FILE.waits, and waits until FILE.goes is there
@@ -67,16 +67,6 @@ static int same(const char *a, const char *b)
     for (; *a && *a == *b; a++, b++)
         ;
     return (!*a || *a == '.') && !*b;
-}
-
-// Whether this call is the one that is to fail; errno is set then.
-static int fails(const char *call, long *count)
-{
-    ++*count;
-    if (!fail_call || *count != fail_at || !same(fail_call, call))
-        return 0;
-    *__errno_location() = (int)fail_error;
-    return 1;
 }
 
 // ---- a line
@@ -172,6 +162,26 @@ static long say(const char *call, long answer, const char *one, const char *two,
 
 // ---- the calls
 
+// Whether this call is the one that is to fail: errno is set then, and a line says so.
+static int fails(const char *call, long *count)
+{
+    ++*count;
+    if (!fail_call || *count != fail_at || !same(fail_call, call))
+        return 0;
+    if (log_fd >= 0) {
+        used = 0;
+        put_number(syscall(GETPID));
+        put(" failed -1 ");
+        put_number(fail_at);
+        put(" ");
+        put(call);
+        put(" -\n");
+        syscall(WRITE, log_fd, line, used);
+    }
+    *__errno_location() = (int)fail_error;
+    return 1;
+}
+
 static int opened(const char *path, int flags, unsigned mode)
 {
     static long count;
@@ -211,7 +221,7 @@ long write(int fd, const void *bytes, size n)
     if (fails("write", &count))
         return say("write", -1, "-", "-", fd, 0, 0);
     if (count == short_at)
-        n = n / 2;
+        n /= 2;
     return say("write", syscall(WRITE, fd, bytes, n), "-", "", fd, bytes, n);
 }
 

@@ -200,10 +200,11 @@ fn wait_for(spare: &[u8]) -> i32 {
     -1
 }
 
-// Opens a file beside BOOK that no one else has, as BOOK.new for who holds the lock of the book: what is there was left by a crash and is written
-// over.
-fn write_over(spare: &[u8]) -> i32 {
-    let fd = os::open_overwrite(spare);
+// Makes a file beside BOOK that no one else has, as BOOK.new for who holds the lock of the book. What is there was left by a crash, and is taken away
+// first and not emptied: a crash within `rename` may have left it as a second name of the book itself.
+fn make_anew(spare: &[u8]) -> i32 {
+    os::unlink(spare);
+    let fd = os::create(spare);
     if fd < 0 {
         say::failed(spare);
     }
@@ -220,7 +221,7 @@ pub fn hold(path: &[u8], locked: bool) -> i32 {
         return -1;
     }
     if locked {
-        return write_over(&name[..n]);
+        return make_anew(&name[..n]);
     }
     wait_for(&name[..n])
 }
@@ -328,7 +329,7 @@ pub fn load_plan(path: &[u8], area: &mut [u8]) -> Loaded
 fn remember(path: &[u8], text: &[u8]) -> bool {
     let mut name = io::buffer();
     let n = beside(path, b".plan", &mut name);
-    let fd = write_over(&name[..n]);
+    let fd = make_anew(&name[..n]);
     if fd < 0 {
         return false;
     }

@@ -50,7 +50,36 @@ const CREATE: i64 = 0o100;
 const EMPTIES: i64 = 0o1000;
 
 /// What a cut leaves: the folder's files.
-pub type Left = BTreeMap<String, Vec<u8>>;
+pub type Left = BTreeMap<String, Content>;
+
+/// A file that a cut leaves.
+#[derive(Clone, Debug, PartialEq, Eq, PartialOrd, Ord)]
+pub struct Content {
+    pub bytes: Vec<u8>,
+    /// An earlier name of the same file.
+    pub twin: Option<String>,
+}
+
+/// The files of a folder. Two names of one file are taken for two files.
+pub fn files(folder: &Path) -> Left {
+    let entries = fs::read_dir(folder).expect("a folder").map(|entry| entry.expect("an entry").path());
+    let files = entries.filter(|path| fs::symlink_metadata(path).is_ok_and(|is| is.is_file()));
+    let named = files.map(|path| (path.file_name().expect("a name").to_string_lossy().into_owned(), path));
+    named.map(|(name, path)| (name, Content { bytes: fs::read(path).expect("a file"), twin: None })).collect()
+}
+
+/// These files in the place of those of a folder; links stay.
+pub fn set_files(folder: &Path, left: &Left) {
+    for name in files(folder).keys() {
+        fs::remove_file(folder.join(name)).expect("removed");
+    }
+    for (name, content) in left {
+        match &content.twin {
+            Some(twin) => fs::hard_link(folder.join(twin), folder.join(name)).expect("a second name"),
+            None => fs::write(folder.join(name), &content.bytes).expect("a file"),
+        }
+    }
+}
 
 /// A file: its bytes, and what a cut may leave of it.
 struct File {
@@ -96,9 +125,9 @@ impl Disk {
             names: BTreeMap::new(),
             open: HashMap::new(),
         };
-        for (name, bytes) in left {
+        for (name, content) in left {
             disk.names.insert(name.clone(), vec![Some(disk.files.len())]);
-            disk.files.push(File::new(bytes));
+            disk.files.push(File::new(&content.bytes));
         }
         disk
     }
@@ -181,6 +210,21 @@ impl Disk {
         }
     }
 
+    /// The bytes that a reader finds under a name now.
+    pub fn shows(&self, name: &str) -> Option<&[u8]> {
+        self.file(name).map(|file| self.files[file].bytes.as_slice())
+    }
+
+    /// What a cut may leave under a name, whatever it leaves elsewhere.
+    pub fn may_be(&self, name: &str) -> BTreeSet<Option<Vec<u8>>> {
+        let states: BTreeSet<Option<usize>> = self.names.get(name).into_iter().flatten().copied().collect();
+        let of = |state: Option<usize>| match state {
+            None => vec![None],
+            Some(file) => self.files[file].may_be.iter().cloned().map(Some).collect(),
+        };
+        states.into_iter().flat_map(of).collect()
+    }
+
     /// Every disk that a cut may leave now.
     pub fn cuts(&self) -> BTreeSet<Left> {
         let mut choices: Vec<BTreeMap<&str, usize>> = vec![BTreeMap::new()];
@@ -202,15 +246,16 @@ impl Disk {
     /// The disks with these names, by what the files may be.
     fn filled(&self, names: &BTreeMap<&str, usize>) -> Vec<Left> {
         let mut all = vec![Left::new()];
-        let files: BTreeSet<usize> = names.values().copied().collect();
-        for file in files {
+        for file in names.values().copied().collect::<BTreeSet<usize>>() {
+            let of: Vec<&str> = names.iter().filter(|(_, is)| **is == file).map(|(name, _)| *name).collect();
             let mut next = Vec::new();
             for left in &all {
                 for bytes in &self.files[file].may_be {
                     let mut left = left.clone();
-                    left.extend(
-                        names.iter().filter(|(_, of)| **of == file).map(|(name, _)| (name.to_string(), bytes.clone())),
-                    );
+                    for name in &of {
+                        let twin = (*name != of[0]).then(|| of[0].to_string());
+                        left.insert(name.to_string(), Content { bytes: bytes.clone(), twin });
+                    }
                     next.push(left);
                 }
             }

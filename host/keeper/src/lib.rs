@@ -73,24 +73,14 @@ impl Place {
         fs::write(self.file("BOOK.plan"), TEXT).expect("BOOK.plan");
     }
 
-    /// The files of the folder, but the log of the calls.
+    /// The files of the folder.
     pub fn files(&self) -> Left {
-        let entries = fs::read_dir(&self.folder).expect("a folder").map(|entry| entry.expect("an entry").path());
-        let named = entries.map(|path| (path.file_name().expect("a name").to_string_lossy().into_owned(), path));
-        named
-            .filter(|(name, _)| !name.starts_with("LOG"))
-            .map(|(name, path)| (name, fs::read(path).expect("a file")))
-            .collect()
+        disk::files(&self.folder)
     }
 
-    /// These files in the place of what is there.
+    /// These files in the place of what is there, the calls that were taken down too.
     pub fn set_files(&self, left: &Left) {
-        for name in self.files().keys() {
-            fs::remove_file(self.file(name)).expect("removed");
-        }
-        for (name, bytes) in left {
-            fs::write(self.file(name), bytes).expect("a file");
-        }
+        disk::set_files(&self.folder, left);
     }
 
     /// keeper PLAN BOOK and more words, in this folder.
@@ -196,8 +186,8 @@ impl Told {
 
     /// Whether the book on this disk is whole, and holds all that was told.
     pub fn held_in(&self, left: &Left) -> Result<(), String> {
-        let bytes = left.get("BOOK").ok_or("there is no book")?;
-        let book = Book::read(&plan(), bytes).ok_or("the book is not whole")?;
+        let content = left.get("BOOK").ok_or("there is no book")?;
+        let book = Book::read(&plan(), &content.bytes).ok_or("the book is not whole")?;
         let held: BTreeSet<[u8; 40]> = book.records.iter().map(|record| record.stamp.bytes()).collect();
         if !self.stamps.is_subset(&held) {
             return Err("a record of a reply is missing".into());

@@ -18,7 +18,6 @@ const BOOK: usize = 2048;
 /// The place as it was, with no calls taken down, and then a program with one call that fails. Whether that call was made.
 fn with_a_fault(place: &Place, files: &Left, more: &[&str], set: (&str, String), input: &[u8]) -> (bool, Output) {
     place.set_files(files);
-    let _ = fs::remove_file(place.file("LOG"));
     let output = fed(place.traced(more, &[set]), input);
     (calls(&place.file("LOG")).iter().any(|call| call.name == "failed"), output)
 }
@@ -125,11 +124,14 @@ fn a_cut_in_a_fresh_book() {
         disk.make(&call);
         made = made || call.bytes == b"made\n";
         for left in disk.cuts() {
-            let whole = left.get("BOOK").is_some_and(|book| !book.is_empty());
+            let whole = left.get("BOOK").is_some_and(|book| !book.bytes.is_empty());
             assert!(whole || !made, "made, and lost");
             if whole {
-                assert!(Book::read(&plan(), &left["BOOK"]).is_some_and(|book| book.records.is_empty()), "not whole");
-                assert_eq!(left.get("BOOK.plan").map(Vec::as_slice), Some(TEXT.as_bytes()));
+                assert!(
+                    Book::read(&plan(), &left["BOOK"].bytes).is_some_and(|book| book.records.is_empty()),
+                    "not whole"
+                );
+                assert_eq!(left.get("BOOK.plan").map(|plan| plan.bytes.as_slice()), Some(TEXT.as_bytes()));
             }
         }
     }

@@ -18,14 +18,6 @@ fn place(name: &str) -> (Place, Left) {
     (place, files)
 }
 
-/// The place as it was, with no calls taken down.
-fn again(place: &Place, files: &Left) {
-    place.set_files(files);
-    for name in ["LOG", "LOG.waits", "LOG.goes"] {
-        let _ = fs::remove_file(place.file(name));
-    }
-}
-
 /// The time, two records, and the latest one.
 fn requests() -> Vec<u8> {
     [looks(), writes(&records(1, 2)), looks()].concat()
@@ -33,7 +25,7 @@ fn requests() -> Vec<u8> {
 
 /// How many calls a keeper makes that is not stopped.
 fn calls_of(place: &Place, files: &Left, more: &[&str], input: &[u8]) -> usize {
-    again(place, files);
+    place.set_files(files);
     fed(place.traced(more, &[]), input);
     calls(&place.file("LOG")).len()
 }
@@ -53,7 +45,7 @@ fn killed_and_asked_again(more: &[&str], name: &str) {
     let input = requests();
     let (mut disks, most) = (BTreeSet::new(), calls_of(&place, &files, more, &input));
     for n in 1..=most {
-        again(&place, &files);
+        place.set_files(&files);
         fed(place.traced(more, &[("TRACE_KILL", n.to_string())]), &input);
         // Without the lock a keeper does not write where a BOOK.new was left.
         let stuck = more.is_empty() && place.file("BOOK.new").exists();
@@ -83,7 +75,7 @@ fn a_reader_beside_a_writer() {
     let input = writes(&records(1, 2));
     let most = calls_of(&place, &files, &[], &input);
     for n in 1..=most {
-        again(&place, &files);
+        place.set_files(&files);
         let writer = place.traced(&[], &[("TRACE_WAIT", n.to_string())]);
         let writer = thread::spawn({
             let input = input.clone();

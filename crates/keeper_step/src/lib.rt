@@ -62,8 +62,8 @@ pub fn look(p: Plan, durable: bool, request: &[u8], book: &mut [u8], reply: &mut
     requires { ⌜ asksToWrite (now request) ≡ false ⌝ }
     ensures { λ x. ⌜ Looked p durable (now (request .entry)) (now (book .entry)) (now (reply .entry)) x (now (book .exit)) (now (reply .exit)) ⌝ }
 {
-    let a = node::serve(p, request, book, reply);
-    match a {
+    let said = node::serve(p, request, book, reply);
+    match said {
         Answer::Refused(r) => Next::Refused(r),
         Answer::Replied(k) => waits_for(k, true, durable),
     }

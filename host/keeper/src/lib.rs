@@ -13,7 +13,7 @@ use second::record::{Record, Timestamp};
 use second::wire;
 use std::collections::{BTreeMap, BTreeSet};
 use std::fs;
-use std::io::Write;
+use std::io::{self, Write};
 use std::path::{Path, PathBuf};
 use std::process::{Command, Output, Stdio};
 
@@ -41,20 +41,19 @@ pub struct Place {
 
 impl Place {
     pub fn new(name: &str) -> Place {
-        Place::within(&std::env::temp_dir(), name)
+        Place::within(&std::env::temp_dir(), name).expect("a folder")
     }
 
     /// The same in memory, where there is such a place: no disk is waited for.
     pub fn in_memory(name: &str) -> Place {
-        let memory = Path::new("/dev/shm");
-        Place::within(if memory.is_dir() { memory } else { Path::new("/tmp") }, name)
+        Place::within(Path::new("/dev/shm"), name).unwrap_or_else(|_| Place::new(name))
     }
 
-    fn within(parent: &Path, name: &str) -> Place {
+    fn within(parent: &Path, name: &str) -> io::Result<Place> {
         let folder = parent.join(format!("keeper-{}-{name}", std::process::id()));
-        fs::create_dir(&folder).expect("a folder");
-        fs::write(folder.join("PLAN"), TEXT).expect("PLAN");
-        Place { folder }
+        fs::create_dir(&folder)?;
+        fs::write(folder.join("PLAN"), TEXT)?;
+        Ok(Place { folder })
     }
 
     pub fn file(&self, name: &str) -> PathBuf {

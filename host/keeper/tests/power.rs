@@ -6,7 +6,7 @@ use keeper_trials::{acknowledged, fed, looks, records, writes, Place};
 use std::collections::BTreeSet;
 use std::fs;
 use std::thread;
-use std::time::Duration;
+use std::time::{Duration, Instant};
 
 /// Room for nine records.
 const BOOK: usize = 2048;
@@ -81,7 +81,9 @@ fn a_reader_beside_a_writer() {
             let input = input.clone();
             move || fed(writer, &input)
         });
+        let began = Instant::now();
         while !place.file("LOG.waits").exists() {
+            assert!(began.elapsed() < Duration::from_secs(120), "the writer does not come to call {n}");
             thread::sleep(Duration::from_millis(1));
         }
         let reader = fed(place.traced(&[], &[]), &looks());

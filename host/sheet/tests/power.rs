@@ -6,6 +6,7 @@ use second::book::Book;
 use second::plan::{Clients, Member, Plan};
 use std::collections::{BTreeMap, BTreeSet};
 use std::fs;
+use std::io;
 use std::os::unix::fs::symlink;
 use std::path::{Path, PathBuf};
 use std::process::{Command, Output, Stdio};
@@ -39,11 +40,12 @@ struct Place {
 
 impl Place {
     fn new(name: &str, links: bool) -> Place {
-        let memory = Path::new("/dev/shm");
-        let parent = if memory.is_dir() { memory.to_path_buf() } else { std::env::temp_dir() };
-        let path =
-            fs::canonicalize(parent).expect("a folder").join(format!("sheet-power-{}-{name}", std::process::id()));
-        fs::create_dir(&path).expect("a folder");
+        let at = |parent: &Path| -> io::Result<PathBuf> {
+            let path = fs::canonicalize(parent)?.join(format!("sheet-power-{}-{name}", std::process::id()));
+            fs::create_dir(&path).map(|()| path)
+        };
+        // In memory, where there is such a place: no disk is waited for.
+        let path = at(Path::new("/dev/shm")).or_else(|_| at(&std::env::temp_dir())).expect("a folder");
         let place = Place { books: path.join(if links { "books" } else { "s" }), path };
         fs::write(place.path.join("plan"), TEXT).expect("a plan");
         for (name, byte) in [("a", b'a'), ("b", b'b')] {

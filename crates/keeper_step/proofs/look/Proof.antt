@@ -14,8 +14,8 @@ look-spec =
     (λ c κs. search needs) (λ c. search needs) (λ c. search needs) (λ c κs. search needs) (λ c. search needs) (λ c. search needs)
     (λ c.
     let s = c .before .before .before .before .before .before .before in
-    laws.looks-refused _ _ _ _ _ _ _ _ _ (start s .pre) (c .before .a .given .1) (s .serve .ensures))
+    laws.looks-refused _ _ _ _ _ _ _ _ _ (start s .pre) (c .before .said .given .1) (s .serve .ensures))
     (λ c. search needs) (λ c. search needs)
     (λ c.
     let s = c .before .before .before .before .before .before .before .before in
-    laws.looks-as _ _ _ _ _ _ _ _ _ _ (start s .pre) (c .before .before .a2 .given .1) (c .waits-for .ensures) (s .serve .ensures)))
+    laws.looks-as _ _ _ _ _ _ _ _ _ _ (start s .pre) (c .before .before .said2 .given .1) (c .waits-for .ensures) (s .serve .ensures)))

@@ -12,12 +12,20 @@
 
 typedef unsigned long size;
 
-#ifdef __x86_64__
-enum { READ = 0, WRITE = 1, CLOSE = 3, GETPID = 39, KILL = 62, FLOCK = 73, FSYNC = 74, NANOSLEEP = 35, OPENAT = 257, UNLINKAT = 263, LINKAT = 265, RENAMEAT2 = 316, FACCESSAT = 269 };
+// The system's numbers for its calls.
+#if defined __x86_64__
+enum { READ = 0, WRITE = 1, CLOSE = 3, NANOSLEEP = 35, GETPID = 39, KILL = 62, FLOCK = 73, FSYNC = 74 };
+enum { OPENAT = 257, UNLINKAT = 263, LINKAT = 265, FACCESSAT = 269, RENAMEAT2 = 316 };
+#elif defined __aarch64__
+enum { READ = 63, WRITE = 64, CLOSE = 57, NANOSLEEP = 101, GETPID = 172, KILL = 129, FLOCK = 32, FSYNC = 82 };
+enum { OPENAT = 56, UNLINKAT = 35, LINKAT = 37, FACCESSAT = 48, RENAMEAT2 = 276 };
 #else
-enum { READ = 63, WRITE = 64, CLOSE = 57, GETPID = 172, KILL = 129, FLOCK = 32, FSYNC = 82, NANOSLEEP = 101, OPENAT = 56, UNLINKAT = 35, LINKAT = 37, RENAMEAT2 = 276, FACCESSAT = 48 };
+#error "the numbers of the system's calls are not known for this processor"
 #endif
-enum { HERE = -100, CREATE = 0100, EXCLUSIVE = 0200, TRUNCATE = 01000, APPEND = 02000, WRITING = 1, READ_WRITE = 2, CLOSE_ON_EXEC = 02000000 };
+
+// What an open asks for, and the folder that paths are taken from.
+enum { WRITING = 1, READ_WRITE = 2, CREATE = 0100, EXCLUSIVE = 0200, TRUNCATE = 01000, APPEND = 02000, CLOSE_ON_EXEC = 02000000 };
+enum { HERE = -100 };
 
 long syscall(long number, ...);
 int *__errno_location(void);
@@ -102,6 +110,7 @@ static void put_bytes(const unsigned char *bytes, size n)
     }
 }
 
+// Makes FILE.waits, or tells whether FILE.goes is there.
 static int there(const char *ending)
 {
     char name[4096];

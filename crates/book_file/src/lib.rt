@@ -14,14 +14,34 @@ const PATIENCE: u64 = 5;
 
 const BUSY: i32 = -2;
 
-// What a file was read as: whether whole, and how many bytes.
+// What a file was read as: whether whole, whether there is none, and how many bytes.
 pub struct Loaded {
     pub is: bool,
+    pub missing: bool,
     pub length: usize,
 }
 
+fn not_loaded(missing: bool) -> Loaded
+    ensures { λ r. ⌜ r .length ≡ 0 ⌝ }
+{
+    Loaded {
+        is: false,
+        missing: missing,
+        length: 0,
+    }
+}
+
+// What is said of a file that has bytes left: the area was full, or a read failed before it was.
+fn left_over(path: &[u8], full: bool) {
+    if full {
+        say::about(path, b"longer than it may be");
+    } else {
+        say::about(path, b"a read of it failed");
+    }
+}
+
 // Whether a file that was read has no byte left.
-fn at_end(fd: i32, path: &[u8]) -> bool {
+fn at_end(fd: i32, path: &[u8], full: bool) -> bool {
     let mut more = [0u8; 1];
     let got = libc::read(fd, &mut more);
     if got < 0 {
@@ -29,10 +49,25 @@ fn at_end(fd: i32, path: &[u8]) -> bool {
         return false;
     }
     if got > 0 {
-        say::about(path, b"longer than it may be");
+        left_over(path, full);
         return false;
     }
     true
+}
+
+// An open file at the start of an area, and closed again.
+fn load_open(fd: i32, path: &[u8], area: &mut [u8]) -> Loaded
+    ensures { λ r. ⌜ Counts (r .length) (now (area .exit)) ⌝ }
+{
+    let n = io::read_full(fd, area);
+    let full = n == area.len();
+    let whole = at_end(fd, path, full);
+    libc::close(fd);
+    Loaded {
+        is: whole,
+        missing: false,
+        length: n,
+    }
 }
 
 // A whole file at the start of an area. Where it cannot be had, a line says why.
@@ -42,34 +77,26 @@ pub fn load(path: &[u8], area: &mut [u8]) -> Loaded
     let fd = os::open_read(path);
     if fd < 0 {
         say::failed(path);
-        return Loaded {
-            is: false,
-            length: 0,
-        };
+        return not_loaded(false);
     }
-    let n = io::read_full(fd, area);
-    let whole = at_end(fd, path);
-    libc::close(fd);
-    Loaded {
-        is: whole,
-        length: n,
-    }
+    load_open(fd, path, area)
 }
 
-// The name BOOK.new. 0 where it does not fit.
-fn beside(path: &[u8], name: &mut [u8]) -> usize
+// The name of a file beside BOOK. 0 where it does not fit.
+fn beside(path: &[u8], ending: &[u8], name: &mut [u8]) -> usize
     ensures { λ r. ⌜ Counts r (now (name .exit)) ⌝ }
 {
     let n = path.len();
-    if name.len() < 4 {
+    let e = ending.len();
+    if name.len() < e {
         return 0;
     }
-    if name.len() - 4 < n {
+    if name.len() - e < n {
         return 0;
     }
     octets::copy(path, 0, n, name, 0);
-    octets::copy(b".new", 0, 4, name, n);
-    n + 4
+    octets::copy(ending, 0, e, name, n);
+    n + e
 }
 
 // The length of a path up to its last slash, with it; 0 where it has none.
@@ -86,16 +113,16 @@ fn folder_length(path: &[u8]) -> usize
     k
 }
 
-// Waits until the names in a folder are on the disk.
-fn sync_folder(folder: &[u8]) -> bool {
-    let fd = os::open_read(folder);
+// Waits until the bytes of a file, or the names in a folder, are on the disk. Where it answers false a line has said why.
+fn sync_one(path: &[u8]) -> bool {
+    let fd = os::open_read(path);
     if fd < 0 {
-        say::failed(folder);
+        say::failed(path);
         return false;
     }
     let done = libc::fsync(fd) == 0;
     if !done {
-        say::failed(folder);
+        say::failed(path);
     }
     libc::close(fd);
     done
@@ -105,9 +132,18 @@ fn sync_folder(folder: &[u8]) -> bool {
 fn sync_name(path: &[u8]) -> bool {
     let n = folder_length(path);
     if n == 0 {
-        return sync_folder(b".");
+        return sync_one(b".");
     }
-    sync_folder(&path[..n])
+    sync_one(&path[..n])
+}
+
+// Waits until a book that was read is on the disk, its bytes and its name, whoever wrote it. Where another has taken its name since, that one
+// is waited for: it was on the disk before it took the name, and holds all that the one before it held. Where it answers false a line has said why.
+pub fn sync(path: &[u8]) -> bool {
+    if !sync_one(path) {
+        return false;
+    }
+    sync_name(path)
 }
 
 fn clock() -> i64 {
@@ -163,9 +199,11 @@ fn wait_for(spare: &[u8]) -> i32 {
     -1
 }
 
-// Opens BOOK.new for who holds the lock of the book: no one else has it, and what is there was left by a crash and is written over.
-fn write_over(spare: &[u8]) -> i32 {
-    let fd = os::open_overwrite(spare);
+// Makes a file beside BOOK that no one else has, as BOOK.new for who holds the lock of the book. What is there was left by a crash, and is taken away
+// first and not emptied: a crash within `rename` may have left it as a second name of the book itself.
+fn make_anew(spare: &[u8]) -> i32 {
+    os::unlink(spare);
+    let fd = os::create(spare);
     if fd < 0 {
         say::failed(spare);
     }
@@ -176,13 +214,13 @@ fn write_over(spare: &[u8]) -> i32 {
 // so and answers -1; `locked` says that no one else can have it.
 pub fn hold(path: &[u8], locked: bool) -> i32 {
     let mut name = io::buffer();
-    let n = beside(path, &mut name);
+    let n = beside(path, b".new", &mut name);
     if n == 0 {
         say::about(path, b"the name is too long");
         return -1;
     }
     if locked {
-        return write_over(&name[..n]);
+        return make_anew(&name[..n]);
     }
     wait_for(&name[..n])
 }
@@ -195,7 +233,7 @@ fn remove(fd: i32, spare: &[u8]) {
 // Lets BOOK.new go, with nothing written.
 pub fn let_go(fd: i32, path: &[u8]) {
     let mut name = io::buffer();
-    let n = beside(path, &mut name);
+    let n = beside(path, b".new", &mut name);
     remove(fd, &name[..n]);
 }
 
@@ -246,9 +284,61 @@ fn store_by(fd: i32, spare: &[u8], path: &[u8], book: &[u8]) -> bool {
 // is the old book or the new one, whole.
 pub fn store(fd: i32, path: &[u8], book: &[u8]) -> bool {
     let mut name = io::buffer();
-    let n = beside(path, &mut name);
+    let n = beside(path, b".new", &mut name);
     store_by(fd, &name[..n], path, book)
 }
+
+// ---- the plan that a book was made with
+
+// What is said of a BOOK.plan that cannot be opened: only one that is not there is missing.
+fn not_opened(name: &[u8]) -> Loaded
+    ensures { λ r. ⌜ r .length ≡ 0 ⌝ }
+{
+    if os::errno() == libc::ENOENT {
+        say::about(
+            name,
+            b"is not there, so that an edit of the plan would not be seen; a copy of the plan in its place ends this",
+        );
+        return not_loaded(true);
+    }
+    say::failed(name);
+    not_loaded(false)
+}
+
+fn load_named(name: &[u8], area: &mut [u8]) -> Loaded
+    ensures { λ r. ⌜ Counts (r .length) (now (area .exit)) ⌝ }
+{
+    let fd = os::open_read(name);
+    if fd < 0 {
+        return not_opened(name);
+    }
+    load_open(fd, name, area)
+}
+
+// BOOK.plan, the text of the plan that the book was made with, at the start of an area. Where it cannot be had, or is missing, a line says so.
+pub fn load_plan(path: &[u8], area: &mut [u8]) -> Loaded
+    ensures { λ r. ⌜ Counts (r .length) (now (area .exit)) ⌝ }
+{
+    let mut name = io::buffer();
+    let n = beside(path, b".plan", &mut name);
+    load_named(&name[..n], area)
+}
+
+// BOOK.plan, safely on the disk under its name, before the book has its own. One that is there was left by a book that is gone.
+fn remember(path: &[u8], text: &[u8]) -> bool {
+    let mut name = io::buffer();
+    let n = beside(path, b".plan", &mut name);
+    let fd = make_anew(&name[..n]);
+    if fd < 0 {
+        return false;
+    }
+    if !write_down(fd, &name[..n], text) {
+        return false;
+    }
+    sync_name(path)
+}
+
+// ---- a fresh book
 
 // Makes an empty file of a name that nothing has: what cannot be opened is not missing, and neither is a link to nothing. False where a line
 // has said why.
@@ -275,8 +365,13 @@ fn take_reserved(spare: &[u8], path: &[u8]) -> bool {
     sync_name(path)
 }
 
-// A fresh book, whole before its name is made.
-fn make_by(fd: i32, spare: &[u8], path: &[u8], book: &[u8]) -> bool {
+fn unreserve(spare: &[u8], path: &[u8]) {
+    os::unlink(spare);
+    os::unlink(path);
+}
+
+// A fresh book, whole before its name is made, and the text of its plan beside it.
+fn make_by(fd: i32, spare: &[u8], path: &[u8], book: &[u8], text: &[u8]) -> bool {
     if !write_down(fd, spare, book) {
         return false;
     }
@@ -284,12 +379,17 @@ fn make_by(fd: i32, spare: &[u8], path: &[u8], book: &[u8]) -> bool {
         os::unlink(spare);
         return false;
     }
+    if !remember(path, text) {
+        unreserve(spare, path);
+        return false;
+    }
     take_reserved(spare, path)
 }
 
-// A fresh book, safely on the disk under a name that nothing had, through BOOK.new that is held. Where it answers false a line has said why.
-pub fn make(fd: i32, path: &[u8], book: &[u8]) -> bool {
+// A fresh book, safely on the disk under a name that nothing had, through BOOK.new that is held, and the text of its plan as BOOK.plan. Where it
+// answers false a line has said why.
+pub fn make(fd: i32, path: &[u8], book: &[u8], text: &[u8]) -> bool {
     let mut name = io::buffer();
-    let n = beside(path, &mut name);
-    make_by(fd, &name[..n], path, book)
+    let n = beside(path, b".new", &mut name);
+    make_by(fd, &name[..n], path, book, text)
 }

@@ -5,6 +5,8 @@
 //     keeper PLAN BOOK locked           so does this, while whoever started it holds the lock of the book (host/keeper-locked)
 //     keeper PLAN BOOK new NODE BYTES   makes a fresh book for node NODE, of BYTES bytes
 //
+// The file BOOK.plan has the plan that the book was made with; one that differs from PLAN but in W is told, and nothing is served.
+//
 // The book is read from its file for each request and kept nowhere else, so that several keepers may serve one book: each reads an old
 // or a new book whole, and only the one that has made the file BOOK.new may change it (crate book_file).
 use book::Shape;
@@ -18,6 +20,8 @@ use node::Answer;
 use node::Made;
 use plan_text::Numeral;
 use plan_text::Reading;
+use terms::Clients;
+use terms::Member;
 use terms::Plan;
 use terms::Refusal;
 ghost use Prim.Native.Nat.{_≤_};
@@ -135,20 +139,31 @@ fn refuse(r: Refusal) -> bool {
     r.number() > 3
 }
 
-// A request that cannot change a book, and its reply.
-fn look_at(p: Plan, request: &[u8], book: &mut [u8]) -> bool
-    requires { ⌜ asksToWrite (now request) ≡ false ⌝ }
-{
-    let mut reply = frame_area();
-    let a = keeper_step::look(p, request, book, &mut reply);
-    match a {
-        Answer::Refused(r) => refuse(r),
-        Answer::Replied(k) => send(&reply, k),
+// Whether a book that a look left is on the disk, where the reply waits for that.
+fn synced(x: Next, path: &[u8]) -> bool {
+    match x {
+        Next::Sync(_) => book_file::sync(path),
+        _ => true,
     }
 }
 
-// A request that cannot change the book: BOOK.new is not asked for, and nothing is written to the disk.
-fn answer_look(p: Plan, path: &[u8], request: &[u8]) -> bool
+// A request that cannot change a book, and its reply, which goes out over a book that is on the disk.
+fn look_at(p: Plan, path: &[u8], durable: bool, request: &[u8], book: &mut [u8]) -> bool
+    requires { ⌜ asksToWrite (now request) ≡ false ⌝ }
+{
+    let mut reply = frame_area();
+    let next = keeper_step::look(p, durable, request, book, &mut reply);
+    let safe = synced(next, path);
+    let due = keeper_step::due_after(next, safe);
+    match due {
+        Due::Say(r) => refuse(r),
+        Due::Reply(k) => send(&reply, k),
+        Due::Nothing => false,
+    }
+}
+
+// A request that cannot change the book: BOOK.new is not asked for, and no byte is written.
+fn answer_look(p: Plan, path: &[u8], durable: bool, request: &[u8]) -> bool
     requires { ⌜ asksToWrite (now request) ≡ false ⌝ }
 {
     let mut area = io::large_buffer();
@@ -157,29 +172,30 @@ fn answer_look(p: Plan, path: &[u8], request: &[u8]) -> bool
         return false;
     }
     let n = got.length;
-    look_at(p, request, &mut area[..n])
+    look_at(p, path, durable, request, &mut area[..n])
 }
 
-// Stores the book that a step left, where it is to be stored, and lets BOOK.new go where not. Whether the book is safe.
+// Stores the book that a step left, where it is to be stored, and lets BOOK.new go where not. Whether the book is on the disk, where the
+// reply waits for that.
 fn keep(x: Next, fd: i32, path: &[u8], book: &[u8]) -> bool {
     match x {
         Next::Store(_) => book_file::store(fd, path, book),
         _ => {
             book_file::let_go(fd, path);
-            true
+            synced(x, path)
         }
     }
 }
 
-// A write request against the book as it is on the disk, while BOOK.new is held: the book that the node leaves is stored, and then the reply
-// goes out.
-fn settle(p: Plan, path: &[u8], fd: i32, request: &[u8], book: &mut [u8]) -> bool
+// A write request against the book as it is in its file, while BOOK.new is held: the book that the node leaves gets to the disk, and then
+// the reply goes out.
+fn settle(p: Plan, path: &[u8], durable: bool, fd: i32, request: &[u8], book: &mut [u8]) -> bool
     requires { ⌜ length (now book) ≤ 65536 ⌝ }
 {
     let mut reply = frame_area();
-    let next = keeper_step::step(p, request, book, &mut reply);
-    let stored = keep(next, fd, path, book);
-    let due = keeper_step::due_after(next, stored);
+    let next = keeper_step::step(p, durable, request, book, &mut reply);
+    let safe = keep(next, fd, path, book);
+    let due = keeper_step::due_after(next, safe);
     match due {
         Due::Say(r) => refuse(r),
         Due::Reply(k) => send(&reply, k),
@@ -188,7 +204,7 @@ fn settle(p: Plan, path: &[u8], fd: i32, request: &[u8], book: &mut [u8]) -> boo
 }
 
 // A write request, once BOOK.new is held.
-fn answer_held(p: Plan, path: &[u8], fd: i32, request: &[u8]) -> bool {
+fn answer_held(p: Plan, path: &[u8], durable: bool, fd: i32, request: &[u8]) -> bool {
     let mut area = io::large_buffer();
     let got = book_file::load(path, &mut area);
     if !got.is {
@@ -196,19 +212,20 @@ fn answer_held(p: Plan, path: &[u8], fd: i32, request: &[u8]) -> bool {
         return false;
     }
     let n = got.length;
-    settle(p, path, fd, request, &mut area[..n])
+    settle(p, path, durable, fd, request, &mut area[..n])
 }
 
-// A request, and whether to go on.
+// A request, and whether to go on. Who holds the lock of the book has had it on the disk at the start, and no other changes it, so that it is
+// still there; who does not knows nothing of a book that another may have changed.
 fn answer(p: Plan, path: &[u8], locked: bool, request: &[u8]) -> bool {
     if !keeper_step::asks_to_write(request) {
-        return answer_look(p, path, request);
+        return answer_look(p, path, locked, request);
     }
     let fd = book_file::hold(path, locked);
     if fd < 0 {
         return false;
     }
-    answer_held(p, path, fd, request)
+    answer_held(p, path, locked, fd, request)
 }
 
 // Whether no more bytes came because the input cannot be read; then a line says so. One that has ended says so again.
@@ -299,23 +316,29 @@ fn book_ok(p: Plan, path: &[u8]) -> bool {
     good(p, &area[..n])
 }
 
+fn say_made() {
+    if !io::write_all(STDOUT_FILENO, b"made\n") {
+        say::failed(b"standard output");
+    }
+}
+
 // A fresh book on the disk, where nothing has its name.
-fn lay_down(path: &[u8], book: &[u8]) {
+fn lay_down(path: &[u8], book: &[u8], text: &[u8]) {
     let fd = book_file::hold(path, false);
     if fd < 0 {
         return;
     }
-    if book_file::make(fd, path, book) {
-        io::write_all(STDOUT_FILENO, b"made\n");
+    if book_file::make(fd, path, book, text) {
+        say_made();
     }
 }
 
 // A fresh book, and its file.
-fn fill(p: Plan, path: &[u8], node: u64, book: &mut [u8]) {
+fn fill(p: Plan, path: &[u8], text: &[u8], node: u64, book: &mut [u8]) {
     let made = node::fresh(p, node, book);
     match made {
         Made::Refused(r) => say::refused(r),
-        Made::Fresh => lay_down(path, book),
+        Made::Fresh => lay_down(path, book, text),
     }
 }
 
@@ -329,17 +352,17 @@ fn too_large(p: Plan) {
 }
 
 // The first bytes of an area of zeros are the book.
-fn make(p: Plan, path: &[u8], node: u64, bytes: u64) {
+fn make(p: Plan, path: &[u8], text: &[u8], node: u64, bytes: u64) {
     if bytes > 65536 {
         too_large(p);
         return;
     }
     let mut area = io::large_buffer();
     let n = bytes as usize;
-    fill(p, path, node, &mut area[0..n]);
+    fill(p, path, text, node, &mut area[0..n]);
 }
 
-// ---- arguments
+// ---- the arguments of a fresh book, and what is said of a plan's text
 
 fn usage() {
     say::line(b"usage: keeper PLAN BOOK [locked], or keeper PLAN BOOK new NODE BYTES");
@@ -363,7 +386,7 @@ fn is_word(word: &[u8]) -> bool {
 }
 
 // The numbers of `new NODE BYTES`, and the fresh book.
-fn run_new(p: Plan, path: &[u8]) {
+fn run_new(p: Plan, path: &[u8], text: &[u8]) {
     if !is_word(b"new") {
         usage();
         return;
@@ -378,7 +401,7 @@ fn run_new(p: Plan, path: &[u8]) {
         usage();
         return;
     };
-    make(p, path, node, bytes);
+    make(p, path, text, node, bytes);
 }
 
 // The letter that is the name of value k of a plan's text, where its value is a number.
@@ -394,9 +417,13 @@ fn letter(k: usize) -> u8 {
     }
 }
 
-fn say_number(k: usize) {
+fn say_letter(k: usize) {
     let name = [letter(k)];
     say::text(&name);
+}
+
+fn say_number(k: usize) {
+    say_letter(k);
     say::text(b" and a number");
 }
 
@@ -419,10 +446,130 @@ fn say_wrong(path: &[u8], line: u64, k: usize) {
     say::text(b"\n");
 }
 
+// ---- the plan that the book was made with
+
+fn is_repairable(p: Plan) -> bool {
+    let member = p.member;
+    match member {
+        Member::Repairable => true,
+        Member::NonRepair => false,
+    }
+}
+
+fn is_crash(p: Plan) -> bool {
+    let clients = p.clients;
+    match clients {
+        Clients::Crash => true,
+        Clients::Byzantine => false,
+    }
+}
+
+// The first number in which two plans differ, 6 where in none.
+fn first_number(p: Plan, q: Plan) -> usize {
+    if p.n != q.n {
+        return 0;
+    }
+    if p.t != q.t {
+        return 1;
+    }
+    if p.b != q.b {
+        return 2;
+    }
+    if p.q != q.q {
+        return 3;
+    }
+    if p.m != q.m {
+        return 4;
+    }
+    if p.f != q.f {
+        return 5;
+    }
+    6
+}
+
+// The first value of a plan's text in which two plans differ, 8 where in none but W: that is the reader's alone.
+fn first_edit(p: Plan, q: Plan) -> usize {
+    let k = first_number(p, q);
+    if k < 6 {
+        return k;
+    }
+    if is_repairable(p) != is_repairable(q) {
+        return 6;
+    }
+    if is_crash(p) != is_crash(q) {
+        return 7;
+    }
+    8
+}
+
+fn say_name(k: usize) {
+    match k {
+        6 => say::text(b"member"),
+        7 => say::text(b"clients"),
+        _ => say_letter(k),
+    }
+}
+
+// PLAN: not the plan that the book was made with.
+fn say_edited(plan_path: &[u8], path: &[u8], k: usize) {
+    say::text(plan_path);
+    say::text(b": this is not the plan that the book was made with: ");
+    say_name(k);
+    say::text(b" differs from ");
+    say::text(path);
+    say::text(b".plan\n");
+}
+
+// Whether two plans are the same but for W; else a line says which value is not.
+fn same_plan(p: Plan, q: Plan, plan_path: &[u8], path: &[u8]) -> bool {
+    let k = first_edit(p, q);
+    if k < 8 {
+        say_edited(plan_path, path, k);
+        return false;
+    }
+    true
+}
+
+// Whether the plan is the one of this text.
+fn plan_as(p: Plan, plan_path: &[u8], path: &[u8], text: &[u8]) -> bool {
+    let r = plan_text::read_plan(text);
+    match r {
+        Reading::Wrong(line, k) => {
+            say::text(path);
+            say_wrong(b".plan", line, k);
+            false
+        }
+        Reading::Good(q) => same_plan(p, q, plan_path, path),
+    }
+}
+
+// Whether the plan is the one that the book was made with, or no one knows which that was; else a line says why.
+fn plan_kept(p: Plan, plan_path: &[u8], path: &[u8]) -> bool {
+    let mut area = io::buffer();
+    let got = book_file::load_plan(path, &mut area);
+    if got.missing {
+        return true;
+    }
+    if !got.is {
+        return false;
+    }
+    let n = got.length;
+    plan_as(p, plan_path, path, &area[..n])
+}
+
+// ---- what the arguments ask for
+
 // The requests of the input, where the book is good.
 fn run_turns(p: Plan, path: &[u8], locked: bool) {
     if book_ok(p, path) {
         turns(p, path, locked);
+    }
+}
+
+// The same by who holds the lock of the book, once the book is on the disk: it stays there, since no other changes it.
+fn run_durable(p: Plan, path: &[u8]) {
+    if book_file::sync(path) {
+        run_turns(p, path, true);
     }
 }
 
@@ -432,15 +579,24 @@ fn run_locked(p: Plan, path: &[u8]) {
         usage();
         return;
     }
-    run_turns(p, path, true);
+    run_durable(p, path);
 }
 
-// What these arguments ask for.
-fn run(p: Plan, path: &[u8], count: usize) {
-    match count {
-        3 => run_turns(p, path, false),
-        4 => run_locked(p, path),
-        _ => run_new(p, path),
+// What these arguments ask for, of a book that is there.
+fn run_served(p: Plan, path: &[u8], count: usize) {
+    if count == 3 {
+        run_turns(p, path, false);
+    } else {
+        run_locked(p, path);
+    }
+}
+
+// What these arguments ask for. `text` is the plan's.
+fn run(p: Plan, plan_path: &[u8], path: &[u8], text: &[u8], count: usize) {
+    if count > 4 {
+        run_new(p, path, text);
+    } else if plan_kept(p, plan_path, path) {
+        run_served(p, path, count);
     }
 }
 
@@ -455,7 +611,7 @@ fn run_plan(plan_path: &[u8], path: &[u8], count: usize) {
     let r = plan_text::read_plan(&area[..n]);
     match r {
         Reading::Wrong(line, k) => say_wrong(plan_path, line, k),
-        Reading::Good(p) => run(p, path, count),
+        Reading::Good(p) => run(p, plan_path, path, &area[..n], count),
     }
 }
 

@@ -1,14 +1,16 @@
 -- Laws of what one request comes to, over the contract of the node's call.
 --   by-verdict        a call is refused and leaves all as it came, or meets none of its refusals and answers
---   fits              a reply lies within its buffer
---   refused-stays     a refused call leaves the book
+--   fits fits-any     a reply lies within its buffer
 --   look-stays        a request that is no write leaves the book
 --   told              the comparison with a copy of the book tells whether the book changed
---   looked refuses sends stores-it   the contracts of `look` and `step`
+--   answer-of         what a step answers has the node's answer in it
+--   looks-refused looks-as                the contract of `look`, by the case of the node's answer
+--   refuses-as steps-as                   the contract of `step`
 --   write-told uncut-told   the test for a write
 --   ends              where `frame::cut_at` says that a frame ends
---   counted counted-due   the length of a reply counts bytes of its buffer
---   due-as            what is due, by the case of a step and of its storing
+--   counted-due       the length of a reply counts bytes of its buffer
+--   waits-as          what a reply waits for, by the two cases
+--   due-as synced-as  what is due, by the case of a step and of what was done since
 -- Assumes nothing.
 use mathlib.Core.Path.{_≡_, refl, sym, ap, _∙_, subst}
 use mathlib.Core.Bool.{Bool, true, false, not}
@@ -44,7 +46,7 @@ use Rattle.keeper_step.specs.declared.Next.{Next}
 use Rattle.keeper_step.specs.declared.Next.the-variants as next
 use Rattle.keeper_step.specs.declared.Due.{Due}
 use Rattle.keeper_step.specs.declared.Due.the-variants as due
-use Rattle.keeper_step.specs.Step.{writeCut, asksToWrite, answerOf, lengthOf, Looked, Stepped, dueAfter}
+use Rattle.keeper_step.specs.Step.{writeCut, asksToWrite, answerOf, nextOf, lengthOf, Looked, Stepped, dueAfter}
 
 module _ (p : Plan) (f b y : List ℕ) where
   by-verdict : (P : ServedOutcome → Type 0) → ((k : ℕ) → P (servedOutcome (refused k) b y)) → (None (nodeLadder p f b y) → P (answered p (headerIn f) (bodyOf f) b y)) → P (served p f b y)
@@ -75,10 +77,6 @@ reply-fits h r b y b₂ y₂ k q =
     let l : length new ≡ framed (h .version) (length (r .body)) = length-frame (replying h (r .kind)) (r .body) in
     subst (λ (z : List ℕ). k ≤ length z) (sym t) (omega (arith, over-long new y, l, e))
 
-reply-is : (h : Header) (r : Reply) (b y b₂ y₂ : List ℕ) (k : ℕ) → servedOutcome (refused k) b₂ y₂ ≡ sends h r b y → ⊥
-unfolding sends
-reply-is h r b y b₂ y₂ k q = no-reply (framed (h .version) (length (r .body))) k (sym (ap (λ (o : ServedOutcome). o .answer) q))
-
 reply-book : (h : Header) (r : Reply) (s : SaidServed) (b y b₂ y₂ : List ℕ) → servedOutcome s b₂ y₂ ≡ sends h r b y → b₂ ≡ b
 unfolding sends
 reply-book h r s b y b₂ y₂ q = ap (λ (o : ServedOutcome). o .book) q
@@ -91,13 +89,9 @@ fits p f b y k b₂ y₂ c =
     (λ n h. reply-fits (headerIn f) (replyTo (kindOf f) (bodyOf f) (recordsOf p b)) (bookAfter p (headerIn f) (bodyOf f) b) y b₂ y₂ k h)
     (c .is)
 
-refused-stays : (p : Plan) (f b y : List ℕ) (r : Refusal) (b₂ y₂ : List ℕ) → NodeCall p f b y (Refused r) b₂ y₂ → b₂ ≡ b
-unfolding answered
-refused-stays p f b y r b₂ y₂ c =
-    by-verdict p f b y (λ (o : ServedOutcome). servedOutcome (refused (refusalNumber r)) b₂ y₂ ≡ o → b₂ ≡ b)
-    (λ j h. ap (λ (o : ServedOutcome). o .book) h)
-    (λ n h. absurd (reply-is (headerIn f) (replyTo (kindOf f) (bodyOf f) (recordsOf p b)) (bookAfter p (headerIn f) (bodyOf f) b) y b₂ y₂ (refusalNumber r) h))
-    (c .is)
+fits-any : (p : Plan) (f b y : List ℕ) (a : Answer) (b₂ y₂ : List ℕ) → NodeCall p f b y a b₂ y₂ → lengthOf a ≤ length y₂
+fits-any p f b y (Refused r) b₂ y₂ c = omega arith
+fits-any p f b y (Replied k) b₂ y₂ c = fits p f b y k b₂ y₂ c
 
 -- ---- no write
 -- what is cut out whole of a request is the request
@@ -134,32 +128,47 @@ told b b₂ d d₂ n t g e l m h =
     e ∙ ap (λ (q : List ℕ). alike q (part d₂ 0 n)) z ∙ ap (alike b₂) x
 
 -- ---- the contracts
-fits-any : (p : Plan) (f b y : List ℕ) (a : Answer) (b₂ y₂ : List ℕ) → asksToWrite f ≡ false → NodeCall p f b y a b₂ y₂ → Looked p f b y a b₂ y₂
-fits-any p f b y (Refused r) b₂ y₂ w c = record { call = c; stays = look-stays p f b y (Refused r) b₂ y₂ w c; fits = omega arith }
-fits-any p f b y (Replied k) b₂ y₂ w c = record { call = c; stays = look-stays p f b y (Replied k) b₂ y₂ w c; fits = fits p f b y k b₂ y₂ c }
+answer-of : (a : Answer) (e d : Bool) → answerOf (nextOf a e d) ≡ a
+answer-of (Refused r) e d = refl
+answer-of (Replied k) true true = refl
+answer-of (Replied k) true false = refl
+answer-of (Replied k) false d = refl
 
-pub looked : {p : Plan} {f b y : List ℕ} {a : Answer} {b₂ y₂ : List ℕ} → asksToWrite f ≡ false → NodeCall p f b y a b₂ y₂ → Looked p f b y a b₂ y₂
-looked {p} {f} {b} {y} {a} {b₂} {y₂} w c = fits-any p f b y a b₂ y₂ w c
+looks : (p : Plan) (d : Bool) (f b y : List ℕ) (a : Answer) (x : Next) (b₂ y₂ : List ℕ) → asksToWrite f ≡ false → NodeCall p f b y a b₂ y₂ → x ≡ nextOf a true d → Looked p d f b y x b₂ y₂
+looks p d f b y a x b₂ y₂ w c e =
+    let s : answerOf x ≡ a = ap (λ (z : Next). answerOf z) e ∙ answer-of a true d in
+    record {
+      call = subst (λ (z : Answer). NodeCall p f b y z b₂ y₂) (sym s) c;
+      stays = look-stays p f b y a b₂ y₂ w c;
+      next = e ∙ ap (λ (z : Answer). nextOf z true d) (sym s);
+      fits = subst (λ (z : Answer). lengthOf z ≤ length y₂) (sym s) (fits-any p f b y a b₂ y₂ c);
+    }
 
-pub refuses : (p : Plan) (f b y : List ℕ) (r : Refusal) (b₂ y₂ : List ℕ) → NodeCall p f b y (Refused r) b₂ y₂ → Stepped p f b y (next.Refused r) b₂ y₂
-refuses p f b y r b₂ y₂ c =
-    record { call = c; changed = sym (ap not (is-alike b₂ b (refused-stays p f b y r b₂ y₂ c))); fits = omega arith }
-
-pub sent-out : (p : Plan) (f b y : List ℕ) (k : ℕ) (b₂ y₂ : List ℕ) → NodeCall p f b y (Replied k) b₂ y₂ → true ≡ alike b₂ b → Stepped p f b y (next.Send k) b₂ y₂
-sent-out p f b y k b₂ y₂ c e = record { call = c; changed = ap not e; fits = fits p f b y k b₂ y₂ c }
-
-pub stores-it : (p : Plan) (f b y : List ℕ) (k : ℕ) (b₂ y₂ : List ℕ) → NodeCall p f b y (Replied k) b₂ y₂ → false ≡ alike b₂ b → Stepped p f b y (next.Store k) b₂ y₂
-stores-it p f b y k b₂ y₂ c e = record { call = c; changed = ap not e; fits = fits p f b y k b₂ y₂ c }
+steps : (p : Plan) (d : Bool) (f b y : List ℕ) (a : Answer) (x : Next) (b₂ y₂ : List ℕ) → NodeCall p f b y a b₂ y₂ → x ≡ nextOf a (alike b₂ b) d → Stepped p d f b y x b₂ y₂
+steps p d f b y a x b₂ y₂ c e =
+    let s : answerOf x ≡ a = ap (λ (z : Next). answerOf z) e ∙ answer-of a (alike b₂ b) d in
+    record {
+      call = subst (λ (z : Answer). NodeCall p f b y z b₂ y₂) (sym s) c;
+      next = e ∙ ap (λ (z : Answer). nextOf z (alike b₂ b) d) (sym s);
+      fits = subst (λ (z : Answer). lengthOf z ≤ length y₂) (sym s) (fits-any p f b y a b₂ y₂ c);
+    }
 
 -- an answer by its case, as a match tells it
-pub refuses-as : (p : Plan) (f b y : List ℕ) (a : Answer) (r : Refusal) (b₂ y₂ : List ℕ) → a ≡ Refused r → NodeCall p f b y a b₂ y₂ → Stepped p f b y (next.Refused r) b₂ y₂
-refuses-as p f b y a r b₂ y₂ e c = refuses p f b y r b₂ y₂ (subst (λ (x : Answer). NodeCall p f b y x b₂ y₂) e c)
+pub looks-refused : (p : Plan) (d : Bool) (f b y : List ℕ) (a : Answer) (r : Refusal) (b₂ y₂ : List ℕ) → asksToWrite f ≡ false → a ≡ Refused r → NodeCall p f b y a b₂ y₂
+    → Looked p d f b y (next.Refused r) b₂ y₂
+looks-refused p d f b y a r b₂ y₂ w e c = looks p d f b y a (next.Refused r) b₂ y₂ w c (sym (ap (λ (z : Answer). nextOf z true d) e))
 
-pub sends-as : (p : Plan) (f b y : List ℕ) (a : Answer) (k : ℕ) (b₂ y₂ : List ℕ) → a ≡ Replied k → NodeCall p f b y a b₂ y₂ → true ≡ alike b₂ b → Stepped p f b y (next.Send k) b₂ y₂
-sends-as p f b y a k b₂ y₂ e c = sent-out p f b y k b₂ y₂ (subst (λ (x : Answer). NodeCall p f b y x b₂ y₂) e c)
+pub looks-as : (p : Plan) (d : Bool) (f b y : List ℕ) (a : Answer) (k : ℕ) (x : Next) (b₂ y₂ : List ℕ) → asksToWrite f ≡ false → a ≡ Replied k → x ≡ nextOf (Replied k) true d → NodeCall p f b y a b₂ y₂
+    → Looked p d f b y x b₂ y₂
+looks-as p d f b y a k x b₂ y₂ w e u c = looks p d f b y a x b₂ y₂ w c (u ∙ sym (ap (λ (z : Answer). nextOf z true d) e))
 
-pub stores-as : (p : Plan) (f b y : List ℕ) (a : Answer) (k : ℕ) (b₂ y₂ : List ℕ) → a ≡ Replied k → NodeCall p f b y a b₂ y₂ → false ≡ alike b₂ b → Stepped p f b y (next.Store k) b₂ y₂
-stores-as p f b y a k b₂ y₂ e c = stores-it p f b y k b₂ y₂ (subst (λ (x : Answer). NodeCall p f b y x b₂ y₂) e c)
+pub refuses-as : (p : Plan) (d : Bool) (f b y : List ℕ) (a : Answer) (r : Refusal) (b₂ y₂ : List ℕ) → a ≡ Refused r → NodeCall p f b y a b₂ y₂ → Stepped p d f b y (next.Refused r) b₂ y₂
+refuses-as p d f b y a r b₂ y₂ e c = steps p d f b y a (next.Refused r) b₂ y₂ c (sym (ap (λ (z : Answer). nextOf z (alike b₂ b) d) e))
+
+pub steps-as : (p : Plan) (d : Bool) (f b y : List ℕ) (a : Answer) (k : ℕ) (t : Bool) (x : Next) (b₂ y₂ : List ℕ) → a ≡ Replied k → x ≡ nextOf (Replied k) t d → NodeCall p f b y a b₂ y₂ → t ≡ alike b₂ b
+    → Stepped p d f b y x b₂ y₂
+steps-as p d f b y a k t x b₂ y₂ e u c q =
+    steps p d f b y a x b₂ y₂ c (u ∙ ap (λ (s : Bool). nextOf (Replied k) s d) q ∙ sym (ap (λ (z : Answer). nextOf z (alike b₂ b) d) e))
 
 -- ---- the test for a write
 pub write-told : (f : List ℕ) (c : Cut) (e r : ℕ) → c ≡ cutAt f 0 → c ≡ EndsAt e → r ≡ kindOf f → eqb r writeRequestKind ≡ asksToWrite f
@@ -208,18 +217,26 @@ reply-not-said k r e = let z : _≡_ {A = ℕ} 0 1 = cc in omega arith
 reply-not-nothing : (k : ℕ) → due.Reply k ≡ due.Nothing → ⊥
 reply-not-nothing k e = let z : _≡_ {A = ℕ} 0 1 = cc in omega arith
 
-pub counted : (a : Answer) (k : ℕ) (y : List ℕ) → a ≡ Replied k → lengthOf a ≤ length y → Counts k y
-counted a k y e h = counts k y (subst (λ (x : Answer). lengthOf x ≤ length y) e h)
-
 pub counted-due : (x : Next) (s : Bool) (d : Due) (k : ℕ) (y : List ℕ) → d ≡ dueAfter x s → d ≡ due.Reply k → lengthOf (answerOf x) ≤ length y → Counts k y
 counted-due x s d k y e f h = within x s k y (sym f ∙ e) h
   where
     within : (x : Next) (s : Bool) (k : ℕ) (y : List ℕ) → due.Reply k ≡ dueAfter x s → lengthOf (answerOf x) ≤ length y → Counts k y
     within (next.Refused r) s k y e h = absurd (reply-not-said k r e)
     within (next.Send j) s k y e h = let z : k ≡ j = cc in counts k y (omega arith)
+    within (next.Sync j) true k y e h = let z : k ≡ j = cc in counts k y (omega arith)
+    within (next.Sync j) false k y e h = absurd (reply-not-nothing k e)
     within (next.Store j) true k y e h = let z : k ≡ j = cc in counts k y (omega arith)
     within (next.Store j) false k y e h = absurd (reply-not-nothing k e)
 
 -- ---- what is due
 pub due-as : (x : Next) (s : Bool) (y : Next) (t : Bool) (d : Due) → x ≡ y → s ≡ t → d ≡ dueAfter y t → d ≡ dueAfter x s
 due-as x s y t d e f h = h ∙ sym (ap (λ (z : Next). dueAfter z s) e ∙ ap (dueAfter y) f)
+
+-- a reply over a book that has to get to the disk waits like one over a book that is to be stored
+pub synced-as : (x : Next) (k : ℕ) (s : Bool) (d : Due) → x ≡ next.Sync k → d ≡ dueAfter (next.Store k) s → d ≡ dueAfter x s
+synced-as x k true d e h = h ∙ sym (ap (λ (z : Next). dueAfter z true) e)
+synced-as x k false d e h = h ∙ sym (ap (λ (z : Next). dueAfter z false) e)
+
+-- what a reply waits for, by what is known
+pub waits-as : (k : ℕ) (e d t u : Bool) (x : Next) → e ≡ t → d ≡ u → x ≡ nextOf (Replied k) t u → x ≡ nextOf (Replied k) e d
+waits-as k e d t u x p q h = h ∙ sym (ap (λ (z : Bool). nextOf (Replied k) z d) p ∙ ap (λ (z : Bool). nextOf (Replied k) t z) q)

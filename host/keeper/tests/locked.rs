@@ -79,7 +79,7 @@ impl Running {
 }
 
 #[test]
-fn told_of_the_lock_it_writes_over_what_a_crash_left() {
+fn told_of_the_lock_it_takes_away_what_a_crash_left() {
     let place = Place::new("over");
     place.fresh();
     fs::write(place.file("BOOK.new"), [7; 70_000]).expect("BOOK.new");
@@ -87,6 +87,18 @@ fn told_of_the_lock_it_writes_over_what_a_crash_left() {
     assert_eq!(acknowledged(&output.stdout).len(), 2, "{output:?}");
     assert_eq!(acknowledged(&output.stdout), place.held());
     assert!(!place.file("BOOK.new").exists());
+}
+
+/// A crash within rename may leave the book under both names.
+#[test]
+fn a_second_name_of_the_book_is_no_new_book() {
+    let place = Place::new("twin");
+    place.fresh();
+    place.run(&["locked"], &writes(&records(1, 1)));
+    fs::hard_link(place.file("BOOK"), place.file("BOOK.new")).expect("a second name");
+    let output = place.run(&["locked"], &writes(&records(2, 1)));
+    assert_eq!(acknowledged(&output.stdout).len(), 1, "{output:?}");
+    assert_eq!(place.held().len(), 2);
 }
 
 #[test]

@@ -1,6 +1,6 @@
 //! `keeper PLAN BOOK new NODE BYTES` makes a book only where nothing has its name: what cannot be opened is not missing.
 
-use keeper_trials::{one_line, records, words, writes, Place, BOOK, NODE};
+use keeper_trials::{fed, one_line, records, words, writes, Place, BOOK, NODE};
 use std::fs;
 use std::os::unix::fs::{symlink, PermissionsExt};
 use std::os::unix::process::CommandExt;
@@ -86,4 +86,17 @@ fn leaves_one_where_no_descriptor_is_free() {
     let output = command.current_dir(&place.folder).output().expect("keeper");
     assert!(output.stdout.is_empty(), "{output:?}");
     assert_eq!(fs::read(place.file("BOOK")).expect("BOOK"), book);
+}
+
+/// No descriptor is free at one of the opens, whichever it is: what cannot be opened is not missing.
+#[test]
+fn leaves_one_whichever_open_fails() {
+    let (place, book) = with_a_record("opens");
+    for n in 1..=4 {
+        let words = make();
+        let set = [("TRACE_FAIL", format!("open.{n}.24"))];
+        let output = fed(place.traced(&words.each_ref().map(String::as_str), &set), b"");
+        assert!(output.stdout.is_empty() && !output.stderr.is_empty(), "open {n}: {output:?}");
+        assert_eq!(fs::read(place.file("BOOK")).expect("BOOK"), book, "open {n}");
+    }
 }

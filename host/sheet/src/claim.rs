@@ -2,7 +2,8 @@
 //! (keeper has it by host/keeper-locked), and BOOK.new, by which keepers without that lock keep out of each other's way. Who has both is alone.
 //!
 //! The new book is written under a name of our own, BOOK.sheet; BOOK.new is a second name of that file, so that one that a crash of ours left
-//! can be told from a keeper's and is taken away. A keeper's is never touched.
+//! can be told from a keeper's and is taken away. A keeper's is never touched. BOOK.sheet is on disk before BOOK.new is made and until it is gone, so
+//! that a power cut leaves no BOOK.new of ours alone.
 
 use crate::files::{beside, followed, gone, sync_names, OURS};
 use std::fs::{self, File, OpenOptions};
@@ -38,9 +39,11 @@ impl Claim {
         let (own, new) = (beside(&path, OURS), beside(&path, ".new"));
         if same(&own, &new) {
             fs::remove_file(&new)?;
+            sync_names(&new)?;
         }
         gone(fs::remove_file(&own))?;
         let file = OpenOptions::new().write(true).create_new(true).open(&own)?;
+        sync_names(&own)?;
         let claim = Claim { path, file, own, new, _lock: lock };
         let since = Instant::now();
         loop {
@@ -70,7 +73,7 @@ impl Drop for Claim {
     fn drop(&mut self) {
         // Only where it is still ours: after a rename another may have made one.
         if same(&self.own, &self.new) {
-            let _ = fs::remove_file(&self.new);
+            let _ = fs::remove_file(&self.new).and_then(|()| sync_names(&self.new));
         }
         let _ = fs::remove_file(&self.own);
     }

@@ -80,6 +80,22 @@ pub fn sync_names(path: &Path) -> io::Result<()> {
     File::open(folder_of(path))?.sync_all()
 }
 
+/// Whether a wait for the disk failed. A file system that takes no writes, as that of an image, knows no such wait: nothing there is on its way.
+fn waited(done: io::Result<()>) -> io::Result<()> {
+    match done {
+        Err(error) if error.kind() == io::ErrorKind::InvalidInput => Ok(()),
+        other => other,
+    }
+}
+
+/// Waits until a file that was read is on disk, its bytes and its name, whoever wrote it: a program that was killed, or has not come so far yet,
+/// leaves one that a power cut may undo. A link is followed.
+pub fn settle(path: &Path) -> io::Result<()> {
+    let path = followed(path);
+    waited(File::open(&path)?.sync_all())?;
+    waited(sync_names(&path))
+}
+
 /// All of a file, or of standard input where its name is `-`; of more than `most` bytes the first most+1.
 pub fn read(path: &OsStr, most: usize) -> io::Result<Vec<u8>> {
     let mut bytes = Vec::new();

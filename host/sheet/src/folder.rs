@@ -104,12 +104,15 @@ fn clear(folder: &Path) -> io::Result<bool> {
     let ours = |path: &PathBuf| {
         let name = path.file_name().unwrap_or_default().to_string_lossy().into_owned();
         let name = name.strip_suffix(files::OURS).unwrap_or(&name);
-        name == MAKING
+        *path == files::beside(&folder.join("plan"), files::OURS)
+            || name == MAKING
             || name == MADE
             || name == "ask"
             || name.strip_prefix("book-").is_some_and(|node| node.parse::<u8>().is_ok())
     };
-    if !paths.is_empty() && !(paths.contains(&folder.join(MAKING)) && paths.iter().all(ours)) {
+    let making = folder.join(MAKING);
+    let begun = paths.contains(&making) || paths.contains(&files::beside(&making, files::OURS));
+    if !paths.is_empty() && !(begun && paths.iter().all(ours)) {
         return Ok(false);
     }
     // The sign goes last, so that a second cut leaves it.
@@ -160,9 +163,11 @@ impl Folder {
         self.path.join(format!("book-{node}"))
     }
 
-    /// A node's book, or why it cannot be had. A missing book is not made anew: an empty book in its place would be a lie.
+    /// A node's book, on disk, or why it cannot be had: what is told of it is still there after a power cut. A missing book is not made anew: an empty
+    /// book in its place would be a lie.
     pub fn book(&self, node: usize) -> Result<Vec<u8>, Silence> {
-        match files::read_file(&self.book_path(node), BOOK_MOST) {
+        let path = self.book_path(node);
+        match files::read_file(&path, BOOK_MOST).and_then(|bytes| files::settle(&path).map(|()| bytes)) {
             Ok(bytes) => Ok(bytes),
             Err(error) if missing(&error) => Err("missing".to_string()),
             Err(error) => Err(format!("cannot be read: {error}")),

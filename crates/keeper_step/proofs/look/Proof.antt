@@ -11,5 +11,11 @@ pub look-spec : {M : Type 1} → statement M
 look-spec =
     tie.close
     (tie.spec
-    (λ c κs. search needs) (λ c. search needs) (λ c. search needs)
-    (λ c. laws.looked (start (c .before .before .before .before) .pre) (c .before .before .before .before .serve .ensures)))
+    (λ c κs. search needs) (λ c. search needs) (λ c. search needs) (λ c κs. search needs) (λ c. search needs) (λ c. search needs)
+    (λ c.
+    let s = c .before .before .before .before .before .before .before in
+    laws.looks-refused _ _ _ _ _ _ _ _ _ (start s .pre) (c .before .said .given .1) (s .serve .ensures))
+    (λ c. search needs) (λ c. search needs)
+    (λ c.
+    let s = c .before .before .before .before .before .before .before .before in
+    laws.looks-as _ _ _ _ _ _ _ _ _ _ (start s .pre) (c .before .before .said2 .given .1) (c .waits-for .ensures) (s .serve .ensures)))

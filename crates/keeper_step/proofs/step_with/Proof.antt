@@ -1,5 +1,4 @@
 -- `keeper_step::step_with` is the node's call, and tells whether the book changed. Assumes nothing.
-use mathlib.Core.Path.{sym, _∙_}
 use native.Mathlib.Omega.{arith}
 use Rattle.keeper_step.proofs.Laws as laws
 use borrow.Author.Needs.{needs}
@@ -23,10 +22,8 @@ pub step-with-spec : {M : Type 1} → statement M
 step-with-spec =
     tie.close
     (tie.spec
-    (λ c κs. search needs) (λ c κs. search needs) (λ c. search needs) (λ c. search needs) (λ c κs. search needs) (λ c. search needs)
-    (λ c. search needs) (λ c. search needs)
-    (λ c. laws.sends-as _ _ _ _ _ _ _ _ (replied (c .before) .a2 .given .1) (served (replied (c .before)) .serve .ensures) (sym (c .if1 .taken) ∙ laws.told (start (copied (served (replied (c .before)))) .args .book .now) _ _ _ _ _ (copied (served (replied (c .before))) .copy .ensures) (c .before .same .ensures) (omega arith) (omega arith) (omega arith)))
+    (λ c κs. search needs) (λ c κs. search needs) (λ c. search needs) (λ c. search needs) (λ c κs. search needs) (λ c κs. search needs)
     (λ c. search needs) (λ c. search needs) (λ c. search needs)
-    (λ c. laws.refuses-as _ _ _ _ _ _ _ _ (c .before .a .given .1) (c .before .before .before .before .before .before .before .serve .ensures))
+    (λ c. laws.refuses-as _ _ _ _ _ _ _ _ _ (c .before .a .given .1) (c .before .before .before .before .before .before .before .serve .ensures))
     (λ c. search needs) (λ c. search needs) (λ c. search needs)
-    (λ c. laws.stores-as _ _ _ _ _ _ _ _ (replied (c .before) .a2 .given .1) (served (replied (c .before)) .serve .ensures) (sym (c .if1 .left) ∙ laws.told (start (copied (served (replied (c .before)))) .args .book .now) _ _ _ _ _ (copied (served (replied (c .before))) .copy .ensures) (c .before .same .ensures) (omega arith) (omega arith) (omega arith))))
+    (λ c. laws.steps-as _ _ _ _ _ _ _ _ _ _ _ (replied (c .before) .a2 .given .1) (c .waits-for .ensures) (served (replied (c .before)) .serve .ensures) (laws.told (start (copied (served (replied (c .before)))) .args .book .now) _ _ _ _ _ (copied (served (replied (c .before))) .copy .ensures) (c .before .same .ensures) (omega arith) (omega arith) (omega arith))))

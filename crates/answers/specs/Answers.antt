@@ -11,6 +11,7 @@ use mathlib.Core.List.{List, [], _∷_, _++_}
 use lib.Dec.{eqb}
 use Rattle.octets.specs.Bytes.{be}
 use Rattle.terms.specs.Ladder.{Rung, on, _and_}
+use Rattle.terms.specs.Stamp.{stampNumber}
 use Rattle.terms.specs.Terms.{planOk}
 use Rattle.terms.specs.declared.Plan.{Plan}
 use Rattle.node.specs.Fresh as fresh
@@ -50,7 +51,7 @@ endingBytes t n = be 40 t ++ be 2 n
 unfoldable pub endingAfter : Said → List ℕ → List ℕ
 endingAfter (refused k) old = old
 endingAfter stillOpen old = old
-endingAfter (done t n) old = endingBytes t n
+endingAfter (done t n) old = endingBytes (stampNumber t) n
 endingAfter (neverWritten n) old = endingBytes 0 n
 endingAfter (aborted n) old = endingBytes 0 n
 endingAfter (roundsSpent n) old = endingBytes 0 n

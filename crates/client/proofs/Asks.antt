@@ -31,14 +31,15 @@ use Rattle.rounds.specs.declared.Heard.the-variants.{Record}
 use Rattle.rounds.specs.Rounds.{heardCount, Closed}
 use Rattle.session.specs.declared.Session.{Session}
 use Rattle.session.specs.declared.Took.{Took}
-use Rattle.session.specs.declared.Operation.{Operation}
-use Rattle.session.specs.declared.Operation.the-variants.{Write, Read}
+use Rattle.standing.specs.declared.Operation.{Operation}
+use Rattle.standing.specs.declared.Operation.the-variants.{Write, Read}
 use Rattle.session.specs.declared.opening.Opened.{Opened}
 use Rattle.session.specs.declared.opening.Opening.the-variants.{Accepted}
-use Rattle.session.specs.Session.{isStoring, isEnded, replies, askNow, markedOf, nextOf, storingOf, refused, saidOf, roundOpen}
+use Rattle.standing.specs.Standing.{isStoring, isEnded, replies, lengthsOk, sameOperation, askIn}
+use Rattle.session.specs.Session.{askNow, markedOf, nextOf, storingOf, refused, saidOf, roundOpen}
 use Rattle.session.specs.Opening.{OpenCall}
 use Rattle.session.specs.Ranges.{inRange}
-use Rattle.session.specs.Reply.{lengthsOk, sameOperation, awaited, isHeard, replyLadder, recordLadder}
+use Rattle.session.specs.Reply.{awaited, isHeard, replyLadder, recordLadder}
 use Rattle.session.specs.Reader.{Outcome, outcome, closed, readReply, ReadReplyCall}
 use Rattle.session.specs.Writer.{Leaves, leaves, timedOf, writeReply, WriteReplyCall}
 use Rattle.session.proofs.Rules.{range-stands}
@@ -57,21 +58,21 @@ use Rattle.client.proofs.Sessions.{every-round}
 -- ---- one call
 -- a session as it was, but for its marks and its greatest time
 still : (s u : Session) → u .round .stage ≡ s .round .stage → u .round .number ≡ s .round .number → u .opening ≡ s .opening → Moves s u
-unfolding askNow
+unfolding askIn
 still s u a b c =
     record { opening = c; goes = stays a b (λ j. cond (isStoring (a j)) (c j .0 + b j) (c j .0 + (b j - 1))) }
 
 module _ (s : Session) (low : 1 ≤ s .round .number) (going : isEnded (s .round .stage) ≡ false) (asks : isStoring (s .round .stage) ≡ false) (h : Heard) (k : ℕ) (t : Timestamp) where
   next-opens : Moves s (nextOf (markedOf s k h) t)
-  unfolding askNow
+  unfolding askIn
   next-opens = record { opening = refl; goes = opens going refl (rw asks (omega arith)) }
 
   repair-opens : Moves s (storingOf (markedOf s k h) t)
-  unfolding askNow
+  unfolding askIn
   repair-opens = record { opening = refl; goes = opens going refl (rw asks (omega arith)) }
 
   write-opens : (x : ℕ) → Moves s (storingOf (timedOf s k x) t)
-  unfolding askNow
+  unfolding askIn
   write-opens x = record { opening = refl; goes = opens going refl (rw asks (omega arith)) }
 
 module _ (p : Plan) (s : Session) (f d i : List ℕ) where
@@ -289,7 +290,7 @@ module _ (op : Operation) (p : Plan) (a : Ask) (r : Opened) (opened : OpenCall o
   now = lastSession (r .session) cs
 
   pub asks-between : (a .0 ≤ askNow now) × (askNow now ≤ a .0 + p .w)
-  unfolding askNow
+  unfolding askIn
   asks-between = go (isStoring (now .round .stage))
     where
       from : now .opening .0 ≡ a .0

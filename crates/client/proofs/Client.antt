@@ -3,16 +3,15 @@
 --   opening-refused owed-refused write-refused read-refused   a refused call changes nothing; its condition holds, and none before it
 --   opening-refuses owed-refuses                       and so it answers wherever that is so; for replies so-write and so-read
 --   write-answers so-write read-answers so-read        each answer of a reply exactly when its condition holds (specs/Endings.antt)
-use Prim.Native.Nat.{ℕ, _^_, _<_}
+use Prim.Native.Nat.{ℕ}
 use mathlib.Core.Path.{_≡_, refl, sym, ap, _∙_, subst}
 use mathlib.Core.Bool.{cond}
 use mathlib.Core.List.{List}
 use native.Mathlib.Omega.{arith}
-use borrow.Author.Tests.{eqb-true, eq-eqb}
 use lib.Dec.{eqb}
 use lib.ListN.{length}
 use Rattle.octets.specs.Bytes.{over}
-use Rattle.terms.specs.Stamp.{zeroStamp, stampNumber, hashNumber}
+use Rattle.terms.specs.Stamp.{zeroStamp}
 use Rattle.terms.specs.Terms.{refusalNumber}
 use Rattle.terms.specs.declared.Ask.{Ask}
 use Rattle.terms.specs.declared.Plan.{Plan}
@@ -21,10 +20,9 @@ use Rattle.terms.specs.declared.Refusal.the-variants.{OutsidePlan}
 use Rattle.terms.specs.declared.Timestamp.{Timestamp}
 use Rattle.terms.specs.Ladder.{Given}
 use Rattle.terms.proofs.Rungs.{refusal-one}
-use Rattle.terms.proofs.Stamps.{Words, hash-one, stamp-time, stamp-2}
 use Rattle.rounds.specs.declared.Bound.the-variants.{Free}
 use Rattle.session.specs.declared.Session.{Session}
-use Rattle.session.specs.declared.Operation.{Operation}
+use Rattle.standing.specs.declared.Operation.{Operation}
 use Rattle.session.specs.declared.Took.{Took}
 use Rattle.session.specs.declared.Answer.{Answer}
 use Rattle.session.specs.declared.Answer.the-variants.{Refused, Open, Done, NeverWritten, Aborted, RoundsSpent, ClockSpent}
@@ -47,18 +45,6 @@ use Rattle.client.proofs.Reading as reading
 use Rattle.client.proofs.Writing as writing
 
 -- ---- the paper's terms determine the answer
--- the four words of a timestamp's verifier have 8 bytes each, as every word of a machine has
-pub record Sized (t : Timestamp) : Type 0 where
-  pub head : t .verifier .0 < 256 ^ 8
-  pub rest : Words (t .verifier)
-
-stamp-one : (t u : Timestamp) → Sized t → Sized u → stampNumber t ≡ stampNumber u → t ≡ u
-stamp-one t u v w e =
-    let z = stamp-time t u (v .rest) (w .rest) (v .head) (w .head) e in
-    let h = eqb-true (hashNumber (t .verifier)) (hashNumber (u .verifier)) (stamp-2 t u z ∙ eq-eqb (stampNumber t) (stampNumber u) e) in
-    let k = hash-one (t .verifier) (u .verifier) (v .rest) (w .rest) h in
-    λ i. record { time = record { 0 = z i }; verifier = record { 0 = k .s0 i; 1 = k .s1 i; 2 = k .s2 i; 3 = k .s3 i } }
-
 -- an answer cut into its parts, those that it has not filled in
 pub record Parts : Type 0 where
   pub which : ℕ
@@ -93,27 +79,27 @@ whole-back (Aborted n) = refl
 whole-back (RoundsSpent n) = refl
 whole-back ClockSpent = refl
 
--- the same parts as numbers, of what was said
+-- the same parts of what was said, the refusal as a number
 record Numbers : Type 0 where
   which : ℕ
   refusal : ℕ
-  stamp : ℕ
+  stamp : Timestamp
   rounds : ℕ
 
-abbrev numbers : ℕ → ℕ → ℕ → ℕ → Numbers
+abbrev numbers : ℕ → ℕ → Timestamp → ℕ → Numbers
 numbers k r t n = record { which = k; refusal = r; stamp = t; rounds = n }
 
 abbrev numbersOf : Said → Numbers
-numbersOf (refused r) = numbers 0 r (stampNumber zeroStamp) 0
-numbersOf stillOpen = numbers 1 1 (stampNumber zeroStamp) 0
+numbersOf (refused r) = numbers 0 r zeroStamp 0
+numbersOf stillOpen = numbers 1 1 zeroStamp 0
 numbersOf (done t n) = numbers 2 1 t n
-numbersOf (neverWritten n) = numbers 3 1 (stampNumber zeroStamp) n
-numbersOf (aborted n) = numbers 4 1 (stampNumber zeroStamp) n
-numbersOf (roundsSpent n) = numbers 5 1 (stampNumber zeroStamp) n
-numbersOf clockSpent = numbers 6 1 (stampNumber zeroStamp) 0
+numbersOf (neverWritten n) = numbers 3 1 zeroStamp n
+numbersOf (aborted n) = numbers 4 1 zeroStamp n
+numbersOf (roundsSpent n) = numbers 5 1 zeroStamp n
+numbersOf clockSpent = numbers 6 1 zeroStamp 0
 
 abbrev counted : Parts → Numbers
-counted x = numbers (x .which) (refusalNumber (x .refusal)) (stampNumber (x .stamp)) (x .rounds)
+counted x = numbers (x .which) (refusalNumber (x .refusal)) (x .stamp) (x .rounds)
 
 numbers-are : (a : Answer) → numbersOf (saidOf a) ≡ counted (partsOf a)
 numbers-are (Refused r) = refl
@@ -124,16 +110,12 @@ numbers-are (Aborted n) = refl
 numbers-are (RoundsSpent n) = refl
 numbers-are ClockSpent = refl
 
--- the answer of a machine: the timestamp in it, if there is one, is one of words
-abbrev pub Machine : Answer → Type 0
-Machine a = Sized (partsOf a .stamp)
-
-pub said-one : (a b : Answer) → Machine a → Machine b → saidOf a ≡ saidOf b → a ≡ b
-said-one a b v w e =
+pub said-one : (a b : Answer) → saidOf a ≡ saidOf b → a ≡ b
+said-one a b e =
     let h : counted (partsOf a) ≡ counted (partsOf b) = sym (numbers-are a) ∙ ap numbersOf e ∙ numbers-are b in
     let k = ap (λ (x : Numbers). x .which) h in
     let r = refusal-one (partsOf a .refusal) (partsOf b .refusal) (ap (λ (x : Numbers). x .refusal) h) in
-    let t = stamp-one (partsOf a .stamp) (partsOf b .stamp) v w (ap (λ (x : Numbers). x .stamp) h) in
+    let t = ap (λ (x : Numbers). x .stamp) h in
     let n = ap (λ (x : Numbers). x .rounds) h in
     sym (whole-back a) ∙ ap whole (λ i. parts (k i) (r i) (t i) (n i)) ∙ whole-back b
 

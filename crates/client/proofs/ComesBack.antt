@@ -22,6 +22,7 @@ use Rattle.sha256.proofs.Laws.{sha256-length}
 use Rattle.terms.specs.Ladder.{all}
 use Rattle.terms.specs.Terms.{planOk, countsOk, limitsOk, columnOf, recordLength, COMPLETE, INCOMPLETE, slotsOf, fragmentAt, runsOf, thresholdsOf}
 use Rattle.terms.specs.declared.Plan.{Plan}
+use Rattle.terms.specs.declared.Timestamp.{Timestamp}
 use Rattle.terms.specs.declared.Member.the-variants.{Repairable}
 use Rattle.terms.specs.declared.Clients.the-variants.{Byzantine}
 use Rattle.terms.proofs.Plans.{plan-is}
@@ -39,7 +40,8 @@ use Rattle.rounds.specs.declared.Lead.{Lead}
 use Rattle.rounds.specs.Rounds.{closeWith}
 use Rattle.session.specs.declared.Session.{Session}
 use Rattle.session.specs.declared.Took.{Took}
-use Rattle.session.specs.Session.{isStoring, done, saidOf}
+use Rattle.standing.specs.Standing.{isStoring}
+use Rattle.session.specs.Session.{done, saidOf}
 use Rattle.recover.specs.Recover.{lowest, decoded, collected}
 use Rattle.session.specs.Reader.{Outcome, closed, ReadReplyCall}
 use Rattle.recover.specs.Records.{crossFor, recordsFor}
@@ -98,7 +100,7 @@ module _ (p : Plan) (t : ℕ) (i : List ℕ) (ok : planOk p ≡ true) (bytes : O
       block-comes-back (from 0 (p .m)) (distinct-from 0 (p .m)) (all-from 0 (p .m) (λ k l u. omega arith)) (length-from 0 (p .m))
 
   -- ---- a reply call that says done
-  module _ (s : Session) (f d : List ℕ) (took : Took) (d₂ i₂ : List ℕ) (call : ReadReplyCall p s f d out took d₂ i₂) (stamp n : ℕ)
+  module _ (s : Session) (f d : List ℕ) (took : Took) (d₂ i₂ : List ℕ) (call : ReadReplyCall p s f d out took d₂ i₂) (stamp : Timestamp) (n : ℕ)
       (says : saidOf (took .answer) ≡ done stamp n) where
     -- the session and the desk with this reply, and the close of the round
     abbrev u : Session

@@ -20,10 +20,11 @@ use Rattle.rounds.specs.declared.Heard.{Heard}
 use Rattle.rounds.specs.declared.Heard.the-variants.{Record}
 use Rattle.rounds.specs.Rounds.{heardCount}
 use Rattle.session.specs.declared.Session.{Session}
-use Rattle.session.specs.declared.Operation.the-variants.{Read}
+use Rattle.standing.specs.declared.Operation.the-variants.{Read}
 use Rattle.session.specs.declared.opening.Opened.{Opened}
 use Rattle.session.specs.declared.opening.Opening.the-variants.{Accepted}
-use Rattle.session.specs.Session.{isAsking, isStoring, isEnded, replies, markedOf, endedOf, Said, refused, stillOpen, saidOf, isRefused, roundOpen}
+use Rattle.standing.specs.Standing.{isAsking, isStoring, isEnded, replies}
+use Rattle.session.specs.Session.{markedOf, endedOf, Said, refused, stillOpen, saidOf, isRefused, roundOpen}
 use Rattle.session.specs.Opening.{OpenCall}
 use Rattle.session.specs.Reply.{isHeard}
 use Rattle.session.specs.Reader.{Outcome, outcome, readReply}

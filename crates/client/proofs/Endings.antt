@@ -12,6 +12,7 @@ use native.Mathlib.Omega.{arith}
 use lib.ListN.{length}
 use Rattle.terms.specs.Terms.{COMPLETE, slotsOf}
 use Rattle.terms.specs.declared.Plan.{Plan}
+use Rattle.terms.specs.declared.Timestamp.{Timestamp}
 use Rattle.terms.proofs.Facts.{facts}
 use Rattle.frame.specs.Frame.{frameNode}
 use Rattle.rounds.specs.declared.Heard.{Heard}
@@ -20,7 +21,8 @@ use Rattle.rounds.specs.Rounds.{bitOf, heardCount, markOf, setOf}
 use Rattle.rounds.proofs.Closes.{Best, candidate, Members, members-are}
 use Rattle.session.specs.declared.Session.{Session}
 use Rattle.session.specs.declared.Took.{Took}
-use Rattle.session.specs.Session.{isStoring, markedOf, Said, refused, stillOpen, done, neverWritten, aborted, roundsSpent, clockSpent, saidOf, roundOpen}
+use Rattle.standing.specs.Standing.{isStoring}
+use Rattle.session.specs.Session.{markedOf, Said, refused, stillOpen, done, neverWritten, aborted, roundsSpent, clockSpent, saidOf, roundOpen}
 use Rattle.session.specs.Reader.{ReadReplyCall, Outcome, outcome, closed, settled, stored, accepted}
 use Rattle.session.specs.Writer.{WriteReplyCall}
 use Rattle.client.specs.Endings.{Exactly, readLadder, afterReply, deskAfter, Candidate, size, WhenNever, WhenAborted, WhenSpent, WhenDone, WhenOpen, DoneByRead, RepairOpens, WriteDone, WriteClock, WriteOpen, ReadGives, WriteGives}
@@ -50,7 +52,7 @@ module _ (p : Plan) (s : Session) (f d i : List ℕ) (t : Took) (d₂ i₂ : Lis
   rounds-spent n = exactly (roundsSpent n)
 
   -- Done, exactly when the set is complete and validates, or a repair round has N-t replies.
-  pub read-done : (stamp n : ℕ) → Exactly (said ≡ done stamp n) (WhenDone p s f d (length i) stamp n)
+  pub read-done : (stamp : Timestamp) (n : ℕ) → Exactly (said ≡ done stamp n) (WhenDone p s f d (length i) stamp n)
   read-done stamp n = exactly (done stamp n)
 
   -- Still open, exactly when the round is not full, or the next round or a repair round opens.
@@ -63,7 +65,7 @@ module _ (p : Plan) (s : Session) (f d i : List ℕ) (t : Took) (d₂ : List ℕ
   exactly-write x = ((λ e. subst (WriteGives p s f d (length i)) e (client.write-answers p s f d i t d₂ call)), client.so-write p s f d i t d₂ call x)
 
   -- Done, exactly when the write round has N-t replies that bear the timestamp.
-  pub write-done : (stamp n : ℕ) → Exactly (saidOf (t .answer) ≡ done stamp n) (WriteDone p s f d (length i) stamp n)
+  pub write-done : (stamp : Timestamp) (n : ℕ) → Exactly (saidOf (t .answer) ≡ done stamp n) (WriteDone p s f d (length i) stamp n)
   write-done stamp n = exactly-write (done stamp n)
 
   -- Clock spent, exactly when the time round has N-t replies and the greatest is 2^64-1.
@@ -138,7 +140,7 @@ pub set-is : (p : Plan) (s : Session) (f d : List ℕ) (a : ℕ)
 set-is p s f d a = members-are (afterReply p s f .marks) (deskAfter p f d) (slotsOf p) a (p .n)
 
 -- where a set is decoded, and where it is repaired, it has m nodes
-pub decodes : (p : Plan) (s : Session) (f d : List ℕ) (item stamp n : ℕ) (w : DoneByRead p s f d item stamp n) → p .m ≤ size p s f d (w .node)
+pub decodes : (p : Plan) (s : Session) (f d : List ℕ) (item : ℕ) (stamp : Timestamp) (n : ℕ) (w : DoneByRead p s f d item stamp n) → p .m ≤ size p s f d (w .node)
 decodes p s f d item stamp n w =
     let g = facts p (reading.taken p s f d item (w .closes .accepted) .plan) in
     let h = w .full in

@@ -7,11 +7,10 @@ use mathlib.Core.Logic.{_⊎_, inl, inr}
 use native.Mathlib.Omega.{arith}
 use borrow.Author.Tests.{ltb-true, ltb-false, leb-true, leb-false, lt-leb, le-leb, not-false}
 use lib.Dec.{leb}
-use lib.ListN.{length, length-drop}
+use lib.ListN.{length}
 use Rattle.octets.specs.Bytes.{put}
-use Rattle.octets.proofs.Laws.{length-put, slot-room}
 use Rattle.terms.specs.Ladder.{first, _and_, None}
-use Rattle.terms.specs.Stamp.{stampAt, stampNumber}
+use Rattle.terms.specs.Stamp.{stampAt}
 use Rattle.terms.specs.Terms.{planOk, recordLength, COMPLETE, INCOMPLETE, decided, slotsOf, thresholdsOf}
 use Rattle.terms.specs.declared.Plan.{Plan}
 use Rattle.terms.specs.declared.Member.{Member}
@@ -22,23 +21,24 @@ use Rattle.terms.specs.declared.Verdict.the-variants as verdict
 use Rattle.terms.proofs.Down.{clear}
 use Rattle.terms.proofs.Rungs.{both}
 use Rattle.terms.proofs.Facts.{is-complete, is-incomplete, is-unclassifiable, decided-is}
-use Rattle.terms.proofs.Stamps.{stamp-at-number}
 use Rattle.frame.specs.Frame.{frameNode, bodyOf, goodReply}
 use Rattle.frame.proofs.Frames.{reply-is}
 use Rattle.rounds.specs.declared.Heard.the-variants.{First, Record}
 use Rattle.rounds.specs.declared.Lead.{Lead}
 use Rattle.rounds.specs.declared.Lead.the-variants.{Nobody, Node}
-use Rattle.rounds.specs.Rounds.{heardCount, markOf, leadOf, slotStamp, Closed, closeWith}
+use Rattle.rounds.specs.Rounds.{heardCount, markOf, leadOf, Closed, closeWith}
 use Rattle.rounds.proofs.Laws.{lead-room}
 use Rattle.rounds.proofs.Closes.{candidate, no-candidate}
 use Rattle.session.specs.declared.Session.{Session}
-use Rattle.session.specs.declared.Operation.the-variants.{Read}
-use Rattle.session.specs.Session.{isStoring, replies, markedOf, endedOf, nextOf, storingOf, Said, refused, stillOpen, done, neverWritten, aborted, roundsSpent, clockSpent, roundOpen}
+use Rattle.standing.specs.declared.Operation.the-variants.{Read}
+use Rattle.standing.specs.Standing.{isStoring, replies, lengthsOk, sameOperation}
+use Rattle.session.specs.Session.{markedOf, endedOf, nextOf, storingOf, Said, refused, stillOpen, done, neverWritten, aborted, roundsSpent, clockSpent, roundOpen}
 use Rattle.session.specs.Ranges.{inRange}
-use Rattle.session.specs.Reply.{bears, lengthsOk, sameOperation}
+use Rattle.session.specs.Reply.{bears}
 use Rattle.recover.specs.Recover.{decoded, collected, repaired}
 use Rattle.session.specs.Reader.{Outcome, outcome, failing, acted, closed, settled, heard, stored, accepted, readReply}
-use Rattle.session.proofs.Rules.{lengths-are, range-stands, few-open, many-over}
+use Rattle.standing.proofs.Rules.{lengths-are}
+use Rattle.session.proofs.Rules.{range-stands, few-open, many-over}
 use Rattle.session.proofs.Readers as readers
 use Rattle.client.specs.Endings.{readLadder, afterReply, deskAfter, Closes, Candidate, size, valid, Fails, ReadGives}
 use Rattle.terms.proofs.Ladders as ladders
@@ -146,7 +146,7 @@ module _ (p : Plan) (s : Session) (f d i : List ℕ) where
     act = acted p u c e i
 
     pub is-done : decided (p .member) (COMPLETE p) (INCOMPLETE p) (size p s f d a) ≡ verdict.Complete → valid p s f d a ≡ true
-        → act ≡ outcome (done (stampNumber (c .stamp)) (s .round .number)) (endedOf u) e (decoded p c e i)
+        → act ≡ outcome (done (c .stamp) (s .round .number)) (endedOf u) e (decoded p c e i)
     is-done v w =
         sym (readers.act-led p u c e i a _ lead-is
         (readers.act-done p u c a e i (c .verdict) (valid p s f d a) (endedOf u) (decoded p c e i) (verdict-is ∙ v) refl w refl refl))
@@ -197,24 +197,6 @@ module _ (p : Plan) (s : Session) (f d i : List ℕ) where
     low-round = range-stands p s d (t .range) .high
 
     -- the desk keeps its length, and the candidate's slot lies in it
-    desk-is : length e ≡ p .n * recordLength p
-    desk-is = go (bears p f) refl
-      where
-        go : (x : Bool) → bears p f ≡ x → length (cond x (put d (frameNode f * recordLength p) (bodyOf f)) d) ≡ p .n * recordLength p
-        go true b =
-            let l = readers.bears-is p f true (sym b) refl .1 in
-            let k : length (bodyOf f) ≡ recordLength p = simp length-drop (omega arith) in
-            let r = slot-room (frameNode f) (p .n) (recordLength p) (length d) (t .node) (omega (arith, t .desk)) in
-            length-put d (frameNode f * recordLength p) (bodyOf f) (omega arith) ∙ t .desk
-        go false b = t .desk
-
-    pub stamp-of : (a : ℕ) → Candidate p s f d a → stampNumber (c .stamp) ≡ slotStamp e (slotsOf p) a
-    unfolding slotStamp
-    stamp-of a h =
-        let r = slot-room a (p .n) (recordLength p) (length e) (lead-room (u .marks) e (slotsOf p) (p .n) a (leadOf (u .marks) e (slotsOf p) (p .n)) refl h) (omega (arith, desk-is)) in
-        let k : 40 ≤ recordLength p = unfold recordLength in omega arith in
-        ap stampNumber (stamp-is a h) ∙ stamp-at-number e (a * recordLength p) (omega arith)
-
     in-read : isStoring (s .round .stage) ≡ false → readReply p s f d i ≡ settled p u e i
     unfolding accepted
     in-read q = is-accepted ∙ rw q (heard-settles p s f d i)
@@ -237,7 +219,7 @@ module _ (p : Plan) (s : Session) (f d i : List ℕ) where
     waits-repair q h = in-repair q ∙ rw (few-open p (markedOf s (frameNode f) Record) h)
 
     pub ends-repair : isStoring (s .round .stage) ≡ true → replies p ≤ heardCount (markedOf s (frameNode f) Record .marks)
-        → readReply p s f d i ≡ outcome (done (stampNumber (s .stamp)) (s .round .number)) (endedOf (markedOf s (frameNode f) Record)) d (collected p d i)
+        → readReply p s f d i ≡ outcome (done (s .stamp) (s .round .number)) (endedOf (markedOf s (frameNode f) Record)) d (collected p d i)
     unfolding stored
     ends-repair q h = in-repair q ∙ rw (many-over p (markedOf s (frameNode f) Record) h)
 
@@ -286,7 +268,7 @@ module _ (p : Plan) (s : Session) (f d i : List ℕ) where
             → Gives (acted p u c e i)
         by-size a h (whole x v) true y =
             subst Gives (sym (is-done a h v y))
-            (inl (record { closes = k; node = a; candidate = h; full = x; validated = y; of = stamp-of a h; counted = refl }))
+            (inl (record { closes = k; node = a; candidate = h; full = x; validated = y; of = stamp-is a h; counted = refl }))
         by-size a h (whole x v) false y = rest a h (inr (y, inl x)) (leb (p .w) (s .round .number)) refl
         by-size a h (mended x l m v) true y =
             subst Gives (sym (is-mended a h v y))
@@ -349,7 +331,7 @@ module _ (p : Plan) (s : Session) (f d i : List ℕ) where
       let n = g .closes .accepted in
       ap (λ (o : Outcome). o .said) (closes-read n (g .closes .asks) (g .closes .enough)
       ∙ is-done (g .node) (g .candidate) (whole-is (p .member) (COMPLETE p) (INCOMPLETE p) _ (g .full)) (g .validated))
-      ∙ (λ k. done ((stamp-of n (g .node) (g .candidate) ∙ sym (g .of)) k) (sym (g .counted) k))
+      ∙ (λ k. done ((stamp-is (g .node) (g .candidate) ∙ sym (g .of)) k) (sym (g .counted) k))
   so-gives (done stamp rounds) (inr g) =
       ap (λ (o : Outcome). o .said) (ends-repair (g .accepted) (g .stores) (g .enough)) ∙ (λ k. done (sym (g .of) k) (sym (g .counted) k))
   so-gives (neverWritten rounds) g =

@@ -14,18 +14,19 @@ use Rattle.octets.specs.Bytes.{put, Octets}
 use Rattle.octets.proofs.Meaning.{octets-drop, octets-put}
 use Rattle.terms.specs.Ladder.{first}
 use Rattle.terms.specs.Terms.{planOk, recordLength}
-use Rattle.terms.specs.Stamp.{stampNumber}
 use Rattle.terms.specs.declared.Plan.{Plan}
+use Rattle.terms.specs.declared.Timestamp.{Timestamp}
 use Rattle.terms.proofs.Rungs.{clash}
 use Rattle.frame.specs.Frame.{frameNode, bodyOf, headBytes, versionOf}
 use Rattle.rounds.specs.declared.Heard.the-variants.{Record}
 use Rattle.rounds.specs.declared.Lead.the-variants.{Node}
 use Rattle.session.specs.declared.Session.{Session}
-use Rattle.session.specs.declared.Stage.{Stage}
-use Rattle.session.specs.declared.Stage.the-variants.{Asking, Storing, Ended}
+use Rattle.standing.specs.declared.Stage.{Stage}
+use Rattle.standing.specs.declared.Stage.the-variants.{Asking, Storing, Ended}
 use Rattle.session.specs.declared.Took.{Took}
-use Rattle.session.specs.declared.Operation.the-variants.{Read}
-use Rattle.session.specs.Session.{isAsking, isStoring, isEnded, markedOf, endedOf, refused, stillOpen, done, roundOpen}
+use Rattle.standing.specs.declared.Operation.the-variants.{Read}
+use Rattle.standing.specs.Standing.{isAsking, isStoring, isEnded}
+use Rattle.session.specs.Session.{markedOf, endedOf, refused, stillOpen, done, roundOpen}
 use Rattle.session.specs.Reply.{bears, replyLadder, recordLadder}
 use Rattle.recover.specs.Recover.{decoded, collected, repaired}
 use Rattle.session.specs.Reader.{Outcome, outcome, acted, closed, settled, stored, accepted, readReply, ReadReplyCall}
@@ -122,7 +123,7 @@ module _ (p : Plan) (s : Session) (f d i : List ℕ) (past : isAsking (s .round 
   -- what a reply leaves there
   record Stays (x : Outcome) : Type 0 where
     desk : x .desk ≡ d
-    item : (t n : ℕ) → x .said ≡ done t n → x .item ≡ collected p d i
+    item : (t : Timestamp) (n : ℕ) → x .said ≡ done t n → x .item ≡ collected p d i
     later : isAsking (x .session .round .stage) ≡ false
 
   turned-away : (j : ℕ) → Stays (outcome (refused j) s d i)
@@ -134,7 +135,7 @@ module _ (p : Plan) (s : Session) (f d i : List ℕ) (past : isAsking (s .round 
     where
       go : (b : Bool)
           → Stays (cond b (outcome stillOpen (markedOf s (frameNode f) Record) d i)
-          (outcome (done (stampNumber (s .stamp)) (s .round .number)) (endedOf (markedOf s (frameNode f) Record)) d (collected p d i)))
+          (outcome (done (s .stamp) (s .round .number)) (endedOf (markedOf s (frameNode f) Record)) d (collected p d i)))
       go true = record { desk = refl; item = λ t n e. let z : _≡_ {A = ℕ} 0 1 = cc in absurd (omega arith); later = past }
       go false = record { desk = refl; item = λ t n e. refl; later = refl }
 

@@ -18,6 +18,7 @@ use Rattle.sha256.specs.Sha256.{sha256}
 use Rattle.sha256.proofs.Laws.{sha256-length}
 use Rattle.terms.specs.Terms.{planOk, recordLength, slotsOf}
 use Rattle.terms.specs.declared.Plan.{Plan}
+use Rattle.terms.specs.declared.Timestamp.{Timestamp}
 use Rattle.terms.proofs.Rungs.{both}
 use Rattle.fragments.specs.Fragments.{All, fragment}
 use Rattle.fragments.proofs.Interp.{all-map}
@@ -27,7 +28,8 @@ use Rattle.terms.proofs.Places.{record-length}
 use Rattle.record.proofs.Desks.{entry-of}
 use Rattle.session.specs.declared.Session.{Session}
 use Rattle.session.specs.declared.Took.{Took}
-use Rattle.session.specs.Session.{isStoring, done, saidOf}
+use Rattle.standing.specs.Standing.{isStoring}
+use Rattle.session.specs.Session.{done, saidOf}
 use Rattle.recover.specs.Recover.{lowest}
 use Rattle.session.specs.Reader.{closed, ReadReplyCall}
 use Rattle.recover.specs.Records.{crossFor, recordsFor}
@@ -81,7 +83,7 @@ module _ (p : Plan) (t : ℕ) (i : List ℕ) (ok : planOk p ≡ true) (bytes : O
 
   -- A READ THAT IS DONE WITH THE TIMESTAMP OF A WRITE LEAVES ITS ITEM: the m lowest-numbered of its set, as their slots hold them with this reply,
   -- bear that timestamp, and their hashes hold
-  pub stamp-comes-back : (s : Session) (f d : List ℕ) (took : Took) (d₂ i₂ : List ℕ) → ReadReplyCall p s f d out took d₂ i₂ → (stamp n : ℕ)
+  pub stamp-comes-back : (s : Session) (f d : List ℕ) (took : Took) (d₂ i₂ : List ℕ) → ReadReplyCall p s f d out took d₂ i₂ → (stamp : Timestamp) (n : ℕ)
       → saidOf (took .answer) ≡ done stamp n → isStoring (s .round .stage) ≡ false → length (deskAfter p f d) ≡ p .n * recordLength p
       → All (Bears p t i (deskAfter p f d)) (lowest p (closed p (afterReply p s f) (deskAfter p f d))) → i₂ ≡ i
   stamp-comes-back s f d took d₂ i₂ call stamp n says asks long held =

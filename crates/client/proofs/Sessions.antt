@@ -14,13 +14,13 @@ use Rattle.terms.specs.Ladder.{_and_}
 use Rattle.terms.specs.Terms.{recordLength}
 use Rattle.terms.specs.declared.Ask.{Ask}
 use Rattle.terms.specs.declared.Plan.{Plan}
-use Rattle.session.specs.declared.Operation.{Operation}
+use Rattle.standing.specs.declared.Operation.{Operation}
 use Rattle.session.specs.declared.Session.{Session}
 use Rattle.session.specs.declared.opening.Opened.{Opened}
 use Rattle.session.specs.declared.opening.Opening.the-variants.{Accepted}
 use Rattle.session.specs.Opening.{OpenCall}
 use Rattle.session.specs.Ranges.{inRange}
-use Rattle.session.specs.Reply.{sameOperation}
+use Rattle.standing.specs.Standing.{sameOperation}
 use Rattle.session.proofs.Kept.{Kept, opened-kept, write-kept}
 use Rattle.session.proofs.ReadKept.{read-kept, round-kept}
 use Rattle.client.specs.Turns.{Turn, ReadTurn, EitherTurn, Calls}

@@ -9,13 +9,14 @@ use borrow.Author.Tests.{ltb-true, ltb-false, eqb-true, eqb-false, eq-eqb, ne-eq
 use lib.Dec.{eqb}
 use lib.ListN.{length}
 use Rattle.terms.specs.Ladder.{first, None}
-use Rattle.terms.specs.Stamp.{time, stampNumber, top}
+use Rattle.terms.specs.Stamp.{time, top}
 use Rattle.terms.specs.declared.Plan.{Plan}
 use Rattle.frame.specs.Frame.{frameNode, bodyOf}
 use Rattle.rounds.specs.declared.Heard.the-variants.{Record}
 use Rattle.rounds.specs.Rounds.{heardCount}
 use Rattle.session.specs.declared.Session.{Session}
-use Rattle.session.specs.Session.{isStoring, replies, markedOf, endedOf, storingOf, Said, refused, stillOpen, done, neverWritten, aborted, roundsSpent, clockSpent, roundOpen}
+use Rattle.standing.specs.Standing.{isStoring, replies}
+use Rattle.session.specs.Session.{markedOf, endedOf, storingOf, Said, refused, stillOpen, done, neverWritten, aborted, roundsSpent, clockSpent, roundOpen}
 use Rattle.recover.specs.Records.{stampFor, recordsFor}
 use Rattle.session.specs.Writer.{timedOf, newTime, Leaves, leaves, timeEnd, timeTurn, writeTurn, acceptedWrite, writeReply}
 use Rattle.session.proofs.Rules.{few-open, many-over, over-many}
@@ -46,7 +47,7 @@ module _ (p : Plan) (s : Session) (f d i : List ℕ) where
       unfolding acceptedWrite writeTurn
       waits-write h = is-accepted ∙ rw (q, few-open p kept h)
 
-      pub ends-write : replies p ≤ heardCount (kept .marks) → writeReply p s f d i ≡ leaves (done (stampNumber (s .stamp)) 0) (endedOf kept) d
+      pub ends-write : replies p ≤ heardCount (kept .marks) → writeReply p s f d i ≡ leaves (done (s .stamp) 0) (endedOf kept) d
       unfolding acceptedWrite writeTurn
       ends-write h = is-accepted ∙ rw (q, many-over p kept h)
 

@@ -11,7 +11,8 @@ use mathlib.Core.Bool.{true, false}
 use mathlib.Core.List.{[], _∷_}
 use Rattle.frame.specs.Frame.{oneOf}
 use Rattle.session.specs.declared.Session.{Session}
-use Rattle.session.specs.Session.{isEnded, askNow, Said, refused}
+use Rattle.standing.specs.Standing.{isEnded}
+use Rattle.session.specs.Session.{askNow, Said, refused}
 
 -- s is the session that a call was handed, u the one that it handed back
 pub data Goes (s u : Session) : Type 0 where

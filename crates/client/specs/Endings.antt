@@ -16,18 +16,20 @@ use mathlib.Core.Logic.{_⊎_}
 use lib.ListN.{length}
 use Rattle.octets.specs.Bytes.{put}
 use Rattle.terms.specs.Ladder.{Rung, None, Given}
-use Rattle.terms.specs.Stamp.{time, stampNumber, top}
-use Rattle.terms.specs.Terms.{recordLength, COMPLETE, INCOMPLETE, slotsOf}
+use Rattle.terms.specs.Stamp.{time, stampAt, top}
+use Rattle.terms.specs.Terms.{recordLength, COMPLETE, INCOMPLETE, slotsOf, slotAt}
 use Rattle.terms.specs.declared.Plan.{Plan}
+use Rattle.terms.specs.declared.Timestamp.{Timestamp}
 use Rattle.terms.specs.declared.Member.the-variants.{Repairable, NonRepair}
 use Rattle.frame.specs.Frame.{frameNode, bodyOf}
 use Rattle.rounds.specs.declared.Heard.{Heard}
 use Rattle.rounds.specs.declared.Heard.the-variants.{First, Record}
 use Rattle.rounds.specs.declared.Lead.the-variants.{Node}
-use Rattle.rounds.specs.Rounds.{heardCount, markOf, leadOf, setOf, slotStamp}
+use Rattle.rounds.specs.Rounds.{heardCount, markOf, leadOf, setOf}
 use Rattle.session.specs.declared.Session.{Session}
-use Rattle.session.specs.declared.Operation.the-variants.{Write}
-use Rattle.session.specs.Session.{isStoring, replies, markedOf, Said, refused, stillOpen, done, neverWritten, aborted, roundsSpent, clockSpent}
+use Rattle.standing.specs.declared.Operation.the-variants.{Write}
+use Rattle.standing.specs.Standing.{isStoring, replies}
+use Rattle.session.specs.Session.{markedOf, Said, refused, stillOpen, done, neverWritten, aborted, roundsSpent, clockSpent}
 use Rattle.session.specs.Reply.{bears, replyLadder}
 pub use Rattle.session.specs.Reply.{readLadder}
 use Rattle.recover.specs.Recover.{sound}
@@ -96,21 +98,21 @@ pub record WhenSpent (p : Plan) (s : Session) (f d : List ℕ) (item rounds : �
   pub counted : rounds ≡ s .round .number
 
 -- "Complete: validate, decode from the m lowest-numbered of the set, done."
-pub record DoneByRead (p : Plan) (s : Session) (f d : List ℕ) (item stamp rounds : ℕ) : Type 0 where
+pub record DoneByRead (p : Plan) (s : Session) (f d : List ℕ) (item : ℕ) (stamp : Timestamp) (rounds : ℕ) : Type 0 where
   pub closes : Closes p s f d item
   pub node : ℕ
   pub candidate : Candidate p s f d node
   pub full : COMPLETE p ≤ size p s f d node
   pub validated : valid p s f d node ≡ true
-  pub of : stamp ≡ slotStamp (deskAfter p f d) (slotsOf p) node
+  pub of : stamp ≡ stampAt (deskAfter p f d) (slotAt (slotsOf p) node)
   pub counted : rounds ≡ s .round .number
 
 -- "runs a write round, then is done"; "A repair round is not counted."
-pub record DoneByRepair (p : Plan) (s : Session) (f d : List ℕ) (item stamp rounds : ℕ) : Type 0 where
+pub record DoneByRepair (p : Plan) (s : Session) (f d : List ℕ) (item : ℕ) (stamp : Timestamp) (rounds : ℕ) : Type 0 where
   pub accepted : None (readLadder p s f d item)
   pub stores : isStoring (s .round .stage) ≡ true
   pub enough : replies p ≤ heardCount (markedOf s (frameNode f) Record .marks)
-  pub of : stamp ≡ stampNumber (s .stamp)
+  pub of : stamp ≡ s .stamp
   pub counted : rounds ≡ s .round .number
 
 -- the round is not full
@@ -136,7 +138,7 @@ pub record RepairOpens (p : Plan) (s : Session) (f d : List ℕ) (item : ℕ) : 
   pub member : p .member ≡ Repairable
   pub validated : valid p s f d node ≡ true
 
-abbrev pub WhenDone : Plan → Session → List ℕ → List ℕ → ℕ → ℕ → ℕ → Type 0
+abbrev pub WhenDone : Plan → Session → List ℕ → List ℕ → ℕ → Timestamp → ℕ → Type 0
 WhenDone p s f d item stamp rounds = DoneByRead p s f d item stamp rounds ⊎ DoneByRepair p s f d item stamp rounds
 
 abbrev pub WhenOpen : Plan → Session → List ℕ → List ℕ → ℕ → Type 0
@@ -160,11 +162,11 @@ abbrev pub wrote : Session → List ℕ → Session
 wrote s f = cond (isStoring (s .round .stage)) (markedOf s (frameNode f) Record) (timedOf s (frameNode f) (time (bodyOf f)))
 
 -- "A write round runs to N-t replies bearing that timestamp"; a write counts no read rounds
-pub record WriteDone (p : Plan) (s : Session) (f d : List ℕ) (item stamp rounds : ℕ) : Type 0 where
+pub record WriteDone (p : Plan) (s : Session) (f d : List ℕ) (item : ℕ) (stamp : Timestamp) (rounds : ℕ) : Type 0 where
   pub accepted : None (writeLadder p s f d item)
   pub stores : isStoring (s .round .stage) ≡ true
   pub enough : replies p ≤ heardCount (wrote s f .marks)
-  pub of : stamp ≡ stampNumber (s .stamp)
+  pub of : stamp ≡ s .stamp
   pub counted : rounds ≡ 0
 
 -- "clock spent (the greatest time reply is 2^64-1)"

@@ -14,6 +14,7 @@ use lib.ListN.{length, getD}
 use Rattle.octets.specs.Bytes.{Octets}
 use Rattle.terms.specs.Stamp.{stamp, stampNumber}
 use Rattle.terms.specs.declared.Plan.{Plan}
+use Rattle.terms.specs.declared.Timestamp.{Timestamp}
 use Rattle.fragments.specs.Fragments.{All, eval}
 use Rattle.record.specs.Record.{stampOf, crossOf}
 use Rattle.record.specs.Desk.{slotOf, fragmentIn}
@@ -47,4 +48,4 @@ EachTurn P (t ∷ ts) = P t × EachTurn P ts
 -- a reply of a repair round: the desk stays; where it ends the read, the item is the one that the m lowest of the set decode to
 pub record Rests (p : Plan) (c : Closed) (d e : List ℕ) (t : Turn) : Type 0 where
   pub desk : t .deskLeft ≡ e
-  pub item : (stamp rounds : ℕ) → saidOf (t .took .answer) ≡ done stamp rounds → t .itemLeft ≡ decoded p c d (t .item)
+  pub item : (stamp : Timestamp) (rounds : ℕ) → saidOf (t .took .answer) ≡ done stamp rounds → t .itemLeft ≡ decoded p c d (t .item)

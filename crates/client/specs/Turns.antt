@@ -19,7 +19,8 @@ use Rattle.terms.specs.Ladder.{_and_}
 use Rattle.terms.specs.declared.Plan.{Plan}
 use Rattle.session.specs.declared.Session.{Session}
 use Rattle.session.specs.declared.Took.{Took}
-use Rattle.session.specs.Session.{isAsking, replies, Said, refused, stillOpen, done, neverWritten, aborted, roundsSpent, clockSpent, saidOf, isRefused}
+use Rattle.standing.specs.Standing.{isAsking, replies}
+use Rattle.session.specs.Session.{Said, refused, stillOpen, done, neverWritten, aborted, roundsSpent, clockSpent, saidOf, isRefused}
 use Rattle.session.specs.Writer.{WriteReplyCall}
 use Rattle.session.specs.Reader.{ReadReplyCall}
 

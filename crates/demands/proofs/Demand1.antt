@@ -25,12 +25,13 @@ use Rattle.node.specs.Node.{NodeCall, nodeLadder, served, answered}
 use Rattle.node.specs.Fresh as fresh
 use Rattle.node.specs.Fresh.{FreshCall, FreshOutcome, freshOutcome, freshLadder, freshened, saidMade}
 use Rattle.session.specs.declared.Session.{Session}
-use Rattle.session.specs.declared.Operation.{Operation}
+use Rattle.standing.specs.declared.Operation.{Operation}
 use Rattle.session.specs.declared.Took.{Took}
 use Rattle.session.specs.declared.opening.Opened.{Opened}
 use Rattle.session.specs.declared.owed.Owed.{Owed}
 use Rattle.session.specs.Session as session
-use Rattle.session.specs.Session.{isStoring, markedOf, saidOf, isRefused}
+use Rattle.standing.specs.Standing.{isStoring}
+use Rattle.session.specs.Session.{markedOf, saidOf, isRefused}
 use Rattle.session.specs.Opening.{OpenCall, Opens, opens, openingLadder, openingNumber, openWith, freshOf, noSession}
 use Rattle.session.specs.Owed as owed
 use Rattle.session.specs.Owed.{OwedCall, Dues, dues, dueOf, owedTo, owedLadder, requestOf}

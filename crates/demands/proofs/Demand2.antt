@@ -31,7 +31,7 @@ use Rattle.node.specs.Node.{NodeCall}
 use Rattle.node.specs.Fresh.{FreshCall}
 use Rattle.session.specs.declared.opening.Opened.{Opened}
 use Rattle.session.specs.declared.opening.Opening.the-variants.{Accepted}
-use Rattle.session.specs.declared.Operation.the-variants.{Write, Read}
+use Rattle.standing.specs.declared.Operation.the-variants.{Write, Read}
 use Rattle.session.specs.Opening.{OpenCall}
 use Rattle.recover.specs.Records.{recordsFor}
 use Rattle.store.specs.History.{Call, History, lastBook}

@@ -6,7 +6,7 @@ use mathlib.Core.List.{List}
 use lib.ListN.{length}
 use Rattle.terms.specs.declared.Plan.{Plan}
 use Rattle.session.specs.declared.Session.{Session}
-use Rattle.session.specs.Session.{replies}
+use Rattle.standing.specs.Standing.{replies}
 use Rattle.store.specs.Deliver.{Delivery, Setting, delivered, finalBook, Contents}
 use Rattle.client.specs.Turns.{Turn, ReadTurn, Calls}
 use Rattle.client.specs.Round.{roundAt, RoundOpens, Accepted, SameReplies, Lent, repliesOf, answersOf, leftBy}

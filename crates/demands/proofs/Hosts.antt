@@ -17,8 +17,8 @@ use Rattle.rounds.specs.declared.Bound.the-variants.{Free}
 use Rattle.node.specs.Fresh.{FreshOutcome, freshLadder, freshened}
 use Rattle.node.specs.Node as node
 use Rattle.node.specs.Node.{nodeLadder, served, answered, sends}
-use Rattle.session.specs.declared.Operation.{Operation}
-use Rattle.session.specs.declared.Operation.the-variants.{Write}
+use Rattle.standing.specs.declared.Operation.{Operation}
+use Rattle.standing.specs.declared.Operation.the-variants.{Write}
 use Rattle.session.specs.declared.Session.{Session}
 use Rattle.session.specs.Session.{Said, refused, stillOpen, done, neverWritten, aborted, roundsSpent, clockSpent, isRefused}
 use Rattle.session.specs.Opening.{openWith}

@@ -26,7 +26,7 @@ use Rattle.node.specs.Node.{NodeCall, nodeLadder, served, answered, sends}
 use Rattle.node.specs.Fresh as fresh
 use Rattle.node.specs.Fresh.{FreshCall, FreshOutcome, freshOutcome, freshLadder, freshened, saidMade}
 use Rattle.session.specs.declared.Session.{Session}
-use Rattle.session.specs.declared.Operation.{Operation}
+use Rattle.standing.specs.declared.Operation.{Operation}
 use Rattle.session.specs.declared.Took.{Took}
 use Rattle.session.specs.declared.opening.Opened.{Opened}
 use Rattle.session.specs.declared.owed.Owed.{Owed}

@@ -14,7 +14,7 @@ use Rattle.node.specs.Node as node
 use Rattle.node.specs.Node.{NodeCall}
 use Rattle.node.specs.Fresh.{FreshCall, FreshOutcome, freshOutcome, saidMade}
 use Rattle.session.specs.declared.Session.{Session}
-use Rattle.session.specs.declared.Operation.{Operation}
+use Rattle.standing.specs.declared.Operation.{Operation}
 use Rattle.session.specs.declared.Took.{Took}
 use Rattle.session.specs.declared.opening.Opened.{Opened}
 use Rattle.session.specs.declared.owed.Owed.{Owed}
@@ -61,18 +61,18 @@ owed-unique p s node d q r₁ r₂ q₁ q₂ c e =
 
 -- The same of a reply to a writer: the answer, the next session, and every byte of the desk.
 pub write-reply-unique : (p : Plan) (s : Session) (f d i : List ℕ) (t₁ t₂ : Took) (d₁ d₂ : List ℕ) → WriteReplyCall p s f d i t₁ d₁
-    → WriteReplyCall p s f d i t₂ d₂ → client.Machine (t₁ .answer) → client.Machine (t₂ .answer) → (t₁ ≡ t₂) × (d₁ ≡ d₂)
-write-reply-unique p s f d i t₁ t₂ d₁ d₂ c e v w =
+    → WriteReplyCall p s f d i t₂ d₂ → (t₁ ≡ t₂) × (d₁ ≡ d₂)
+write-reply-unique p s f d i t₁ t₂ d₁ d₂ c e =
     let h = c .is ∙ sym (e .is) in
-    let x = client.said-one (t₁ .answer) (t₂ .answer) v w (ap (λ (o : Leaves). o .said) h) in
+    let x = client.said-one (t₁ .answer) (t₂ .answer) (ap (λ (o : Leaves). o .said) h) in
     let y = ap (λ (o : Leaves). o .session) h in
     ((λ i. record { session = y i; answer = x i }), ap (λ (o : Leaves). o .desk) h)
 
 -- The same of a reply to a reader: the answer, the next session, and every byte of the desk and of the item.
 pub read-reply-unique : (p : Plan) (s : Session) (f d i : List ℕ) (t₁ t₂ : Took) (d₁ d₂ i₁ i₂ : List ℕ) → ReadReplyCall p s f d i t₁ d₁ i₁
-    → ReadReplyCall p s f d i t₂ d₂ i₂ → client.Machine (t₁ .answer) → client.Machine (t₂ .answer) → (t₁ ≡ t₂) × (d₁ ≡ d₂) × (i₁ ≡ i₂)
-read-reply-unique p s f d i t₁ t₂ d₁ d₂ i₁ i₂ c e v w =
+    → ReadReplyCall p s f d i t₂ d₂ i₂ → (t₁ ≡ t₂) × (d₁ ≡ d₂) × (i₁ ≡ i₂)
+read-reply-unique p s f d i t₁ t₂ d₁ d₂ i₁ i₂ c e =
     let h = c .is ∙ sym (e .is) in
-    let x = client.said-one (t₁ .answer) (t₂ .answer) v w (ap (λ (o : Outcome). o .said) h) in
+    let x = client.said-one (t₁ .answer) (t₂ .answer) (ap (λ (o : Outcome). o .said) h) in
     let y = ap (λ (o : Outcome). o .session) h in
     ((λ i. record { session = y i; answer = x i }), ap (λ (o : Outcome). o .desk) h, ap (λ (o : Outcome). o .item) h)

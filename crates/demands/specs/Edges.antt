@@ -25,7 +25,7 @@ use Rattle.node.specs.Fresh.{freshened, freshOutcome}
 use Rattle.node.specs.Fresh as fresh
 use Rattle.terms.specs.declared.Ask.{Ask}
 use Rattle.rounds.specs.declared.Bound.{Bound}
-use Rattle.session.specs.declared.Operation.{Operation}
+use Rattle.standing.specs.declared.Operation.{Operation}
 use Rattle.session.specs.declared.Session.{Session}
 use Rattle.session.specs.Session as session
 use Rattle.session.specs.Opening.{opens, noSession, openWith}

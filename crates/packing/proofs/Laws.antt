@@ -20,9 +20,9 @@ use Rattle.terms.proofs.Stamps.{stamp-at-number, zero-number}
 use Rattle.rounds.specs.declared.Mark.{Mark}
 use Rattle.rounds.specs.declared.Bound.{Bound}
 use Rattle.rounds.specs.declared.Bound.the-variants.{Free, Under}
-use Rattle.session.specs.declared.Round.{Round}
+use Rattle.standing.specs.declared.Round.{Round}
 use Rattle.session.specs.declared.Session.{Session}
-use Rattle.session.proofs.Rules.{or-holds, or-last, and-fails, and-last}
+use Rattle.standing.proofs.Rules.{or-holds, or-last, and-fails, and-last}
 use Rattle.packing.specs.PlanBytes.{field, planShaped}
 use Rattle.packing.specs.SessionBytes.{operationByte, stageByte, markByte, boundBytes, markBytes, roundBytes, askBytes, heardBytes, sessionBytes, heardOf, boundShaped, marksShaped, marksOf, sessionShaped}
 

@@ -3,10 +3,10 @@
 use rounds::Bound;
 use rounds::Heard;
 use rounds::Mark;
-use session::Operation;
-use session::Round;
 use session::Session;
-use session::Stage;
+use standing::Operation;
+use standing::Round;
+use standing::Stage;
 use terms::Ask;
 use terms::Clients;
 use terms::Member;

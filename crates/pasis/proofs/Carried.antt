@@ -23,8 +23,9 @@ use Rattle.rounds.specs.declared.Lead.{Lead}
 use Rattle.rounds.specs.declared.Lead.the-variants.{Nobody, Node}
 use Rattle.rounds.specs.Rounds.{Closed}
 use Rattle.session.specs.declared.Session.{Session}
-use Rattle.session.specs.declared.Operation.the-variants.{Write, Read}
-use Rattle.session.specs.Session.{isStoring, markedOf, endedOf, nextOf, refused, stillOpen, roundsSpent, roundOpen}
+use Rattle.standing.specs.declared.Operation.the-variants.{Write, Read}
+use Rattle.standing.specs.Standing.{isStoring}
+use Rattle.session.specs.Session.{markedOf, endedOf, nextOf, refused, stillOpen, roundsSpent, roundOpen}
 use Rattle.session.specs.Reply.{bears, replyLadder, recordLadder}
 use Rattle.recover.specs.Recover.{sound}
 use Rattle.session.specs.Reader.{Outcome, outcome, failing, actOn, actFor, closed, settled, heard, stored, accepted, readReply}

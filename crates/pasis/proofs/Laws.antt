@@ -18,7 +18,7 @@ use Rattle.node.specs.declared.Made.{Made}
 use Rattle.node.specs.Fresh.{FreshOutcome, freshened, saidMade, FreshCall}
 use Rattle.node.specs.Node as node
 use Rattle.node.specs.Node.{served, NodeCall}
-use Rattle.session.specs.declared.Operation.{Operation}
+use Rattle.standing.specs.declared.Operation.{Operation}
 use Rattle.session.specs.declared.Session.{Session}
 use Rattle.session.specs.declared.Took.{Took}
 use Rattle.session.specs.declared.opening.Opened.{Opened}

@@ -9,12 +9,13 @@ use Rattle.terms.specs.Ladder.{Rung, first, _and_}
 use Rattle.terms.specs.Terms.{planOk}
 use Rattle.terms.specs.declared.Plan.{Plan}
 use Rattle.terms.proofs.Rungs as rungs
-use Rattle.session.specs.declared.Operation.{Operation}
-use Rattle.session.specs.declared.Operation.the-variants.{Write, Read}
+use Rattle.standing.specs.declared.Operation.{Operation}
+use Rattle.standing.specs.declared.Operation.the-variants.{Write, Read}
 use Rattle.session.specs.Session.{refused}
-use Rattle.session.specs.Reply.{lengthsOk, sameOperation, replyLadder, recordLadder}
+use Rattle.standing.specs.Standing.{lengthsOk, sameOperation, roomOk}
+use Rattle.session.specs.Reply.{replyLadder, recordLadder}
 use Rattle.session.specs.Owed as owed
-use Rattle.session.specs.Owed.{roomOk, dues, owedTo}
+use Rattle.session.specs.Owed.{dues, owedTo}
 use Rattle.session.specs.Writer.{Leaves, leaves, writeReply}
 use Rattle.session.specs.Reader.{Outcome, outcome, readReply}
 use Rattle.packing.specs.PlanBytes.{planOf}

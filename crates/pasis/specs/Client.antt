@@ -16,7 +16,7 @@ use lib.ListN.{length}
 use lib.Dec.{eqb}
 use Rattle.terms.specs.Ladder.{first}
 use Rattle.rounds.specs.declared.Bound.the-variants.{Free}
-use Rattle.session.specs.declared.Operation.{Operation}
+use Rattle.standing.specs.declared.Operation.{Operation}
 use Rattle.session.specs.declared.Session.{Session}
 use Rattle.session.specs.Session.{Said, isRefused}
 use Rattle.session.specs.Opening.{Opens, openWith}

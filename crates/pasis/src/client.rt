@@ -1,17 +1,17 @@
 // A client's calls: opening a write or a read, the request owed to a node, a reply to a writer or a reader. The host holds the session as
 // 117 bytes between the calls, and lends 42 bytes for the ending.
 use session::Answer;
-use session::Operation;
 use session::Session;
 use session::opening::Opened;
 use session::opening::Opening;
+use standing::Operation;
 use terms::Ask;
 use terms::Plan;
 ghost use mathlib.Core.Path.{_≡_};
 ghost use mathlib.Core.Bool.{cond};
 ghost use lib.Dec.{eqb};
 ghost use lib.ListN.{length};
-ghost use Rattle.session.specs.declared.Operation.the-variants.{Write, Read};
+ghost use Rattle.standing.specs.declared.Operation.the-variants.{Write, Read};
 ghost use Rattle.session.specs.Session.{saidOf};
 ghost use Rattle.session.specs.Opening.{openingNumber, OpenCall};
 ghost use Rattle.packing.specs.SessionBytes.{sessionBytes};

@@ -28,7 +28,7 @@ use Rattle.rounds.specs.declared.Bound.{Bound}
 use Rattle.rounds.specs.declared.Bound.the-variants.{Free, Under}
 use Rattle.rounds.specs.Rounds.{bitOf, markOf, underOf}
 use Rattle.rounds.proofs.Laws.{mark-set, mark-other}
-use Rattle.session.specs.Ranges.{boundOk}
+use Rattle.standing.specs.Standing.{boundOk}
 use Rattle.report.specs.Triple.{Message}
 use Rattle.report.specs.Figure1.{initial}
 use Rattle.report.specs.Figure3.{Command, VALIDATE, in-time, has, with-it, receives}

@@ -27,15 +27,16 @@ use Rattle.rounds.specs.Rounds.{heardCount, every, slotStamp, slotsFit, slotFit
 use Rattle.recover.specs.Recover.{validates, sound}
 use Rattle.session.specs.declared.Answer.the-variants.{Done, Open}
 use Rattle.session.specs.declared.Session.{Session}
-use Rattle.session.specs.declared.Operation.the-variants.{Write, Read}
+use Rattle.standing.specs.declared.Operation.the-variants.{Write, Read}
 use Rattle.session.specs.declared.opening.Opened.{Opened}
 use Rattle.session.specs.declared.opening.Opening.the-variants.{Accepted}
 use Rattle.session.specs.Session.{askNow, awaitsKind, done, stillOpen}
 use Rattle.session.specs.Opening.{openWith, freshOf, OpenCall}
 use Rattle.session.specs.Ranges.{standingRules, openRules, inRange}
-use Rattle.session.specs.Reply.{lengthsOk, awaited, isHeard, bears}
+use Rattle.standing.specs.Standing.{lengthsOk, askIn, awaitsIn, roundRules}
+use Rattle.session.specs.Reply.{awaited, isHeard, bears}
 use Rattle.session.specs.Reader.{Outcome, outcome, actOn, actFor, settled, heard, accepted, readReply, ReadReplyCall}
-use Rattle.session.specs.declared.Stage.the-variants.{Storing}
+use Rattle.standing.specs.declared.Stage.the-variants.{Storing}
 use Rattle.session.specs.Writer.{Leaves, leaves, timeEnd, timeTurn, acceptedWrite, writeReply, WriteReplyCall}
 use Rattle.book.specs.Records.{timed, rising, some}
 use Rattle.book.specs.Book.{recordsFrom, header, joined, laidAs, laidOut, headed, filled, goodBook}
@@ -103,8 +104,8 @@ desk-small = refl
 left : Outcome
 left = readReply plan start reply desk (0 ∷ [])
 
-said-is : left .said ≡ done (stampNumber (stampAt rec 0)) 1
-unfolding left reply desk rec readReply first planOk countsOk limitsOk columnOf all recordLength lengthsOk inRange standingRules openRules every heardCount slotsFit slotFits goodReply goodFrame suits shaped forParty oneOf bodyFits awaited askNow awaitsKind isHeard bears accepted heard settled closeWith leadOf stepOf aheadOf slotStamp joinsOf setOf actFor actOn sound validates decided classOf among regenerated fragmentHash prefixOf row crossMade hashesOk underOf num numFrom part put be beOnto alike timeZero stampAt stampNumber then sha256 after compressOf addedOf roundsOf roundOf T1 T2 scheduleOf words padding bigEndian K
+said-is : left .said ≡ done (stampAt rec 0) 1
+unfolding left reply desk rec readReply first planOk countsOk limitsOk columnOf all recordLength lengthsOk inRange standingRules roundRules openRules every heardCount slotsFit slotFits goodReply goodFrame suits shaped forParty oneOf bodyFits awaited askIn awaitsIn isHeard bears accepted heard settled closeWith leadOf stepOf aheadOf slotStamp joinsOf setOf actFor actOn sound validates decided classOf among regenerated fragmentHash prefixOf row crossMade hashesOk underOf num numFrom part put be beOnto alike timeZero stampAt stampNumber then sha256 after compressOf addedOf roundsOf roundOf T1 T2 scheduleOf words padding bigEndian K
 said-is = refl
 
 pub call : turns.Turn
@@ -127,7 +128,7 @@ unfolding heard-one READ DO-READ receives VALIDATE figure1.VALIDATE in-time has 
 gathered-one = refl
 
 closed-one : polls plan start reply desk 1 unpolled ≡ record { rounds = (heard-one ∷ []) ∷ []; now = []; stored = [] }
-unfolding polls noneOf heard-one reply desk rec planOk countsOk limitsOk columnOf all recordLength lengthsOk inRange standingRules openRules every heardCount slotsFit slotFits goodReply goodFrame suits shaped forParty oneOf bodyFits awaited askNow awaitsKind isHeard bears timeZero num numFrom part put be beOnto
+unfolding polls noneOf heard-one reply desk rec planOk countsOk limitsOk columnOf all recordLength lengthsOk inRange standingRules roundRules openRules every heardCount slotsFit slotFits goodReply goodFrame suits shaped forParty oneOf bodyFits awaited askIn awaitsIn isHeard bears timeZero num numFrom part put be beOnto
 closed-one = ap (λ (l : List Message). cond (ltb (length l) 1) (record { rounds = []; now = heard-one ∷ []; stored = [] }) (record { rounds = (heard-one ∷ []) ∷ []; now = []; stored = [] })) gathered-one
 
 one-apart : (m : Message) → Apart (m ∷ [])
@@ -163,7 +164,7 @@ pub after-time : Leaves
 after-time = writeReply plan start-to-write time-reply desk (7 ∷ [])
 
 still-is : after-time .said ≡ stillOpen
-unfolding after-time time-reply desk writeReply acceptedWrite timeTurn timeEnd first planOk countsOk limitsOk columnOf all recordLength lengthsOk inRange standingRules openRules every heardCount slotsFit slotFits goodReply goodFrame suits shaped forParty oneOf bodyFits awaited askNow awaitsKind isHeard num numFrom part be beOnto
+unfolding after-time time-reply desk writeReply acceptedWrite timeTurn timeEnd first planOk countsOk limitsOk columnOf all recordLength lengthsOk inRange standingRules roundRules openRules every heardCount slotsFit slotFits goodReply goodFrame suits shaped forParty oneOf bodyFits awaited askIn awaitsIn isHeard num numFrom part be beOnto
 still-is = refl
 
 pub write-call : turns.Turn
@@ -185,7 +186,7 @@ write-so = opened-write plan ask opened-to-write desk (write-call ∷ []) opens-
 
 -- and its write round is open
 storing-is : after-time .session .round .stage ≡ Storing
-unfolding after-time time-reply desk writeReply acceptedWrite timeTurn timeEnd first planOk countsOk limitsOk columnOf all recordLength lengthsOk inRange standingRules openRules every heardCount slotsFit slotFits goodReply goodFrame suits shaped forParty oneOf bodyFits awaited askNow awaitsKind isHeard num numFrom part be beOnto
+unfolding after-time time-reply desk writeReply acceptedWrite timeTurn timeEnd first planOk countsOk limitsOk columnOf all recordLength lengthsOk inRange standingRules roundRules openRules every heardCount slotsFit slotFits goodReply goodFrame suits shaped forParty oneOf bodyFits awaited askIn awaitsIn isHeard num numFrom part be beOnto
 storing-is = refl
 
 -- ---- a node

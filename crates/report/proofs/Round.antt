@@ -12,7 +12,7 @@ use lib.ListN.{length, getD, take}
 use Rattle.octets.specs.Bytes.{part, num, alike, Octets}
 use Rattle.octets.proofs.Laws.{part-part, slot-room, length-part, part-first, part-last}
 use Rattle.sha256.specs.Sha256.{sha256}
-use Rattle.terms.specs.Stamp.{stamp, time, stampAt, stampNumber}
+use Rattle.terms.specs.Stamp.{stamp, time, stampAt, stampNumber, zeroStamp, then}
 use Rattle.terms.specs.Terms.{planOk, recordLength, COMPLETE, INCOMPLETE, classOf, verdictOf, unsure, decided, slotsOf, thresholdsOf}
 use Rattle.terms.specs.declared.Plan.{Plan}
 use Rattle.terms.specs.declared.Member.{Member}
@@ -42,7 +42,8 @@ use Rattle.rounds.proofs.Closes.{candidate, no-candidate, members-are}
 use Rattle.recover.specs.Recover.{validates, recordFrom, refilled, trusted, sound, decoded, repaired as refill}
 use Rattle.recover.proofs.Filled.{length-filled, filled-record}
 use Rattle.session.specs.declared.Session.{Session}
-use Rattle.session.specs.Session.{replies, endedOf, storingOf, stillOpen, done, neverWritten}
+use Rattle.standing.specs.Standing.{replies}
+use Rattle.session.specs.Session.{endedOf, storingOf, stillOpen, done, neverWritten}
 use Rattle.session.specs.Reader.{Outcome, outcome, failing, actOn, actFor, acted, closed}
 use Rattle.session.proofs.Closings.{Led, led, Lowest, lowest-are, heads-alike}
 use Rattle.report.specs.Triple.{Triple, Message, null, each, strung}
@@ -112,10 +113,10 @@ module _ (p : Plan) (s : Session) (d i : List ℕ) (u : Full p s d i) where
     first-decides = loop-is p set set 0 zero-is all-are ∙ rw (le-leb (COMPLETE p) (length set) big, valid-so, first-so)
 
     first-round : Decides p s d i (acted p s (close Nobody) d i) (LOOP (family p) set)
-    unfolding closeWith actFor
+    unfolding closeWith actFor stampNumber then
     first-round =
         subst (Decides p s d i (outcome (neverWritten (s .round .number)) (endedOf s) d i)) (sym first-decides)
-        (record { never = λ z. (refl, refl); value = λ z. absurd (omega arith) })
+        (record { stamp = zeroStamp; number = refl; never = λ z. (refl, refl); value = λ z. absurd (omega arith) })
 
   -- ---- a record of node a
   module _ (a : ℕ) (e : leadOf (s .marks) d (slotsOf p) (p .n) ≡ Node a) where
@@ -313,12 +314,14 @@ module _ (p : Plan) (s : Session) (d i : List ℕ) (u : Full p s d i) where
     whole z = go (sound p (close (Node a)) a d) (valid-is z)
       where
         go : (t : Bool) → valid ≡ t → Decides p s d i
-            (cond t (outcome (done (stampNumber (stampAt d (a * r))) (s .round .number)) (endedOf s) d (decoded p (close (Node a)) d i)) (failing p s (stampAt d (a * r)) d i))
+            (cond t (outcome (done (stampAt d (a * r)) (s .round .number)) (endedOf s) d (decoded p (close (Node a)) d i)) (failing p s (stampAt d (a * r)) d i))
             (cond valid (returned T (decodedFrom p cs)) (reading (READ-PREVIOUS T)))
         go true v =
             rw v (record {
+              stamp = stampAt d (a * r);
+              number = number-is;
               never = λ w. absurd (omega (arith, w, low));
-              value = λ w. λ j. outcome (done (number-is j) (s .round .number)) (endedOf s) d (sym decode-is j);
+              value = λ w. λ j. outcome (done (stampAt d (a * r)) (s .round .number)) (endedOf s) d (sym decode-is j);
             })
         go false v = rw v fails
 

@@ -39,16 +39,18 @@ use Rattle.rounds.specs.declared.Bound.the-variants.{Free}
 use Rattle.rounds.specs.Rounds.{bitOf, heardCount, unheards, markOf, restUnheard, underOf}
 use Rattle.rounds.proofs.Laws.{not-heard, count-set, mark-own, mark-other}
 use Rattle.session.specs.declared.Session.{Session}
-use Rattle.session.specs.declared.Stage.{Stage}
-use Rattle.session.specs.declared.Stage.the-variants.{Asking, Storing, Ended}
-use Rattle.session.specs.declared.Operation.the-variants.{Read}
-use Rattle.session.specs.Session.{isRead, isAsking, isStoring, isEnded, askNow, awaitsKind, replies, markedOf, endedOf, refused, stillOpen, done, saidOf}
+use Rattle.standing.specs.declared.Stage.{Stage}
+use Rattle.standing.specs.declared.Stage.the-variants.{Asking, Storing, Ended}
+use Rattle.standing.specs.declared.Operation.the-variants.{Read}
+use Rattle.standing.specs.Standing.{isRead, isAsking, isStoring, isEnded, replies, lengthsOk, awaitsIn}
+use Rattle.session.specs.Session.{askNow, awaitsKind, markedOf, endedOf, refused, stillOpen, done, saidOf}
 use Rattle.session.specs.Ranges.{inRange}
-use Rattle.session.specs.Reply.{bears, lengthsOk, awaited, isHeard, readLadder}
+use Rattle.session.specs.Reply.{bears, awaited, isHeard, readLadder}
 use Rattle.recover.specs.Recover.{collected}
 use Rattle.session.specs.Reader.{Outcome, outcome, acted, closed, settled, heard, stored, accepted, readReply}
 use Rattle.session.proofs.Made.{OpenIs, in-range-facts, rest-set, few-unheards}
-use Rattle.session.proofs.Rules.{Lengths, lengths-are, StandingIs}
+use Rattle.standing.proofs.Rules.{Lengths, lengths-are}
+use Rattle.session.proofs.Rules.{StandingIs}
 use Rattle.session.proofs.Openings.{accepted-session}
 use Rattle.session.specs.declared.opening.Opened.{Opened}
 use Rattle.session.specs.declared.opening.Opening.the-variants.{Accepted}
@@ -179,7 +181,8 @@ module _ (p : Plan) (s : Session) (d i : List ℕ) (w : Polled) (st : s .round .
             let v = c .never (eqb-true ts 0 z) in
             subst (λ (y : Outcome). Leaves p y rolled-over) (sym (v .1))
             (record { keeps = tt; tells = (e ∙ (λ j. returned (eqb-true ts 0 z j) (v .0 j)), counted); full = full-now })
-        go false z = subst (λ (y : Outcome). Leaves p y rolled-over) (sym (c .value (positive ts z))) (record { keeps = tt; tells = (inl e, counted); full = full-now })
+        go false z = subst (λ (y : Outcome). Leaves p y rolled-over) (sym (c .value (positive ts z)))
+            (record { keeps = tt; tells = (inl (rw (c .number) e), counted); full = full-now })
     by-decision o (repaired sent ts Data) e c =
         let is : READ (family p) (w .now ∷ w .rounds) ≡ repaired sent (stampNumber (c .stamp)) Data = e ∙ ap (λ (x : ℕ). repaired sent x Data) (sym (c .number)) in
         subst (λ (y : Outcome). Leaves p y rolled-over) (sym (c .is))
@@ -287,7 +290,7 @@ module _ (p : Plan) (d i : List ℕ) (ok : planOk p ≡ true) (ld : length d ≡
 
         go : (t : Bool) → ltb (heardCount (markedOf s (frameNode f) Record .marks)) (replies p) ≡ t
             → Leaves p (cond t (outcome stillOpen (markedOf s (frameNode f) Record) d i)
-            (outcome (done (stampNumber (s .stamp)) (s .round .number)) (endedOf (markedOf s (frameNode f) Record)) d (collected p d i))) with-response
+            (outcome (done (s .stamp) (s .round .number)) (endedOf (markedOf s (frameNode f) Record)) d (collected p d i))) with-response
         go true e =
             record {
               keeps = subst (λ (x : Stage). KeepsAt x p (markedOf s (frameNode f) Record) d with-response) (sym st)
@@ -572,7 +575,7 @@ module _ (p : Plan) (s : Session) (f d i : List ℕ) (w : Polled) where
 
     -- a write reply bears no record
     no-record : isStoring (s .round .stage) ≡ true → awaited s f ≡ true → bears p f ≡ false
-    unfolding awaited awaitsKind bears
+    unfolding awaited awaitsIn bears
     no-record t a =
         let k : eqb (kindOf f) writeReplyKind ≡ true = rw t at (both (awaitsKind s (kindOf f)) _ (both (eqb (askOf f) (askNow s)) _ a .1) .0) in
         let e : kindOf f ≡ writeReplyKind = eqb-true (kindOf f) writeReplyKind k in

@@ -21,7 +21,8 @@ use Rattle.record.specs.Record.{timeZero}
 use Rattle.rounds.specs.Rounds.{heardCount, every, slotStamp, slotsFit, slotFits, underOf}
 use Rattle.session.specs.Session.{askNow, awaitsKind}
 use Rattle.session.specs.Ranges.{standingRules, openRules, inRange}
-use Rattle.session.specs.Reply.{lengthsOk, awaited, bears, readLadder}
+use Rattle.standing.specs.Standing.{lengthsOk, askIn, awaitsIn, roundRules}
+use Rattle.session.specs.Reply.{awaited, bears, readLadder}
 use Rattle.client.specs.Turns.{Turn}
 use Rattle.terms.proofs.Small.{small, small-octets}
 use Rattle.client.proofs.Instances.Read as reads
@@ -78,11 +79,11 @@ then-closed before now set = cond (ltb (length set) 2) (at-rounds before now) (a
 
 module _ where
   polls-1 : polls plan reads.start reads.reply-1 desk 1 unpolled ≡ at-rounds [] (m1 ∷ [])
-  unfolding polls noneOf reads.reply-1 plan desk poor hash planOk countsOk limitsOk columnOf all recordLength lengthsOk inRange standingRules openRules every heardCount slotsFit slotFits slotStamp goodReply goodFrame suits shaped forParty oneOf bodyFits awaited askNow awaitsKind bears underOf timeZero num numFrom part be beOnto
+  unfolding polls noneOf reads.reply-1 plan desk poor hash planOk countsOk limitsOk columnOf all recordLength lengthsOk inRange standingRules roundRules openRules every heardCount slotsFit slotFits slotStamp goodReply goodFrame suits shaped forParty oneOf bodyFits awaited askIn awaitsIn bears underOf timeZero num numFrom part be beOnto
   polls-1 = ap (then-closed [] (m1 ∷ [])) set-1
 
   polls-2 : polls plan reads.first-heard reads.reply-2 desk-poor 1 (at-rounds [] (m1 ∷ [])) ≡ at-rounds first-round []
-  unfolding polls noneOf reads.reply-2 plan desk-poor poor hash planOk countsOk limitsOk columnOf all recordLength lengthsOk inRange standingRules openRules every heardCount slotsFit slotFits slotStamp goodReply goodFrame suits shaped forParty oneOf bodyFits awaited askNow awaitsKind bears underOf timeZero num numFrom part be beOnto
+  unfolding polls noneOf reads.reply-2 plan desk-poor poor hash planOk countsOk limitsOk columnOf all recordLength lengthsOk inRange standingRules roundRules openRules every heardCount slotsFit slotFits slotStamp goodReply goodFrame suits shaped forParty oneOf bodyFits awaited askIn awaitsIn bears underOf timeZero num numFrom part be beOnto
   polls-2 = ap (then-closed [] (m2 ∷ m1 ∷ [])) set-2
 
 -- two timestamps, so that no two cross checksums stand under one
@@ -137,11 +138,11 @@ module _ where
   set-4 = ap (λ (x : Decision). gathered (family plan) x (m4 ∷ m3 ∷ [])) asks-previous
 
   polls-3 : polls plan reads.second-round reads.reply-3 desk-poor 1 (at-rounds first-round []) ≡ at-rounds first-round (m3 ∷ [])
-  unfolding polls noneOf reads.reply-3 plan desk-poor poor good stamp-bytes hash stampAt stampNumber then planOk countsOk limitsOk columnOf all recordLength lengthsOk inRange standingRules openRules every heardCount slotsFit slotFits slotStamp goodReply goodFrame suits shaped forParty oneOf bodyFits awaited askNow awaitsKind bears underOf timeZero num numFrom part be beOnto
+  unfolding polls noneOf reads.reply-3 plan desk-poor poor good stamp-bytes hash stampAt stampNumber then planOk countsOk limitsOk columnOf all recordLength lengthsOk inRange standingRules roundRules openRules every heardCount slotsFit slotFits slotStamp goodReply goodFrame suits shaped forParty oneOf bodyFits awaited askIn awaitsIn bears underOf timeZero num numFrom part be beOnto
   polls-3 = ap (then-closed first-round (m3 ∷ [])) set-3
 
   polls-4 : polls plan reads.second-heard reads.reply-4 desk-good 1 (at-rounds first-round (m3 ∷ [])) ≡ at-rounds both-rounds []
-  unfolding polls noneOf reads.reply-4 plan desk-poor desk-good poor good stamp-bytes hash stampAt stampNumber then planOk countsOk limitsOk columnOf all recordLength lengthsOk inRange standingRules openRules every heardCount slotsFit slotFits slotStamp goodReply goodFrame suits shaped forParty oneOf bodyFits awaited askNow awaitsKind bears underOf timeZero num numFrom part be beOnto
+  unfolding polls noneOf reads.reply-4 plan desk-poor desk-good poor good stamp-bytes hash stampAt stampNumber then planOk countsOk limitsOk columnOf all recordLength lengthsOk inRange standingRules roundRules openRules every heardCount slotsFit slotFits slotStamp goodReply goodFrame suits shaped forParty oneOf bodyFits awaited askIn awaitsIn bears underOf timeZero num numFrom part be beOnto
   polls-4 = ap (then-closed first-round (m4 ∷ m3 ∷ [])) set-4
 
   -- a repair round closes no more

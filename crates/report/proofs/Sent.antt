@@ -27,13 +27,14 @@ use Rattle.rounds.specs.Rounds.{markOf, heardAt}
 use Rattle.record.specs.Desk.{slotOf}
 use Rattle.frame.specs.Frame.{timeRequestKind, writeRequestKind, frame}
 use Rattle.session.specs.declared.Session.{Session}
-use Rattle.session.specs.declared.Stage.{Stage}
-use Rattle.session.specs.declared.Stage.the-variants.{Asking, Storing, Ended}
-use Rattle.session.specs.declared.Operation.the-variants.{Write, Read}
+use Rattle.standing.specs.declared.Stage.{Stage}
+use Rattle.standing.specs.declared.Stage.the-variants.{Asking, Storing, Ended}
+use Rattle.standing.specs.declared.Operation.the-variants.{Write, Read}
 use Rattle.session.specs.declared.owed.Owed.{Owed}
-use Rattle.session.specs.Session.{isRead, isStoring, isEnded, askNow}
+use Rattle.standing.specs.Standing.{isRead, isStoring, isEnded, readRequest}
+use Rattle.session.specs.Session.{askNow}
 use Rattle.session.specs.Reply.{isHeard}
-use Rattle.session.specs.Owed.{owedLadder, readRequest, requestOf, refused, written, dueOf, Dues, dues, owedTo, OwedCall}
+use Rattle.session.specs.Owed.{owedLadder, requestOf, refused, written, dueOf, Dues, dues, owedTo, OwedCall}
 use Rattle.report.specs.Triple.{Message, In, upTo}
 use Rattle.report.specs.Figure3.{has, READ}
 use Rattle.report.specs.Ours.{family, bearing, sending, responses, commandOf}

@@ -38,19 +38,20 @@ use Rattle.rounds.specs.declared.Bound.the-variants.{Free}
 use Rattle.rounds.specs.Rounds.{heardCount, markOf, unheards}
 use Rattle.rounds.proofs.Laws.{not-heard, count-set}
 use Rattle.session.specs.declared.Session.{Session}
-use Rattle.session.specs.declared.Stage.{Stage}
-use Rattle.session.specs.declared.Stage.the-variants.{Asking, Storing, Ended}
-use Rattle.session.specs.declared.Operation.the-variants.{Write}
+use Rattle.standing.specs.declared.Stage.{Stage}
+use Rattle.standing.specs.declared.Stage.the-variants.{Asking, Storing, Ended}
+use Rattle.standing.specs.declared.Operation.the-variants.{Write}
 use Rattle.session.specs.declared.opening.Opened.{Opened}
 use Rattle.session.specs.declared.opening.Opening.the-variants.{Accepted}
 use Rattle.session.specs.Opening.{OpenCall, freshOf}
-use Rattle.session.specs.Session.{isRead, isStoring, isEnded, replies, markedOf, endedOf, storingOf, refused, stillOpen, done, clockSpent, saidOf}
+use Rattle.standing.specs.Standing.{isRead, isStoring, isEnded, replies, lengthsOk}
+use Rattle.session.specs.Session.{markedOf, endedOf, storingOf, refused, stillOpen, done, clockSpent, saidOf}
 use Rattle.session.specs.Ranges.{inRange}
-use Rattle.session.specs.Reply.{lengthsOk, isHeard, replyLadder}
+use Rattle.session.specs.Reply.{isHeard, replyLadder}
 use Rattle.recover.specs.Records.{crossFor, stampFor, recordsFor}
 use Rattle.session.specs.Writer.{timedOf, newTime, Leaves, leaves, timeEnd, timeTurn, writeTurn, acceptedWrite, writeReply}
 use Rattle.session.proofs.Made.{in-range-facts, few-unheards}
-use Rattle.session.proofs.Rules.{Lengths, lengths-are}
+use Rattle.standing.proofs.Rules.{Lengths, lengths-are}
 use Rattle.session.proofs.Openings.{accepted-session}
 use Rattle.recover.proofs.Records.{record-is}
 use Rattle.report.specs.Triple.{Triple, Message, each, larger, MAX}
@@ -207,7 +208,7 @@ unfolding writeTurn
 writes-on p s d w st k most = go (ltb (heardCount (s .marks)) (replies p)) refl
   where
     go : (t : Bool) → ltb (heardCount (s .marks)) (replies p) ≡ t
-        → Right p (cond t (leaves stillOpen s d) (leaves (done (stampNumber (s .stamp)) 0) (endedOf s) d)) w
+        → Right p (cond t (leaves stillOpen s d) (leaves (done (s .stamp) 0) (endedOf s) d)) w
     go true e =
         record {
           keeps = subst (λ (x : Stage). KeepsAt x p s d w) (sym st) k;

@@ -22,8 +22,10 @@ use Rattle.report.specs.Figure3.{READ-LATEST, READ-PREVIOUS, Decision, r
 use Rattle.report.specs.Ours.{sending}
 
 pub record Returns (p : Plan) (s : Session) (d i : List ℕ) (o : Outcome) (ts : ℕ) (Data : List ℕ) : Type 0 where
+  pub stamp : Timestamp
+  pub number : stampNumber stamp ≡ ts
   pub never : ts ≡ 0 → (Data ≡ null) × (o ≡ outcome (neverWritten (s .round .number)) (endedOf s) d i)
-  pub value : 1 ≤ ts → o ≡ outcome (done ts (s .round .number)) (endedOf s) d Data
+  pub value : 1 ≤ ts → o ≡ outcome (done stamp (s .round .number)) (endedOf s) d Data
 
 pub record Repairs (p : Plan) (s : Session) (i : List ℕ) (o : Outcome) (sent : List Message) (ts : ℕ) (Data : List ℕ) : Type 0 where
   pub stamp : Timestamp

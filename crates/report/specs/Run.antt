@@ -22,8 +22,9 @@ use Rattle.terms.specs.Stamp.{stampNumber}
 use Rattle.terms.specs.declared.Plan.{Plan}
 use Rattle.frame.specs.Frame.{frameNode, bodyOf}
 use Rattle.session.specs.declared.Session.{Session}
-use Rattle.session.specs.declared.Stage.the-variants.{Storing}
-use Rattle.session.specs.Session.{isAsking, isStoring, Said, refused, stillOpen, done, neverWritten, aborted, roundsSpent, clockSpent, saidOf}
+use Rattle.standing.specs.declared.Stage.the-variants.{Storing}
+use Rattle.standing.specs.Standing.{isAsking, isStoring}
+use Rattle.session.specs.Session.{Said, refused, stillOpen, done, neverWritten, aborted, roundsSpent, clockSpent, saidOf}
 use Rattle.session.specs.Reply.{bears, readLadder}
 use Rattle.store.specs.History.{Call}
 use Rattle.client.specs.Turns.{Turn}
@@ -112,7 +113,7 @@ pub record StillStores (p : Plan) (w : Polled) : Type 0 where
 abbrev pub Tells : Plan → Said → List ℕ → Polled → Type 0
 Tells p (refused k) item w = Unit {0}
 Tells p stillOpen item w = Waits p w ⊎ StillStores p w
-Tells p (done ts rounds) item w = ((READ (family p) (w .rounds) ≡ returned ts item) ⊎ RepairedTo p w ts item) × (rounds ≡ length (w .rounds))
+Tells p (done t rounds) item w = ((READ (family p) (w .rounds) ≡ returned (stampNumber t) item) ⊎ RepairedTo p w (stampNumber t) item) × (rounds ≡ length (w .rounds))
 Tells p (neverWritten rounds) item w = (READ (family p) (w .rounds) ≡ returned 0 null) × (rounds ≡ length (w .rounds))
 Tells p (aborted rounds) item w = (READ (family p) (w .rounds) ≡ ABORT) × (rounds ≡ length (w .rounds))
 Tells p (roundsSpent rounds) item w = Spent p (w .rounds) rounds × (rounds ≡ length (w .rounds))

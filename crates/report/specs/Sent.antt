@@ -15,8 +15,8 @@ use Rattle.octets.specs.Bytes.{be, over}
 use Rattle.terms.specs.Ladder.{Rung, None, rung, upto}
 use Rattle.terms.specs.declared.Plan.{Plan}
 use Rattle.frame.specs.Frame.{timeRequestKind, writeRequestKind, readLatestKind, readPreviousKind, frame}
-use Rattle.session.specs.declared.Stage.{Stage}
-use Rattle.session.specs.declared.Stage.the-variants.{Asking, Storing, Ended}
+use Rattle.standing.specs.declared.Stage.{Stage}
+use Rattle.standing.specs.declared.Stage.the-variants.{Asking, Storing, Ended}
 use Rattle.session.specs.Owed.{Due, written}
 use Rattle.report.specs.Triple.{Message, In}
 use Rattle.report.specs.Figure2.{in-set, Clock, clocks, acknowledged, WRITE}

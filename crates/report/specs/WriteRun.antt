@@ -17,9 +17,10 @@ use Rattle.terms.specs.Stamp.{time, stampNumber, top}
 use Rattle.terms.specs.declared.Plan.{Plan}
 use Rattle.frame.specs.Frame.{frameNode, bodyOf}
 use Rattle.session.specs.declared.Session.{Session}
-use Rattle.session.specs.declared.Stage.the-variants.{Storing}
-use Rattle.session.specs.declared.Operation.the-variants.{Write}
-use Rattle.session.specs.Session.{isStoring, Said, refused, stillOpen, done, neverWritten, aborted, roundsSpent, clockSpent, saidOf}
+use Rattle.standing.specs.declared.Stage.the-variants.{Storing}
+use Rattle.standing.specs.declared.Operation.the-variants.{Write}
+use Rattle.standing.specs.Standing.{isStoring}
+use Rattle.session.specs.Session.{Said, refused, stillOpen, done, neverWritten, aborted, roundsSpent, clockSpent, saidOf}
 use Rattle.session.specs.Reply.{replyLadder}
 use Rattle.report.specs.Triple.{null, MAX}
 use Rattle.report.specs.Figure2.{enough, in-set, Clock, clocks, Times, acknowledged, ts-written, WRITE}
@@ -73,7 +74,7 @@ Wrote p (refused k) w = Unit {0}
 Wrote p stillOpen w =
     (length (clocks (w .times)) < enough (family p))
     ⊎ ((length (clocks (w .times)) ≡ enough (family p)) × (length (acknowledged (w .stored)) < enough (family p)))
-Wrote p (done ts rounds) w = (ts ≡ ts-written (family p) (w .Data) (w .times)) × (length (acknowledged (w .stored)) ≡ enough (family p))
+Wrote p (done t rounds) w = (stampNumber t ≡ ts-written (family p) (w .Data) (w .times)) × (length (acknowledged (w .stored)) ≡ enough (family p))
 Wrote p (neverWritten rounds) w = ⊥
 Wrote p (aborted rounds) w = ⊥
 Wrote p (roundsSpent rounds) w = ⊥

@@ -13,9 +13,6 @@ use Rattle.terms.specs.declared.Refusal.{Refusal}
 use Rattle.terms.specs.declared.Refusal.the-variants.{OutsidePlan, WrongLength, WrongBook, WrongFrame, TimeZero, HashFails, OtherBytes, NoRoom, OutOfRange, NotAwaited, AlreadyHeard, NotBelow, AskTooHigh, HasEnded}
 use Rattle.terms.proofs.Rungs.{both}
 use Rattle.terms.proofs.Ladders.{by-ladder, is-passed, is-given}
-use Rattle.session.specs.declared.Check.{Check}
-use Rattle.session.specs.declared.Check.the-variants.{Passed, Failed}
-use Rattle.session.specs.Reply.{checkNumber}
 
 -- no refusal of a ladder has the number 0
 abbrev pub numbered : List Rung → Bool
@@ -80,10 +77,10 @@ low HasEnded = refl
 pub refusal-low : (r : Refusal) → 1 ≤ refusalNumber r
 refusal-low r = leb-true 1 (refusalNumber r) (low r)
 
--- the two arms of a match on a check
-module _ (l : List Rung) (x : Check) (e : checkNumber x ≡ first l (λ (k : ℕ). k) 0) where
-  pub check-passed : x ≡ Passed → first l (λ (k : ℕ). k) 0 ≡ 0
-  check-passed t = sym e ∙ ap checkNumber t
+-- the two arms of a match on what a ladder came to, by its number
+module _ (l : List Rung) (x : ℕ) (e : x ≡ first l (λ (k : ℕ). k) 0) where
+  pub check-passed : x ≡ 0 → first l (λ (k : ℕ). k) 0 ≡ 0
+  check-passed t = sym e ∙ t
 
-  pub check-failed : {A : Type 0} (refuse : ℕ → A) (pass : A) (r : Refusal) → x ≡ Failed r → refuse (refusalNumber r) ≡ first l refuse pass
-  check-failed refuse pass r t = stops refuse pass l (refusalNumber r) (refusal-low r) (sym e ∙ ap checkNumber t)
+  pub check-failed : {A : Type 0} (refuse : ℕ → A) (pass : A) (r : Refusal) → x ≡ refusalNumber r → refuse (refusalNumber r) ≡ first l refuse pass
+  check-failed refuse pass r t = stops refuse pass l (refusalNumber r) (refusal-low r) (sym e ∙ t)

@@ -19,8 +19,9 @@ use lib.Seq.{length-take-le}
 use Rattle.octets.specs.Bytes.{part}
 use Rattle.octets.proofs.Meaning.{alike-is}
 use Rattle.terms.specs.Terms.{planOk, recordLength, slotsOf, slotAt, thresholdsOf, COMPLETE, INCOMPLETE, decided}
-use Rattle.terms.specs.Stamp.{stampAt, stampNumber}
+use Rattle.terms.specs.Stamp.{stampAt}
 use Rattle.terms.specs.declared.Plan.{Plan}
+use Rattle.terms.specs.declared.Timestamp.{Timestamp}
 use Rattle.terms.specs.declared.Verdict.{Verdict}
 use Rattle.terms.specs.declared.Verdict.the-variants.{Complete, Repair, Aborted, Incomplete}
 use Rattle.terms.proofs.Facts.{facts}
@@ -147,7 +148,7 @@ module _ (p : Plan) (s : Session) (d : List ℕ) (a : ℕ) where
 
 -- ---- the ways that a closed round can go: four endings, with the desk as it is; the next round opens; a repair round opens
 pub record Ways (P : Outcome → Type 0) (p : Plan) (s : Session) (c : Closed) (d i : List ℕ) : Type 0 where
-  pub finds : (stamp : ℕ) (item : List ℕ) → P (outcome (done stamp (s .round .number)) (endedOf s) d item)
+  pub finds : (stamp : Timestamp) (item : List ℕ) → P (outcome (done stamp (s .round .number)) (endedOf s) d item)
   pub never : P (outcome (neverWritten (s .round .number)) (endedOf s) d i)
   pub aborts : P (outcome (aborted (s .round .number)) (endedOf s) d i)
   pub spends : p .w ≤ s .round .number → P (outcome (roundsSpent (s .round .number)) (endedOf s) d i)
@@ -165,7 +166,7 @@ module _ (P : Outcome → Type 0) (p : Plan) (s : Session) (c : Closed) (d i : L
 
   acts : (a : ℕ) → c .lead ≡ Node a → (v : Verdict) → c .verdict ≡ v → P (actOn v p s c a d i)
   unfolding actOn
-  acts a e Complete f = pick P (sound p c a d) (w .finds (stampNumber (c .stamp)) (decoded p c d i)) (fails a e)
+  acts a e Complete f = pick P (sound p c a d) (w .finds (c .stamp) (decoded p c d i)) (fails a e)
   acts a e Repair f = pick P (sound p c a d) (w .repairs a e f) (fails a e)
   acts a e Aborted f = w .aborts
   acts a e Incomplete f = fails a e

@@ -13,7 +13,7 @@ use Rattle.octets.proofs.Laws.{length-part}
 use Rattle.octets.proofs.Meaning.{num-small, bytes-part, bytes-all}
 use Rattle.terms.specs.Ladder.{first}
 use Rattle.terms.specs.Terms.{recordLength}
-use Rattle.terms.specs.Stamp.{time, stampAt, stampNumber, top}
+use Rattle.terms.specs.Stamp.{time, stampAt, top}
 use Rattle.terms.specs.declared.Plan.{Plan}
 use Rattle.terms.specs.declared.Ask.{Ask}
 use Rattle.terms.specs.declared.Time.{Time}
@@ -24,12 +24,13 @@ use Rattle.rounds.specs.declared.Heard.{Heard}
 use Rattle.rounds.specs.declared.Heard.the-variants.{Record}
 use Rattle.session.specs.declared.Session.{Session}
 use Rattle.session.specs.declared.Took.{Took}
-use Rattle.session.specs.declared.Operation.{Operation}
+use Rattle.standing.specs.declared.Operation.{Operation}
 use Rattle.session.specs.declared.opening.Opened.{Opened}
 use Rattle.session.specs.declared.opening.Opening.the-variants.{Accepted}
 use Rattle.session.specs.Opening.{OpenCall}
-use Rattle.session.specs.declared.Operation.the-variants.{Write}
-use Rattle.session.specs.Session.{isStoring, readRound, withGreatest, withMarks, markedOf, endedOf, storingOf, refused, stillOpen, done, clockSpent, roundOpen, isRead}
+use Rattle.standing.specs.declared.Operation.the-variants.{Write}
+use Rattle.standing.specs.Standing.{isStoring, isRead}
+use Rattle.session.specs.Session.{readRound, withGreatest, withMarks, markedOf, endedOf, storingOf, refused, stillOpen, done, clockSpent, roundOpen}
 use Rattle.session.specs.Ranges.{inRange}
 use Rattle.session.specs.Reply.{replyLadder}
 use Rattle.recover.specs.Records.{crossFor, stampFor, recordsFor}
@@ -133,7 +134,7 @@ module _ (p : Plan) (s : Session) (f d i : List ℕ) (o : Octets f) (k : Kept p 
       unfolding writeTurn
       in-write = go (roundOpen p u) refl
         where
-          go : (c : Bool) → roundOpen p u ≡ c → Good (cond c (leaves stillOpen u d) (leaves (done (stampNumber (u .stamp)) 0) (endedOf u) d))
+          go : (c : Bool) → roundOpen p u ≡ c → Good (cond c (leaves stillOpen u d) (leaves (done (u .stamp) 0) (endedOf u) d))
           go true c = still c
           go false c = ends
 

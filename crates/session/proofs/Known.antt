@@ -16,14 +16,15 @@ use Rattle.terms.proofs.Rungs.{both}
 use Rattle.terms.proofs.Down.{clear}
 use Rattle.frame.specs.Frame.{goodReply}
 use Rattle.frame.proofs.Frames.{ReplyIs, reply-is}
-use Rattle.session.specs.declared.Operation.{Operation}
+use Rattle.standing.specs.declared.Operation.{Operation}
 use Rattle.session.specs.declared.Session.{Session}
-use Rattle.session.specs.Session.{isEnded}
+use Rattle.standing.specs.Standing.{isEnded, lengthsOk, sameOperation, roomOk}
 use Rattle.session.specs.Ranges.{inRange}
-use Rattle.session.specs.Reply.{lengthsOk, sameOperation, replyLadder}
-use Rattle.session.specs.Owed.{roomOk, owedLadder}
+use Rattle.session.specs.Reply.{replyLadder}
+use Rattle.session.specs.Owed.{owedLadder}
 use Rattle.session.proofs.Checks.{none-applies}
-use Rattle.session.proofs.Rules.{StandingIs, lengths-are, room-is}
+use Rattle.standing.proofs.Rules.{lengths-are, room-is}
+use Rattle.session.proofs.Rules.{StandingIs}
 use Rattle.session.proofs.Made.{OpenIs, in-range-facts}
 
 pub record Known (l : List Rung) (p : Plan) (s : Session) (d : List ℕ) : Type 0 where

@@ -22,9 +22,11 @@ use Rattle.rounds.specs.declared.Heard.the-variants.{Record}
 use Rattle.rounds.specs.declared.Mark.{Mark}
 use Rattle.rounds.specs.Rounds.{heardCount, unheard, unheards, every, isUnheard, isNotFirst, restUnheard, noneFirst, slotFits, slotsFit}
 use Rattle.session.specs.declared.Session.{Session}
-use Rattle.session.specs.Session.{isRead, isStoring, isEnded, readRound, replies, endedOf, storingOf, roundOpen}
+use Rattle.standing.specs.Standing.{isRead, isStoring, isEnded, replies}
+use Rattle.session.specs.Session.{readRound, endedOf, storingOf, roundOpen}
 use Rattle.session.specs.Ranges.{standingRules, openRules, inRange}
-use Rattle.session.proofs.Rules.{holds, last, StandingIs, standing-facts, standing-back}
+use Rattle.standing.proofs.Rules.{holds, last}
+use Rattle.session.proofs.Rules.{StandingIs, standing-facts, standing-back}
 
 -- ---- the rules of refusal 9 that an open session meets, as plain facts
 pub record OpenIs (p : Plan) (s : Session) (d : List ℕ) : Type 0 where

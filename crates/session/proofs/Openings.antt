@@ -15,13 +15,13 @@ use Rattle.terms.proofs.Rungs.{refusal-one}
 use Rattle.terms.proofs.Down.{clear}
 use Rattle.terms.specs.Stamp.{top}
 use Rattle.rounds.specs.declared.Bound.the-variants.{Free}
-use Rattle.session.specs.declared.Operation.{Operation}
-use Rattle.session.specs.declared.Operation.the-variants.{Write, Read}
+use Rattle.standing.specs.declared.Operation.{Operation}
+use Rattle.standing.specs.declared.Operation.the-variants.{Write, Read}
 use Rattle.session.specs.declared.opening.Opening.{Opening}
 use Rattle.session.specs.declared.opening.Opening.the-variants.{Refused, Accepted}
 use Rattle.session.specs.declared.opening.Opened.{Opened}
 use Rattle.rounds.specs.Rounds.{unheards, noneFirst}
-use Rattle.session.specs.Session.{isRead}
+use Rattle.standing.specs.Standing.{isRead, roundRules}
 use Rattle.session.specs.Ranges.{standingRules, inRange}
 use Rattle.session.specs.Opening.{openingLadder, freshOf, openingNumber, opens, Opens, noSession, openWith, OpenCall}
 use Rattle.session.proofs.Checks.{first-map, none-applies, goes-on, refusal-low}
@@ -36,7 +36,7 @@ opening-one Accepted Accepted e = refl
 
 -- round 0 is in no range: every call that comes to its ranges refuses it 9
 pub none-in-range : (op : Operation) (p : Plan) (d : List ℕ) → inRange p (noSession op) d ≡ false
-unfolding inRange standingRules all
+unfolding inRange standingRules roundRules all
 none-in-range op p d = refl
 
 counted : (op : Operation) → (isRead op or true) ≡ true

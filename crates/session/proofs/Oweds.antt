@@ -1,35 +1,30 @@
 -- Laws of the request owed to a node. Assumes nothing.
 use Prim.Native.Nat.{ℕ, _*_, _≤_, _<_}
-use mathlib.Core.Path.{_≡_, refl, sym, ap, _∙_}
+use mathlib.Core.Path.{_≡_, refl, ap, _∙_}
 use mathlib.Core.Bool.{Bool, true, false}
 use mathlib.Core.List.{List, []}
 use native.Mathlib.Omega.{arith}
 use borrow.Author.Tests.{ltb-true, not-false}
 use lib.Dec.{ltb}
 use lib.ListN.{length}
-use Rattle.octets.specs.Bytes.{part, over, be}
+use Rattle.octets.specs.Bytes.{part, over}
 use Rattle.terms.specs.Ladder.{first}
 use Rattle.terms.specs.Terms.{recordLength, refusalNumber}
-use Rattle.terms.specs.Stamp.{stampNumber}
 use Rattle.terms.specs.declared.Plan.{Plan}
 use Rattle.terms.specs.declared.Refusal.{Refusal}
-use Rattle.terms.specs.declared.Timestamp.{Timestamp}
 use Rattle.terms.proofs.Rungs.{refusal-one}
-use Rattle.frame.specs.declared.Header.{Header}
-use Rattle.frame.specs.Frame.{frame, longest, readLatestKind, readPreviousKind, writeRequestKind, timeRequestKind, frameOf, Wrote}
-use Rattle.frame.proofs.Built.{length-frame}
-use Rattle.rounds.specs.declared.Bound.{Bound}
-use Rattle.rounds.specs.declared.Bound.the-variants.{Free, Under}
+use Rattle.frame.specs.Frame.{frame, longest, writeRequestKind, timeRequestKind}
 use Rattle.session.specs.declared.Session.{Session}
 use Rattle.session.specs.declared.Check.{Check}
 use Rattle.session.specs.declared.Check.the-variants.{Failed}
 use Rattle.session.specs.declared.owed.Owed.{Owed}
 use Rattle.session.specs.declared.owed.Owed.the-variants.{Refused, Request}
-use Rattle.session.specs.Session.{isRead, isStoring, askNow}
+use Rattle.standing.specs.Standing.{isRead, isStoring, roomOk, readRequest}
+use Rattle.session.specs.Session.{askNow}
 use Rattle.session.specs.Reply.{checkNumber}
-use Rattle.session.specs.Owed.{roomOk, owedLadder, readRequest, requestOf, refused, written, dueOf, dues, owedTo}
+use Rattle.session.specs.Owed.{owedLadder, requestOf, refused, written, dueOf, dues, owedTo}
 use Rattle.session.proofs.Checks.{goes-on, check-failed}
-use Rattle.session.proofs.Rules.{room-is}
+use Rattle.standing.proofs.Rules.{room-is}
 use Rattle.session.proofs.Known.{Known}
 
 -- ---- what is known of the node and the buffer where nothing refuses
@@ -41,22 +36,6 @@ module _ (p : Plan) (s : Session) (node : ℕ) (d : List ℕ) (request : ℕ) (o
   request-low = room-is p (length d) request (not-false (roomOk p (length d) request) (o .past 2)) .request-low
 
 -- ---- the frame of the round
--- a frame that was written, and its length
-pub the-same : (want got old new : List ℕ) (n : ℕ) → want ≡ got → (new ≡ over got old) × (n ≡ length got) → (new ≡ over want old) × (n ≡ length want)
-the-same want got old new n w e = (e .0 ∙ ap (λ (f : List ℕ). over f old) (sym w), e .1 ∙ ap length (sym w))
-
-pub sent : (want : List ℕ) (h : Header) (body old : List ℕ) (n : ℕ) (new : List ℕ) → want ≡ frameOf h body → Wrote h body old n new → (new ≡ over want old) × (n ≡ length want)
-sent want h body old n new w q = the-same want (frameOf h body) old new n w (q .bytes, q .told ∙ sym (length-frame h body))
-
-module _ (b : Bound) (node ask : ℕ) where
-  pub read-latest : b ≡ Free → readRequest b node ask ≡ frame readLatestKind node ask []
-  unfolding readRequest
-  read-latest e = rw e
-
-  pub read-previous : (u : Timestamp) → b ≡ Under u → readRequest b node ask ≡ frame readPreviousKind node ask (be 40 (stampNumber u))
-  unfolding readRequest
-  read-previous u e = rw e
-
 module _ (p : Plan) (s : Session) (node : ℕ) (d : List ℕ) (ask : ℕ) (a : ask ≡ askNow s) (x : Bool) (g : x ≡ isStoring (s .round .stage)) where
   pub stores : x ≡ true → (r : ℕ) → r ≡ recordLength p → requestOf p s node d ≡ frame writeRequestKind node ask (part d (node * r) r)
   unfolding requestOf
@@ -76,7 +55,7 @@ module _ (p : Plan) (s : Session) (node : ℕ) (d q : List ℕ) where
   pub owed-refused : (x : Check) → checkNumber x ≡ first (owedLadder p s node d (length q)) (λ (k : ℕ). k) 0 → (r : Refusal) → x ≡ Failed r
       → dues (refused (refusalNumber r)) q ≡ owedTo p s node d q
   unfolding owedTo
-  owed-refused x e r t = check-failed (owedLadder p s node d (length q)) x e (λ (k : ℕ). dues (refused k) q) _ r t
+  owed-refused x e r t = check-failed (owedLadder p s node d (length q)) (checkNumber x) e (λ (k : ℕ). dues (refused k) q) _ r (ap checkNumber t)
 
   pub owed-written : (n : ℕ) (new : List ℕ) → first (owedLadder p s node d (length q)) (λ (k : ℕ). k) 0 ≡ 0
       → (new ≡ over (requestOf p s node d) q) × (n ≡ length (requestOf p s node d)) → dues (written n) new ≡ owedTo p s node d q

@@ -11,7 +11,7 @@ use Rattle.octets.specs.Bytes.{put}
 use Rattle.terms.specs.Ladder.{first, None, _and_}
 use Rattle.terms.proofs.Down.{clear}
 use Rattle.terms.specs.Terms.{recordLength, slotsOf}
-use Rattle.terms.specs.Stamp.{stamp, stampNumber}
+use Rattle.terms.specs.Stamp.{stamp}
 use Rattle.terms.specs.declared.Plan.{Plan}
 use Rattle.frame.specs.Frame.{frameNode, bodyOf}
 use Rattle.rounds.specs.declared.Heard.{Heard}
@@ -21,10 +21,11 @@ use Rattle.rounds.specs.Rounds.{underOf, slotsFit}
 use Rattle.rounds.proofs.Closes.{candidate}
 use Rattle.session.specs.declared.Session.{Session}
 use Rattle.session.specs.declared.Took.{Took}
-use Rattle.session.specs.declared.Stage.{Stage}
-use Rattle.session.specs.declared.Stage.the-variants.{Asking, Storing, Ended}
-use Rattle.session.specs.declared.Operation.the-variants.{Read}
-use Rattle.session.specs.Session.{isRead, isAsking, isStoring, isEnded, markedOf, endedOf, nextOf, refused, stillOpen, done, roundOpen}
+use Rattle.standing.specs.declared.Stage.{Stage}
+use Rattle.standing.specs.declared.Stage.the-variants.{Asking, Storing, Ended}
+use Rattle.standing.specs.declared.Operation.the-variants.{Read}
+use Rattle.standing.specs.Standing.{isRead, isAsking, isStoring, isEnded}
+use Rattle.session.specs.Session.{markedOf, endedOf, nextOf, refused, stillOpen, done, roundOpen}
 use Rattle.session.specs.Reply.{bears, replyLadder, recordLadder}
 use Rattle.recover.specs.Recover.{collected}
 use Rattle.session.specs.Reader.{Outcome, outcome, acted, closed, settled, heard, stored, accepted, readReply, ReadReplyCall}
@@ -141,7 +142,7 @@ module _ (p : Plan) (s : Session) (f d i : List ℕ) (k : Kept p s d) where
         no-read Ended e = rw reads
 
         go : (c : Bool) → roundOpen p (u Record) ≡ c
-            → Good (cond c (outcome stillOpen (u Record) d i) (outcome (done (stampNumber (s .stamp)) (s .round .number)) (endedOf (u Record)) d (collected p d i)))
+            → Good (cond c (outcome stillOpen (u Record) d i) (outcome (done (s .stamp) (s .round .number)) (endedOf (u Record)) d (collected p d i)))
         go true c =
             record {
               range = open-in-range p (u Record) d (stood Record) (heard-open p s (frameNode f) (s .greatest) d (no-read (s .round .stage) t) (q .opens) c);

@@ -1,5 +1,5 @@
 -- One law for each hard need of the reader's functions. Assumes nothing.
-use mathlib.Core.Path.{_≡_, refl, sym, ap, ap₂, _∙_}
+use mathlib.Core.Path.{_≡_, refl, sym, ap, ap₂, _∙_, subst}
 use mathlib.Core.Bool.{Bool, true, false}
 use mathlib.Core.List.{List}
 use Prim.Native.Nat.{ℕ, _+_, _*_, _≤_, _<_}
@@ -13,7 +13,7 @@ use Rattle.octets.proofs.Laws.{slot-room}
 use Rattle.terms.specs.Ladder.{first}
 use Rattle.terms.specs.declared.Refusal.{Refusal}
 use Rattle.terms.specs.Terms.{planOk, recordLength, refusalNumber, slotsOf, thresholdsOf}
-use Rattle.terms.specs.Stamp.{stamp, stampNumber}
+use Rattle.terms.specs.Stamp.{stamp}
 use Rattle.terms.specs.declared.Plan.{Plan}
 use Rattle.terms.specs.declared.Timestamp.{Timestamp}
 use Rattle.terms.specs.declared.Verdict.{Verdict}
@@ -36,13 +36,16 @@ use Rattle.record.specs.Record.{hashesOk, timeZero}
 use Rattle.rounds.specs.Rounds.{listed, told, Closed, closeOf, underOf}
 use Rattle.rounds.proofs.Laws.{size-is}
 use Rattle.recover.specs.Recover.{sound, decoded, collected, repaired, Usable}
+use Rattle.session.specs.declared.Taken.{Taken}
+use Rattle.session.specs.declared.Taken.the-variants.{Refused, Reply}
 use Rattle.session.specs.declared.Session.{Session}
-use Rattle.session.specs.Session.{isStoring, markedOf, endedOf, nextOf, storingOf, stillOpen, done, neverWritten, aborted, roundsSpent, refused, roundOpen}
+use Rattle.standing.specs.Standing.{isStoring}
+use Rattle.session.specs.Session.{markedOf, endedOf, nextOf, storingOf, stillOpen, done, neverWritten, aborted, roundsSpent, refused, roundOpen}
 use Rattle.session.specs.declared.Check.{Check}
 use Rattle.session.specs.declared.Check.the-variants.{Passed, Failed}
-use Rattle.session.specs.declared.Operation.{Operation}
-use Rattle.session.specs.declared.Operation.the-variants.{Read}
-use Rattle.session.specs.Reply.{bears, replyLadder, recordLadder, checkNumber}
+use Rattle.standing.specs.declared.Operation.{Operation}
+use Rattle.standing.specs.declared.Operation.the-variants.{Read}
+use Rattle.session.specs.Reply.{bears, replyLadder, recordLadder, checkNumber, takenNumber, headed}
 use Rattle.session.proofs.Known.{Known, known-reply}
 use Rattle.session.proofs.Checks.{goes-on as ladder-goes-on, check-passed, check-failed}
 use Rattle.session.proofs.Closings.{Led, led, lead-low, nodes-below, sized, sized-whole}
@@ -60,7 +63,7 @@ module _ (p : Plan) (s : Session) (t : Timestamp) (d i : List ℕ) where
 
 module _ (p : Plan) (s : Session) (c : Closed) (a : ℕ) (d i : List ℕ) (v : Verdict) where
   pub act-done : (x : Bool) (e : Session) (y : List ℕ) → v ≡ Complete → x ≡ sound p c a d → x ≡ true → e ≡ endedOf s → y ≡ decoded p c d i
-      → outcome (done (stampNumber (c .stamp)) (s .round .number)) e d y ≡ actOn v p s c a d i
+      → outcome (done (c .stamp) (s .round .number)) e d y ≡ actOn v p s c a d i
   unfolding actOn
   act-done x e y k f t q r = rw (k, ← f, t, q, r)
 
@@ -143,7 +146,7 @@ module _ (p : Plan) (s : Session) (d i : List ℕ) (x : Bool) (e : x ≡ roundOp
   stored-open h = rw (← e, h)
 
   pub stored-done : (o : Session) (y : List ℕ) → x ≡ false → o ≡ endedOf s → y ≡ collected p d i
-      → outcome (done (stampNumber (s .stamp)) (s .round .number)) o d y ≡ stored p s d i
+      → outcome (done (s .stamp) (s .round .number)) o d y ≡ stored p s d i
   unfolding stored
   stored-done o y h q r = rw (← e, h, q, r)
 
@@ -188,26 +191,33 @@ unfolding accepted
 accept-heard p s f d i x o e t q = q ∙ rw (← e, t)
 
 -- what is known where a reply passed
-pub check-passes : (op : Operation) (p : Plan) (s : Session) (f d : List ℕ) (item : ℕ) (k : Check) → checkNumber k ≡ first (replyLadder op p s f d item) (λ (n : ℕ). n) 0 → k ≡ Passed
-    → Known (replyLadder op p s f d item) p s d
-check-passes op p s f d item k e q = known-reply op p s f d item (check-passed (replyLadder op p s f d item) k e q)
+pub check-passes : (op : Operation) (p : Plan) (s : Session) (f d : List ℕ) (item : ℕ) (k : Taken) → takenNumber k ≡ first (replyLadder op p s f d item) (λ (n : ℕ). n) 0
+    → (h : Header) → k ≡ Reply h → Known (replyLadder op p s f d item) p s d
+check-passes op p s f d item k e h q = known-reply op p s f d item (check-passed (replyLadder op p s f d item) (takenNumber k) e (ap takenNumber q))
+
+pub header-read : (k : Taken) (f : List ℕ) → headed k f → (h : Header) → k ≡ Reply h → h ≡ headerIn f
+header-read k f e h q = subst (λ (x : Taken). headed x f) q e
 
 -- ---- the call
-module _ (p : Plan) (s : Session) (f d i : List ℕ) (k : Check) (e : checkNumber k ≡ first (replyLadder Read p s f d (length i)) (λ (n : ℕ). n) 0) where
-  pub refused-early : (r : Refusal) → k ≡ Failed r → outcome (refused (refusalNumber r)) s d i ≡ readReply p s f d i
+module _ (p : Plan) (s : Session) (f d i : List ℕ) (k : Taken) (e : takenNumber k ≡ first (replyLadder Read p s f d (length i)) (λ (n : ℕ). n) 0) where
+  pub refused-early : (r : Refusal) → k ≡ Refused r → outcome (refused (refusalNumber r)) s d i ≡ readReply p s f d i
   unfolding readReply first
-  refused-early r q = check-failed (replyLadder Read p s f d (length i)) k e (λ (n : ℕ). outcome (refused n) s d i) _ r q
+  refused-early r q = check-failed (replyLadder Read p s f d (length i)) (takenNumber k) e (λ (n : ℕ). outcome (refused n) s d i) _ r (ap takenNumber q)
 
-  module _ (j : Check) (g : checkNumber j ≡ first (recordLadder p s f) (λ (n : ℕ). n) 0) (q : k ≡ Passed) where
+  module _ (j : Check) (g : checkNumber j ≡ first (recordLadder p s f) (λ (n : ℕ). n) 0) (h : Header) (q : k ≡ Reply h) where
     past : first (recordLadder p s f) (λ (n : ℕ). outcome (refused n) s d i) (accepted p s f d i) ≡ readReply p s f d i
     unfolding readReply first
-    past = ladder-goes-on (λ (n : ℕ). outcome (refused n) s d i) _ (replyLadder Read p s f d (length i)) refl (check-passed (replyLadder Read p s f d (length i)) k e q)
+    past =
+        ladder-goes-on (λ (n : ℕ). outcome (refused n) s d i) _ (replyLadder Read p s f d (length i)) refl
+        (check-passed (replyLadder Read p s f d (length i)) (takenNumber k) e (ap takenNumber q))
 
     pub refused-late : (r : Refusal) → j ≡ Failed r → outcome (refused (refusalNumber r)) s d i ≡ readReply p s f d i
-    refused-late r w = check-failed (recordLadder p s f) j g (λ (n : ℕ). outcome (refused n) s d i) (accepted p s f d i) r w ∙ past
+    refused-late r w = check-failed (recordLadder p s f) (checkNumber j) g (λ (n : ℕ). outcome (refused n) s d i) (accepted p s f d i) r (ap checkNumber w) ∙ past
 
     pub accepts : (o : Outcome) → j ≡ Passed → o ≡ accepted p s f d i → o ≡ readReply p s f d i
-    accepts o w a = a ∙ ladder-goes-on (λ (n : ℕ). outcome (refused n) s d i) (accepted p s f d i) (recordLadder p s f) refl (check-passed (recordLadder p s f) j g w) ∙ past
+    accepts o w a =
+        a ∙ ladder-goes-on (λ (n : ℕ). outcome (refused n) s d i) (accepted p s f d i) (recordLadder p s f) refl
+        (check-passed (recordLadder p s f) (checkNumber j) g (ap checkNumber w)) ∙ past
 
 -- ---- the close, with the slots and the thresholds that the code worked out
 pub desk-room : (p : Plan) (slots : Slots) → slots ≡ slotsOf p → (d : List ℕ) → length d ≡ p .n * recordLength p → slots .n * slots .size ≤ length d
@@ -221,10 +231,6 @@ closed-is p s d x slots t e f q = q ∙ rw (e, f)
 pub no-record : (p : Plan) (s : Session) (f : List ℕ) → bears p f ≡ false → 0 ≡ first (recordLadder p s f) (λ (n : ℕ). n) 0
 unfolding first
 no-record p s f t = rw t
-
-pub record-long : (p : Plan) → 40 ≤ recordLength p
-unfolding recordLength
-record-long p = omega arith
 
 pub bears-length : (p : Plan) (f : List ℕ) → bears p f ≡ true → length f ≡ framed (versionOf f) (recordLength p)
 bears-length p f t = bears-is p f (bears p f) refl t .1

@@ -31,7 +31,8 @@ use Rattle.rounds.specs.declared.Mark.{Mark}
 use Rattle.rounds.specs.Rounds.{unheard, markOf, underOf, slotStamp, slotFits, slotsFit}
 use Rattle.recover.proofs.Filled.{slot-stays}
 use Rattle.session.specs.Reply.{bears}
-use Rattle.session.proofs.Readers.{bears-is, record-long}
+use Rattle.standing.proofs.Rules.{record-long}
+use Rattle.session.proofs.Readers.{bears-is}
 
 -- they fit exactly where each fits
 module _ (ms : List Mark) (d : List ℕ) (slots : Slots) (b : Bound) where

@@ -8,7 +8,7 @@ use lib.Dec.{eqb}
 use lib.ListN.{length, set}
 use Rattle.terms.specs.Ladder.{first}
 use Rattle.terms.specs.Terms.{refusalNumber}
-use Rattle.terms.specs.Stamp.{time, stampNumber, top}
+use Rattle.terms.specs.Stamp.{time, top}
 use Rattle.terms.specs.declared.Plan.{Plan}
 use Rattle.terms.specs.declared.Refusal.{Refusal}
 use Rattle.terms.specs.declared.Time.{Time}
@@ -18,12 +18,13 @@ use Rattle.octets.specs.Bytes.{part, num}
 use Rattle.frame.specs.Frame.{kindOf, askOf, frameNode, bodyOf, framed, versionOf, headBytes}
 use Rattle.frame.proofs.Frames.{length-2}
 use Rattle.rounds.specs.declared.Heard.the-variants.{Record}
+use Rattle.session.specs.declared.Taken.{Taken}
+use Rattle.session.specs.declared.Taken.the-variants.{Refused}
 use Rattle.session.specs.declared.Session.{Session}
-use Rattle.session.specs.declared.Check.{Check}
-use Rattle.session.specs.declared.Check.the-variants.{Failed}
-use Rattle.session.specs.declared.Operation.the-variants.{Write}
-use Rattle.session.specs.Session.{withGreatest, withMarks, isRead, isStoring, askNow, awaitsKind, roundOpen, markedOf, endedOf, storingOf, refused, stillOpen, done, clockSpent}
-use Rattle.session.specs.Reply.{awaited, replyLadder, checkNumber}
+use Rattle.standing.specs.declared.Operation.the-variants.{Write}
+use Rattle.standing.specs.Standing.{isRead, isStoring}
+use Rattle.session.specs.Session.{withGreatest, withMarks, askNow, awaitsKind, roundOpen, markedOf, endedOf, storingOf, refused, stillOpen, done, clockSpent}
+use Rattle.session.specs.Reply.{awaited, replyLadder, takenNumber}
 use Rattle.recover.specs.Records.{stampFor, recordsFor}
 use Rattle.session.specs.Writer.{laterOf, timedOf, newTime, leaves, timeEnd, timeTurn, writeTurn, acceptedWrite, writeReply}
 use Rattle.session.proofs.Checks.{goes-on, check-failed}
@@ -46,7 +47,7 @@ module _ (p : Plan) (s : Session) (d : List ℕ) (x : Bool) (c : x ≡ roundOpen
   write-open h = rw (← c, h)
 
   module _ (h : x ≡ false) where
-    pub write-done : (y : Session) → y ≡ endedOf s → leaves (done (stampNumber (s .stamp)) 0) y d ≡ writeTurn p s d
+    pub write-done : (y : Session) → y ≡ endedOf s → leaves (done (s .stamp) 0) y d ≡ writeTurn p s d
     unfolding writeTurn
     write-done y e = rw (← c, h, e)
 
@@ -85,10 +86,10 @@ module _ (p : Plan) (s : Session) (f d i : List ℕ) where
     unfolding acceptedWrite
     in-time e u t v w = rw (← g, e, v, w, m)
 
-  pub write-refused : (x : Check) → checkNumber x ≡ first (replyLadder Write p s f d (length i)) (λ (k : ℕ). k) 0 → (r : Refusal) → x ≡ Failed r
+  pub write-refused : (x : Taken) → takenNumber x ≡ first (replyLadder Write p s f d (length i)) (λ (k : ℕ). k) 0 → (r : Refusal) → x ≡ Refused r
       → leaves (refused (refusalNumber r)) s d ≡ writeReply p s f d i
   unfolding writeReply
-  write-refused x e r t = check-failed (replyLadder Write p s f d (length i)) x e (λ (k : ℕ). leaves (refused k) s d) _ r t
+  write-refused x e r t = check-failed (replyLadder Write p s f d (length i)) (takenNumber x) e (λ (k : ℕ). leaves (refused k) s d) _ r (ap takenNumber t)
 
   pub write-taken : first (replyLadder Write p s f d (length i)) (λ (k : ℕ). k) 0 ≡ 0 → acceptedWrite p s f d i ≡ writeReply p s f d i
   unfolding writeReply

@@ -19,8 +19,8 @@ use Rattle.rounds.specs.declared.Bound.{Bound}
 use Rattle.rounds.specs.declared.Bound.the-variants.{Free}
 use Rattle.rounds.specs.Rounds.{unheards}
 use Rattle.session.specs.declared.Session.{Session}
-use Rattle.session.specs.declared.Operation.{Operation}
-use Rattle.session.specs.declared.Stage.the-variants.{Asking}
+use Rattle.standing.specs.declared.Operation.{Operation}
+use Rattle.standing.specs.declared.Stage.the-variants.{Asking}
 use Rattle.session.specs.Session.{sessionWith}
 use Rattle.session.specs.declared.opening.Opening.{Opening}
 use Rattle.session.specs.declared.opening.Opening.the-variants.{Refused, Accepted}

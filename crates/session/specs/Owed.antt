@@ -1,38 +1,31 @@
 -- The request frame owed to an unheard node. Document 01, "The client": a further call gives the request frame owed to an unheard node, as
 -- often as wanted, into a buffer of at least R+15 bytes; bytes past it stay. "Refusal numbers": for a request owed 1, 2, 9, 14, 4, 11. The
 -- session is not among the outcomes: it comes by value, and stays as it is.
---   roomOk             2: the desk is exactly N·R bytes, the request buffer at least R+15
 --   owedLadder         the order
---   readRequest        a read round's request: kind 5, or kind 6 with the bound
 --   requestOf          the request of the round that is open
 --   Due dueOf          an answer in the document's terms: a refusal's number, or the length of the frame that was written
 --   Dues dues          the answer and the request buffer as the call leaves them
 --   owedTo OwedCall    the call and its contract
 -- Assumes nothing.
-use Prim.Native.Nat.{ℕ, _*_}
+use Prim.Native.Nat.{ℕ}
 use mathlib.Core.Path.{_≡_}
-use mathlib.Core.Bool.{Bool, not, cond}
+use mathlib.Core.Bool.{not, cond}
 use mathlib.Core.List.{List, [], _∷_}
 use lib.ListN.{length}
-use lib.Dec.{ltb, leb, eqb}
-use Rattle.octets.specs.Bytes.{over, be}
-use Rattle.terms.specs.Ladder.{Rung, on, first, _and_}
-use Rattle.terms.specs.Terms.{planOk, recordLength, refusalNumber}
-use Rattle.terms.specs.Stamp.{stampNumber}
+use lib.Dec.{ltb}
+use Rattle.octets.specs.Bytes.{over}
+use Rattle.terms.specs.Ladder.{Rung, on, first}
+use Rattle.terms.specs.Terms.{planOk, refusalNumber}
 use Rattle.terms.specs.declared.Plan.{Plan}
-use Rattle.frame.specs.Frame.{frame, longest, readLatestKind, readPreviousKind, writeRequestKind, timeRequestKind}
+use Rattle.frame.specs.Frame.{frame, writeRequestKind, timeRequestKind}
 use Rattle.record.specs.Desk.{slotOf}
-use Rattle.rounds.specs.declared.Bound.{Bound}
-use Rattle.rounds.specs.declared.Bound.the-variants.{Free, Under}
 use Rattle.session.specs.declared.Session.{Session}
 use Rattle.session.specs.declared.owed.Owed.{Owed}
 use Rattle.session.specs.declared.owed.Owed.the-variants.{Refused, Request}
-use Rattle.session.specs.Session.{isRead, isStoring, isEnded, askNow}
+use Rattle.standing.specs.Standing.{isRead, isStoring, isEnded, roomOk, readRequest}
+use Rattle.session.specs.Session.{askNow}
 use Rattle.session.specs.Ranges.{inRange}
 use Rattle.session.specs.Reply.{isHeard}
-
-unfoldable pub roomOk : Plan → ℕ → ℕ → Bool
-roomOk p desk request = eqb desk (p .n * recordLength p) and leb (longest 1 p) request
 
 abbrev pub owedLadder : Plan → Session → ℕ → List ℕ → ℕ → List Rung
 owedLadder p s node d request =
@@ -42,11 +35,6 @@ owedLadder p s node d request =
     on 14 (isEnded (s .round .stage)) ∷
     on 4 (not (ltb node (p .n))) ∷
     on 11 (isHeard s node) ∷ []
-
--- "round 1 asks kind 5, later rounds kind 6 with the last candidate's timestamp as bound": it is the bound that tells
-unfoldable pub readRequest : Bound → ℕ → ℕ → List ℕ
-readRequest Free node ask = frame readLatestKind node ask []
-readRequest (Under u) node ask = frame readPreviousKind node ask (be 40 (stampNumber u))
 
 -- a write or repair round sends the node's record, slot number node of the desk; a time round asks kind 1
 unfoldable pub requestOf : Plan → Session → ℕ → List ℕ → List ℕ

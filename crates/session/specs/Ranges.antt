@@ -1,6 +1,5 @@
 -- Refusal 9: session out of its ranges, or of the other operation. Document 01, "Refusal numbers", in its order; the rules that an ended
 -- session meets too stand apart.
---   boundOk            a bound exactly when round is above 1, time 1 or more
 --   standingRules      round, bound, opening ask, marks from N on: for every session
 --   openRules          timestamp, first triple marks, heard count, slots: for an open session
 --   inRange            all of them
@@ -8,28 +7,20 @@
 use Prim.Native.Nat.{ℕ}
 use mathlib.Core.Bool.{Bool, not}
 use mathlib.Core.List.{List, [], _∷_}
-use lib.Dec.{ltb, leb, eqb}
+use lib.Dec.{leb}
 use Rattle.terms.specs.Ladder.{all, _and_, _or_}
 use Rattle.terms.specs.Terms.{slotsOf, openingOk}
 use Rattle.terms.specs.declared.Plan.{Plan}
-use Rattle.rounds.specs.declared.Bound.{Bound}
-use Rattle.rounds.specs.declared.Bound.the-variants.{Free, Under}
 use Rattle.rounds.specs.Rounds.{restUnheard, noneFirst, slotsFit}
 use Rattle.session.specs.declared.Session.{Session}
-use Rattle.session.specs.Session.{isRead, isStoring, isEnded, readRound, roundOpen}
-
-abbrev pub boundOk : Bound → ℕ → Bool
-boundOk Free round = leb round 1
-boundOk (Under u) round = ltb 1 round and leb 1 (u .time .0)
+use Rattle.standing.specs.Standing.{isStoring, isEnded, roundRules}
+use Rattle.session.specs.Session.{readRound, roundOpen}
 
 -- "round 1 to W, and 1 in a write; a bound exactly when round is above 1, time 1 or more"; "marks from N on unheard"; "opening ask as for 13"
 unfoldable pub standingRules : Plan → Session → Bool
 standingRules p s =
     all (
-    leb 1 (s .round .number) ∷
-    leb (s .round .number) (p .w) ∷
-    (isRead (s .operation) or eqb (s .round .number) 1) ∷
-    boundOk (s .round .bound) (s .round .number) ∷
+    roundRules (p .w) (s .operation) (s .round) ∷
     restUnheard (s .marks) (p .n) ∷
     openingOk p (s .opening .0) ∷ [])
 

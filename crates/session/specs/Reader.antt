@@ -16,7 +16,6 @@ use lib.Dec.{leb}
 use Rattle.octets.specs.Bytes.{put}
 use Rattle.terms.specs.Ladder.{first}
 use Rattle.terms.specs.Terms.{planOk, recordLength, slotsOf, thresholdsOf}
-use Rattle.terms.specs.Stamp.{stampNumber}
 use Rattle.terms.specs.declared.Plan.{Plan}
 use Rattle.terms.specs.declared.Timestamp.{Timestamp}
 use Rattle.terms.specs.declared.Verdict.{Verdict}
@@ -30,7 +29,8 @@ use Rattle.rounds.specs.Rounds.{Closed, closeOf}
 use Rattle.recover.specs.Recover.{sound, decoded, collected, repaired, Usable}
 use Rattle.session.specs.declared.Session.{Session}
 use Rattle.session.specs.declared.Took.{Took}
-use Rattle.session.specs.Session.{isStoring, roundOpen, markedOf, endedOf, nextOf, storingOf, Said, refused, stillOpen, done, neverWritten, aborted, roundsSpent, saidOf}
+use Rattle.standing.specs.Standing.{isStoring}
+use Rattle.session.specs.Session.{roundOpen, markedOf, endedOf, nextOf, storingOf, Said, refused, stillOpen, done, neverWritten, aborted, roundsSpent, saidOf}
 use Rattle.session.specs.Reply.{bears, readLadder}
 
 pub record Outcome : Type 0 where
@@ -48,7 +48,7 @@ failing p s t d i = cond (leb (p .w) (s .round .number)) (outcome (roundsSpent (
 
 unfoldable pub actOn : Verdict → Plan → Session → Closed → ℕ → List ℕ → List ℕ → Outcome
 actOn Complete p s c a d i =
-    cond (sound p c a d) (outcome (done (stampNumber (c .stamp)) (s .round .number)) (endedOf s) d (decoded p c d i)) (failing p s (c .stamp) d i)
+    cond (sound p c a d) (outcome (done (c .stamp) (s .round .number)) (endedOf s) d (decoded p c d i)) (failing p s (c .stamp) d i)
 actOn Repair p s c a d i =
     cond (sound p c a d) (outcome stillOpen (storingOf s (c .stamp)) (repaired p c a d) i) (failing p s (c .stamp) d i)
 actOn Aborted p s c a d i = outcome (aborted (s .round .number)) (endedOf s) d i
@@ -77,7 +77,7 @@ heard p s f d i =
 -- "after a repair round the item is read from the desk's first m slots"
 unfoldable pub stored : Plan → Session → List ℕ → List ℕ → Outcome
 stored p s d i =
-    cond (roundOpen p s) (outcome stillOpen s d i) (outcome (done (stampNumber (s .stamp)) (s .round .number)) (endedOf s) d (collected p d i))
+    cond (roundOpen p s) (outcome stillOpen s d i) (outcome (done (s .stamp) (s .round .number)) (endedOf s) d (collected p d i))
 
 -- "In a time or write round a heard node is marked 'record'"
 unfoldable pub accepted : Plan → Session → List ℕ → List ℕ → List ℕ → Outcome

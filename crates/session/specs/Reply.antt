@@ -1,14 +1,15 @@
 -- A reply to a client: what it is refused for. Document 01, "Refusal numbers": at the client 1, 2, 9, 14, 4, 10, 11, 5, 6, 12.
---   lengthsOk          2: the desk is exactly N·R bytes, the item exactly m·F
---   sameOperation      9: the session is of this operation
 --   awaited            10: ask number, kind and write timestamp are the ones awaited
 --   isHeard            11: the node is already heard
 --   bears              the reply bears a record
 --   replyLadder        the order, as far as it applies to a writer
 --   recordLadder       5, 6, 12: of a record, at a reader
 --   readLadder         the whole order at a reader
+--   checkNumber takenNumber headed   what a ladder came to
 -- Assumes nothing.
-use Prim.Native.Nat.{ℕ, _*_}
+use Prim.{Unit}
+use Prim.Native.Nat.{ℕ}
+use mathlib.Core.Path.{_≡_}
 use mathlib.Core.Bool.{Bool, not}
 use mathlib.Core.List.{List, [], _∷_, _++_}
 use lib.ListN.{length}
@@ -23,17 +24,13 @@ use Rattle.rounds.specs.Rounds.{heardAt, underOf}
 use Rattle.session.specs.declared.Session.{Session}
 use Rattle.session.specs.declared.Check.{Check}
 use Rattle.session.specs.declared.Check.the-variants.{Passed, Failed}
-use Rattle.session.specs.declared.Operation.{Operation}
-use Rattle.session.specs.declared.Operation.the-variants.{Write, Read}
-use Rattle.session.specs.Session.{isRead, isStoring, isEnded, askNow, awaitsKind}
+use Rattle.session.specs.declared.Taken.{Taken}
+use Rattle.session.specs.declared.Taken.the-variants.{Refused, Reply}
+use Rattle.standing.specs.declared.Operation.{Operation}
+use Rattle.standing.specs.declared.Operation.the-variants.{Read}
+use Rattle.standing.specs.Standing.{isStoring, isEnded, sameOperation, lengthsOk}
+use Rattle.session.specs.Session.{askNow, awaitsKind}
 use Rattle.session.specs.Ranges.{inRange}
-
-unfoldable pub lengthsOk : Plan → ℕ → ℕ → Bool
-lengthsOk p desk item = eqb desk (p .n * recordLength p) and eqb item (p .m * p .f)
-
-abbrev pub sameOperation : Operation → Operation → Bool
-sameOperation Read o = isRead o
-sameOperation Write o = not (isRead o)
 
 unfoldable pub awaited : Session → List ℕ → Bool
 awaited s f =
@@ -72,3 +69,12 @@ readLadder p s f d item = replyLadder Read p s f d item ++ recordLadder p s f
 abbrev pub checkNumber : Check → ℕ
 checkNumber Passed = 0
 checkNumber (Failed r) = refusalNumber r
+
+-- the same of a reply, which past its ladder goes on with the header that was read
+abbrev pub takenNumber : Taken → ℕ
+takenNumber (Refused r) = refusalNumber r
+takenNumber (Reply h) = 0
+
+abbrev pub headed : Taken → List ℕ → Type 0
+headed (Refused r) f = Unit {0}
+headed (Reply h) f = h ≡ headerIn f

@@ -1,73 +1,42 @@
--- The session. Document 01, "The client": a value handed in and handed back. Operation and stage together name the round: a write that
--- asks is in its time round, one that stores in its write round; a read that asks is in a read round, one that stores in a repair round.
---   isRead isAsking isStoring isEnded readRound   the operation and the stage
---   replies            N-t, the replies that close a round
+-- The session. Document 01, "The client": a value handed in and handed back.
+--   readRound          whether it is in a read round
 --   askNow             the ask number of the round that is open
---   awaitsKind         whether the round awaits replies of a kind
+--   awaitsKind         whether that round awaits replies of a kind
 --   roundOpen          whether the round is open, and not over
 --   sessionWith        a session by its fields
---   withRound withGreatest withStamp withMarks inStage   a session with one field set, a round in another stage
+--   withRound withGreatest withStamp withMarks   a session with one field set
 --   markedOf endedOf nextOf storingOf   the session after a node was heard, ended, in the next read round, in a write or repair round
 --   Said saidOf isRefused   an answer in the document's terms, and whether it is a refusal
 -- Assumes nothing.
-use Prim.Native.Nat.{ℕ, _+_, _-_}
-use mathlib.Core.Bool.{Bool, true, false, cond}
+use Prim.Native.Nat.{ℕ}
+use mathlib.Core.Bool.{Bool, true, false}
 use mathlib.Core.List.{List}
 use lib.ListN.{set}
-use lib.Dec.{ltb, eqb}
-use Rattle.terms.specs.Ladder.{_and_}
+use lib.Dec.{ltb}
 use Rattle.terms.specs.Terms.{refusalNumber}
-use Rattle.terms.specs.Stamp.{stampNumber}
 use Rattle.terms.specs.declared.Ask.{Ask}
 use Rattle.terms.specs.declared.Plan.{Plan}
 use Rattle.terms.specs.declared.Time.{Time}
 use Rattle.terms.specs.declared.Timestamp.{Timestamp}
-use Rattle.frame.specs.Frame.{writeReplyKind, readReplyKind, timeReplyKind}
 use Rattle.rounds.specs.declared.Heard.{Heard}
 use Rattle.rounds.specs.declared.Mark.{Mark}
-use Rattle.rounds.specs.declared.Bound.the-variants.{Under}
 use Rattle.rounds.specs.Rounds.{unheards, heardCount}
 use Rattle.session.specs.declared.Session.{Session}
-use Rattle.session.specs.declared.Round.{Round}
-use Rattle.session.specs.declared.Operation.{Operation}
-use Rattle.session.specs.declared.Operation.the-variants.{Write, Read}
-use Rattle.session.specs.declared.Stage.{Stage}
-use Rattle.session.specs.declared.Stage.the-variants.{Asking, Storing, Ended}
+use Rattle.standing.specs.declared.Round.{Round}
+use Rattle.standing.specs.declared.Operation.{Operation}
+use Rattle.standing.specs.declared.Stage.the-variants.{Storing, Ended}
+use Rattle.standing.specs.Standing.{readIn, askIn, awaitsIn, inStage, nextRound, replies}
 use Rattle.session.specs.declared.Answer.{Answer}
 use Rattle.session.specs.declared.Answer.the-variants.{Refused, Open, Done, NeverWritten, Aborted, RoundsSpent, ClockSpent}
 
-abbrev pub isRead : Operation → Bool
-isRead Write = false
-isRead Read = true
-
-abbrev pub isAsking : Stage → Bool
-isAsking Asking = true
-isAsking Storing = false
-isAsking Ended = false
-
-abbrev pub isStoring : Stage → Bool
-isStoring Asking = false
-isStoring Storing = true
-isStoring Ended = false
-
-abbrev pub isEnded : Stage → Bool
-isEnded Asking = false
-isEnded Storing = false
-isEnded Ended = true
-
 abbrev pub readRound : Session → Bool
-readRound s = isRead (s .operation) and isAsking (s .round .stage)
+readRound s = readIn (s .operation) (s .round)
 
-abbrev pub replies : Plan → ℕ
-replies p = p .n - p .t
+abbrev pub askNow : Session → ℕ
+askNow s = askIn (s .opening .0) (s .round)
 
--- "The opening ask number serves round 1, each round takes the next, a write or repair round the one after."
-unfoldable pub askNow : Session → ℕ
-askNow s = cond (isStoring (s .round .stage)) (s .opening .0 + s .round .number) (s .opening .0 + (s .round .number - 1))
-
--- 2 in a time round, 7 in a read round, 4 in a write or repair round
-unfoldable pub awaitsKind : Session → ℕ → Bool
-awaitsKind s k = cond (isStoring (s .round .stage)) (eqb k writeReplyKind) (cond (isRead (s .operation)) (eqb k readReplyKind) (eqb k timeReplyKind))
+abbrev pub awaitsKind : Session → ℕ → Bool
+awaitsKind s k = awaitsIn (s .operation) (s .round) k
 
 -- a round of any kind "ends at N-t replies": it is open while fewer nodes are heard, and else it is over
 abbrev pub roundOpen : Plan → Session → Bool
@@ -90,9 +59,6 @@ withStamp s t = sessionWith (s .operation) (s .round) (s .opening) (s .greatest)
 abbrev pub withMarks : Session → List Mark → Session
 withMarks s m = sessionWith (s .operation) (s .round) (s .opening) (s .greatest) (s .stamp) m
 
-abbrev pub inStage : Round → Stage → Round
-inStage r g = record { stage = g; number = r .number; bound = r .bound }
-
 abbrev pub markedOf : Session → ℕ → Heard → Session
 markedOf s i h = withMarks s (set (s .marks) i (record { is = h }))
 
@@ -101,7 +67,7 @@ endedOf s = withRound s (inStage (s .round) Ended)
 
 -- "the next round opens", below the candidate's timestamp
 abbrev pub nextOf : Session → Timestamp → Session
-nextOf s t = withMarks (withRound s (record { stage = Asking; number = s .round .number + 1; bound = Under t })) unheards
+nextOf s t = withMarks (withRound s (nextRound (s .round) t)) unheards
 
 -- a write or repair round, in which t is the timestamp being written
 abbrev pub storingOf : Session → Timestamp → Session
@@ -111,7 +77,7 @@ storingOf s t = withMarks (withStamp (withRound s (inStage (s .round) Storing)) 
 pub data Said : Type 0 where
   refused : ℕ → Said
   stillOpen : Said
-  done : (stamp rounds : ℕ) → Said
+  done : (stamp : Timestamp) (rounds : ℕ) → Said
   neverWritten : (rounds : ℕ) → Said
   aborted : (rounds : ℕ) → Said
   roundsSpent : (rounds : ℕ) → Said
@@ -120,7 +86,7 @@ pub data Said : Type 0 where
 abbrev pub saidOf : Answer → Said
 saidOf (Refused r) = refused (refusalNumber r)
 saidOf Open = stillOpen
-saidOf (Done t n) = done (stampNumber t) n
+saidOf (Done t n) = done t n
 saidOf (NeverWritten n) = neverWritten n
 saidOf (Aborted n) = aborted n
 saidOf (RoundsSpent n) = roundsSpent n

@@ -8,48 +8,26 @@ mod writer;
 
 use frame::Door;
 use frame::Header;
-use rounds::Bound;
 use rounds::Heard;
 use rounds::Mark;
+use standing::Operation;
+use standing::Round;
+use standing::lengths;
 use terms::Ask;
 use terms::Plan;
 use terms::Refusal;
 use terms::Time;
 use terms::Timestamp;
 ghost use mathlib.Core.Path.{_≡_};
-ghost use mathlib.Core.Bool.{true, not};
+ghost use mathlib.Core.Bool.{true};
 ghost use Prim.Native.Nat.{_+_, _-_, _*_, _≤_, _<_};
 ghost use lib.ListN.{length};
-ghost use Rattle.terms.specs.Terms.{planOk, recordLength, slotsOf};
-ghost use lib.Dec.{eqb, leb};
+ghost use Rattle.terms.specs.Terms.{planOk, recordLength};
 ghost use Rattle.terms.specs.Ladder.{first, _or_};
 ghost use Rattle.frame.specs.Frame.{writeReplyKind, framed, headerIn};
-ghost use Rattle.rounds.specs.Rounds.{noneFirst, slotsFit};
-ghost use Rattle.session.specs.Session.{isRead, isAsking, isStoring, isEnded, readRound, askNow, awaitsKind, roundOpen, markedOf, endedOf, nextOf, storingOf};
-ghost use Rattle.session.specs.Ranges.{boundOk, standingRules, openRules, inRange};
-ghost use Rattle.session.specs.Reply.{lengthsOk, sameOperation, awaited, isHeard, awaitedLadder, replyLadder, checkNumber};
-
-pub enum Operation {
-    Write,
-    Read,
-}
-
-// Asking: a time or a read round. Storing: a write or a repair round.
-pub enum Stage {
-    Asking,
-    Storing,
-    Ended,
-}
-
-// The round that a session is in.
-pub struct Round {
-    // What it does: it asks, it stores, or it is over and was the last.
-    pub stage: Stage,
-    // From 1: read rounds are counted, a write stays in round 1.
-    pub number: u64,
-    // A read round above 1 asks for records below this timestamp.
-    pub bound: Bound,
-}
+ghost use Rattle.session.specs.Session.{roundOpen, markedOf, endedOf, nextOf, storingOf};
+ghost use Rattle.session.specs.Ranges.{standingRules, openRules, inRange};
+ghost use Rattle.session.specs.Reply.{awaited, isHeard, awaitedLadder, replyLadder, takenNumber, headed};
 
 // What a client knows between two replies. The fields not in use are zero, and no call looks at them.
 pub struct Session {
@@ -88,85 +66,13 @@ pub enum Check {
     Failed(Refusal),
 }
 
-pub fn reads(o: Operation) -> bool
-    ensures { λ r. ⌜ r ≡ isRead o ⌝ }
-{
-    match o {
-        Operation::Write => false,
-        Operation::Read => true,
-    }
-}
-
-// "round 1 to W, and 1 in a write"
-fn counts(o: Operation, round: u64) -> bool
-    ensures { λ r. ⌜ r ≡ (isRead o or eqb round 1) ⌝ }
-{
-    match o {
-        Operation::Write => round == 1,
-        Operation::Read => true,
-    }
-}
-
-// Whether a session's operation is the one that a call serves.
-fn same_operation(op: Operation, o: Operation) -> bool
-    ensures { λ r. ⌜ r ≡ sameOperation op o ⌝ }
-{
-    match op {
-        Operation::Write => !reads(o),
-        Operation::Read => reads(o),
-    }
-}
-
-// Refusal 2 of a reply: the desk and the item.
-fn lengths_ok(p: Plan, desk: usize, item: usize) -> bool
-    requires { ⌜ planOk p ≡ true ⌝ }
-    ensures { λ r. ⌜ r ≡ lengthsOk p desk item ⌝ }
-{
-    let r = terms::record_length(p);
-    if desk != (p.n as usize) * r {
-        return false;
-    }
-    item == (p.m as usize) * (p.f as usize)
+// What the ladder of a reply came to: past it, the header that was read at the door.
+pub enum Taken {
+    Refused(Refusal),
+    Reply(Header),
 }
 
 impl Session {
-    // What stage its round is in.
-    fn asking(self) -> bool
-        ensures { λ r. ⌜ r ≡ isAsking (self .round .stage) ⌝ }
-    {
-        let round = self.round;
-        let stage = round.stage;
-        match stage {
-            Stage::Asking => true,
-            Stage::Storing => false,
-            Stage::Ended => false,
-        }
-    }
-
-    fn storing(self) -> bool
-        ensures { λ r. ⌜ r ≡ isStoring (self .round .stage) ⌝ }
-    {
-        let round = self.round;
-        let stage = round.stage;
-        match stage {
-            Stage::Asking => false,
-            Stage::Storing => true,
-            Stage::Ended => false,
-        }
-    }
-
-    fn ended(self) -> bool
-        ensures { λ r. ⌜ r ≡ isEnded (self .round .stage) ⌝ }
-    {
-        let round = self.round;
-        let stage = round.stage;
-        match stage {
-            Stage::Asking => false,
-            Stage::Storing => false,
-            Stage::Ended => true,
-        }
-    }
-
     // Node i heard, with h.
     fn marked(mut self, i: usize, h: Heard) -> Session
         requires { ⌜ i < 16 ⌝ }
@@ -181,12 +87,7 @@ impl Session {
         ensures { λ r. ⌜ r ≡ endedOf self ⌝ }
     {
         let now = self.round;
-        let bound = now.bound;
-        let round = Round {
-            stage: Stage::Ended,
-            number: now.number,
-            bound: bound,
-        };
+        let round = now.over();
         self.round = round;
         self
     }
@@ -196,12 +97,8 @@ impl Session {
         requires { ⌜ self .round .number < 65535 ⌝ }
         ensures { λ r. ⌜ r ≡ nextOf self t ⌝ }
     {
-        let number = self.round.number + 1;
-        let round = Round {
-            stage: Stage::Asking,
-            number: number,
-            bound: Bound::Under(t),
-        };
+        let now = self.round;
+        let round = now.next(t);
         self.round = round;
         let marks = [Mark { is: Heard::Unheard }; 16];
         self.marks = marks;
@@ -213,12 +110,7 @@ impl Session {
         ensures { λ r. ⌜ r ≡ storingOf self t ⌝ }
     {
         let now = self.round;
-        let bound = now.bound;
-        let round = Round {
-            stage: Stage::Storing,
-            number: now.number,
-            bound: bound,
-        };
+        let round = now.store();
         self.round = round;
         self.stamp = t;
         let marks = [Mark { is: Heard::Unheard }; 16];
@@ -226,53 +118,14 @@ impl Session {
         self
     }
 
-    // Whether a read round is open.
-    fn in_read_round(self) -> bool
-        ensures { λ r. ⌜ r ≡ readRound self ⌝ }
-    {
-        let o = self.operation;
-        if !reads(o) {
-            return false;
-        }
-        self.asking()
-    }
-
-    // "A bound exactly when round is above 1, time 1 or more."
-    fn bound_ok(self) -> bool
-        ensures { λ r. ⌜ r ≡ boundOk (self .round .bound) (self .round .number) ⌝ }
-    {
-        let round = self.round;
-        let number = round.number;
-        let bound = round.bound;
-        match bound {
-            Bound::Free => number <= 1,
-            Bound::Under(u) => {
-                if number <= 1 {
-                    return false;
-                }
-                let t = u.time;
-                t.0 >= 1
-            }
-        }
-    }
-
     // The rules of refusal 9 that every session meets.
     fn stands(self, p: Plan) -> bool
         requires { ⌜ planOk p ≡ true ⌝ }
         ensures { λ r. ⌜ r ≡ standingRules p self ⌝ }
     {
-        let round = self.round.number;
-        if round < 1 {
-            return false;
-        }
-        if round > p.w {
-            return false;
-        }
+        let now = self.round;
         let o = self.operation;
-        if !counts(o, round) {
-            return false;
-        }
-        if !self.bound_ok() {
+        if !now.stands(p.w, o) {
             return false;
         }
         let marks = self.marks;
@@ -283,51 +136,13 @@ impl Session {
         terms::opening_ok(p, a)
     }
 
-    // "A timestamp being written of time 1 or more."
-    fn stamp_ok(self) -> bool
-        ensures { λ r. ⌜ r ≡ (not (isStoring (self .round .stage)) or leb 1 (self .stamp .time .0)) ⌝ }
-    {
-        if !self.storing() {
-            return true;
-        }
-        let t = self.stamp;
-        let k = t.time;
-        k.0 >= 1
-    }
-
-    // "No first triple mark in a time or write round."
-    fn firsts_ok(self) -> bool
-        ensures { λ r. ⌜ r ≡ (readRound self or noneFirst (self .marks)) ⌝ }
-    {
-        if self.in_read_round() {
-            return true;
-        }
-        let marks = self.marks;
-        rounds::none_first(marks)
-    }
-
-    // "in a read round each slot marked 'record' must hold a time of 1 or more and a timestamp below the bound, if there is one"
-    fn slots_ok(self, p: Plan, desk: &[u8]) -> bool
-        requires { ⌜ (planOk p ≡ true) × (length (now desk) ≡ p .n * recordLength p) ⌝ }
-        ensures { λ r. ⌜ r ≡ (not (readRound self) or slotsFit (self .marks) (now (desk .entry)) (slotsOf p) (self .round .bound) (p .n)) ⌝ }
-    {
-        if !self.in_read_round() {
-            return true;
-        }
-        let marks = self.marks;
-        let now = self.round;
-        let b = now.bound;
-        let slots = terms::slots_of(p);
-        rounds::slots_fit(marks, desk, slots, b)
-    }
-
-    // Whether the round is open: fewer than N-t nodes are heard. Else it is over.
+    // Whether the round is open, and not over.
     fn round_open(self, p: Plan) -> bool
         requires { ⌜ planOk p ≡ true ⌝ }
         ensures { λ r. ⌜ r ≡ roundOpen p self ⌝ }
     {
         let marks = self.marks;
-        rounds::count(marks) < p.n - p.t
+        standing::is_open(p, marks)
     }
 
     // The rules of refusal 9 that an open session meets.
@@ -335,16 +150,20 @@ impl Session {
         requires { ⌜ (planOk p ≡ true) × (length (now desk) ≡ p .n * recordLength p) ⌝ }
         ensures { λ r. ⌜ r ≡ openRules p self (now (desk .entry)) ⌝ }
     {
-        if !self.stamp_ok() {
+        let now = self.round;
+        let t = self.stamp;
+        if !now.stamp_ok(t) {
             return false;
         }
-        if !self.firsts_ok() {
+        let o = self.operation;
+        let marks = self.marks;
+        if !now.firsts_ok(o, marks) {
             return false;
         }
-        if !self.round_open(p) {
+        if !standing::is_open(p, marks) {
             return false;
         }
-        self.slots_ok(p, desk)
+        now.slots_ok(o, marks, p, desk)
     }
 
     // Refusal 9: whether the session is in its ranges.
@@ -355,37 +174,11 @@ impl Session {
         if !self.stands(p) {
             return false;
         }
-        if self.ended() {
+        let now = self.round;
+        if now.ended() {
             return true;
         }
         self.open_ok(p, desk)
-    }
-
-    // The ask number of the round that is open: one more in a write or repair round.
-    fn asked(self) -> Ask
-        requires { ⌜ (1 ≤ self .round .number) × (self .opening .0 + self .round .number ≤ 18446744073709551615) ⌝ }
-        ensures { λ r. ⌜ r .0 ≡ askNow self ⌝ }
-    {
-        let a = self.opening;
-        let round = self.round.number;
-        if self.storing() {
-            return Ask(a.0 + round);
-        }
-        Ask(a.0 + (round - 1))
-    }
-
-    // Whether the round awaits replies of kind k.
-    fn awaits_kind(self, k: u64) -> bool
-        ensures { λ r. ⌜ r ≡ awaitsKind self k ⌝ }
-    {
-        if self.storing() {
-            return k == frame::WRITE_REPLY;
-        }
-        let o = self.operation;
-        if reads(o) {
-            return k == frame::READ_REPLY;
-        }
-        k == frame::TIME_REPLY
     }
 
     // Refusal 10: whether ask number, kind and write timestamp are the ones awaited.
@@ -394,14 +187,17 @@ impl Session {
             × (h .kind ≡ writeReplyKind → framed (h .version) 40 ≤ length (now frame)) ⌝ }
         ensures { λ r. ⌜ r ≡ awaited self (now (frame .entry)) ⌝ }
     {
-        let ask = self.asked();
+        let now = self.round;
+        let opening = self.opening;
+        let ask = now.asked(opening);
         if !frame::answers(h, ask) {
             return false;
         }
-        if !self.awaits_kind(h.kind) {
+        let o = self.operation;
+        if !now.awaits_kind(o, h.kind) {
             return false;
         }
-        if !self.storing() {
+        if !now.storing() {
             return true;
         }
         let at = frame::head_bytes(h.version);
@@ -420,43 +216,44 @@ impl Session {
     }
 
     // What a good reply is refused for: 10, 11.
-    fn check_awaited(self, h: Header, frame: &[u8]) -> Check
+    fn check_awaited(self, h: Header, frame: &[u8]) -> Taken
         requires { ⌜ (1 ≤ self .round .number) × (self .opening .0 + self .round .number ≤ 18446744073709551615) × (h ≡ headerIn (now frame))
             × (h .kind ≡ writeReplyKind → framed (h .version) 40 ≤ length (now frame)) × (h .node < 16) ⌝ }
-        ensures { λ r. ⌜ checkNumber r ≡ first (awaitedLadder self (now (frame .entry))) (λ k. k) 0 ⌝ }
+        ensures { λ r. ⌜ (takenNumber r ≡ first (awaitedLadder self (now (frame .entry))) (λ k. k) 0) × headed r (now (frame .entry)) ⌝ }
     {
         if !self.awaits(h, frame) {
-            return Check::Failed(Refusal::NotAwaited);
+            return Taken::Refused(Refusal::NotAwaited);
         }
         if self.has_heard(h.node as usize) {
-            return Check::Failed(Refusal::AlreadyHeard);
+            return Taken::Refused(Refusal::AlreadyHeard);
         }
-        Check::Passed
+        Taken::Reply(h)
     }
 
     // What a reply to a client is refused for: 1, 2, 9, 14, 4, 10, 11, in this order.
-    fn check(self, op: Operation, p: Plan, frame: &[u8], desk: &[u8], item: usize) -> Check
-        ensures { λ r. ⌜ checkNumber r ≡ first (replyLadder op p self (now (frame .entry)) (now (desk .entry)) item) (λ k. k) 0 ⌝ }
+    fn check(self, op: Operation, p: Plan, frame: &[u8], desk: &[u8], item: usize) -> Taken
+        ensures { λ r. ⌜ (takenNumber r ≡ first (replyLadder op p self (now (frame .entry)) (now (desk .entry)) item) (λ k. k) 0) × headed r (now (frame .entry)) ⌝ }
     {
         if !terms::plan_ok(p) {
-            return Check::Failed(Refusal::OutsidePlan);
+            return Taken::Refused(Refusal::OutsidePlan);
         }
-        if !lengths_ok(p, desk.len(), item) {
-            return Check::Failed(Refusal::WrongLength);
+        if !lengths::lengths_ok(p, desk.len(), item) {
+            return Taken::Refused(Refusal::WrongLength);
         }
         let o = self.operation;
-        if !same_operation(op, o) {
-            return Check::Failed(Refusal::OutOfRange);
+        if !standing::same_operation(op, o) {
+            return Taken::Refused(Refusal::OutOfRange);
         }
         if !self.ranges_ok(p, desk) {
-            return Check::Failed(Refusal::OutOfRange);
+            return Taken::Refused(Refusal::OutOfRange);
         }
-        if self.ended() {
-            return Check::Failed(Refusal::HasEnded);
+        let now = self.round;
+        if now.ended() {
+            return Taken::Refused(Refusal::HasEnded);
         }
         let door = frame::reply_at(p, frame);
         match door {
-            Door::Bad => Check::Failed(Refusal::WrongFrame),
+            Door::Bad => Taken::Refused(Refusal::WrongFrame),
             Door::Open(h) => self.check_awaited(h, frame),
         }
     }

@@ -1,19 +1,19 @@
 // Opening a write and a read: document 01, "Refusal numbers", 1 and 13. No buffer is lent. The bound is a parameter inside, for reads
 // that start below a timestamp.
-use crate::Operation;
-use crate::Round;
 use crate::Session;
-use crate::Stage;
 use rounds::Bound;
 use rounds::Heard;
 use rounds::Mark;
+use standing::Operation;
+use standing::Round;
+use standing::Stage;
 use terms::Ask;
 use terms::Plan;
 use terms::Refusal;
 use terms::Time;
 ghost use mathlib.Core.Path.{_≡_};
 ghost use Rattle.session.specs.Opening.{freshOf, noSession, openingNumber, opens, openWith, OpenCall};
-ghost use Rattle.session.specs.declared.Operation.the-variants.{Write, Read};
+ghost use Rattle.standing.specs.declared.Operation.the-variants.{Write, Read};
 
 // The answer to an opening.
 pub enum Opening {

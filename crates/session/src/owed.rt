@@ -2,49 +2,21 @@
 // value and stays as it is.
 use crate::Check;
 use crate::Session;
-use crate::reads;
-use rounds::Bound;
-use terms::Ask;
+use standing::lengths;
 use terms::Plan;
 use terms::Refusal;
 ghost use mathlib.Core.Path.{_≡_};
-ghost use mathlib.Core.Bool.{true};
-ghost use Prim.Native.Nat.{_+_, _*_, _≤_};
+ghost use Prim.Native.Nat.{_*_};
 ghost use lib.ListN.{length};
 ghost use Rattle.octets.specs.Bytes.{over};
-ghost use Rattle.terms.specs.Terms.{planOk};
 ghost use Rattle.terms.specs.Ladder.{first};
 ghost use Rattle.session.specs.Reply.{checkNumber};
-ghost use Rattle.frame.specs.Frame.{framed};
-ghost use Rattle.session.specs.Owed.{roomOk, owedLadder, readRequest, requestOf, OwedCall};
+ghost use Rattle.session.specs.Owed.{owedLadder, requestOf, OwedCall};
 
 // The answer: refused, or the length of the frame that was written.
 pub enum Owed {
     Refused(Refusal),
     Request(usize),
-}
-
-// Refusal 2 of a request owed: the desk and the request buffer.
-fn room_ok(p: Plan, desk: usize, request: usize) -> bool
-    requires { ⌜ planOk p ≡ true ⌝ }
-    ensures { λ r. ⌜ r ≡ roomOk p desk request ⌝ }
-{
-    let r = terms::record_length(p);
-    if desk != (p.n as usize) * r {
-        return false;
-    }
-    frame::holds_any(1, p, request)
-}
-
-// A read round's request: the latest record where there is no bound, else the one before it.
-fn read_request(b: Bound, node: u64, ask: Ask, request: &mut [u8]) -> usize
-    requires { ⌜ framed 1 40 ≤ length (now request) ⌝ }
-    ensures { λ r. ⌜ (now (request .exit) ≡ over (readRequest b node (ask .0)) (now (request .entry))) × (r ≡ length (readRequest b node (ask .0))) ⌝ }
-{
-    match b {
-        Bound::Free => frame::latest(request, node, ask),
-        Bound::Under(u) => frame::previous(request, node, ask, u),
-    }
 }
 
 impl Session {
@@ -55,13 +27,14 @@ impl Session {
         if !terms::plan_ok(p) {
             return Check::Failed(Refusal::OutsidePlan);
         }
-        if !room_ok(p, desk.len(), request) {
+        if !lengths::room_ok(p, desk.len(), request) {
             return Check::Failed(Refusal::WrongLength);
         }
         if !self.ranges_ok(p, desk) {
             return Check::Failed(Refusal::OutOfRange);
         }
-        if self.ended() {
+        let now = self.round;
+        if now.ended() {
             return Check::Failed(Refusal::HasEnded);
         }
         if node >= p.n {
@@ -79,17 +52,18 @@ impl Session {
         ensures { λ r. ⌜ (now (request .exit) ≡ over (requestOf p self node (now (desk .entry))) (now (request .entry)))
             × (r ≡ length (requestOf p self node (now (desk .entry)))) ⌝ }
     {
-        let ask = self.asked();
+        let now = self.round;
+        let opening = self.opening;
+        let ask = now.asked(opening);
         let r = terms::record_length(p);
-        if self.storing() {
+        if now.storing() {
             let h = frame::asking(frame::WRITE_REQUEST, node, ask);
             return frame::with_part(request, h, desk, (node as usize) * r, r);
         }
         let o = self.operation;
-        if reads(o) {
-            let now = self.round;
+        if standing::reads(o) {
             let b = now.bound;
-            return read_request(b, node, ask, request);
+            return standing::read_request(b, node, ask, request);
         }
         let h = frame::asking(frame::TIME_REQUEST, node, ask);
         frame::bare(request, h)

@@ -2,23 +2,25 @@
 // slot; at N-t replies the round closes, and the reader acts on the close.
 use crate::Answer;
 use crate::Check;
-use crate::Operation;
 use crate::Session;
+use crate::Taken;
 use crate::Took;
+use frame::Header;
 use rounds::Close;
 use rounds::Heard;
 use rounds::Lead;
+use standing::Operation;
 use terms::Plan;
 use terms::Refusal;
 use terms::Timestamp;
 use terms::Verdict;
 ghost use mathlib.Core.Path.{_≡_};
 ghost use mathlib.Core.Bool.{true, false};
-ghost use Prim.Native.Nat.{_+_, _*_, _≤_};
+ghost use Prim.Native.Nat.{_+_, _*_};
 ghost use lib.ListN.{length};
 ghost use Rattle.terms.specs.Ladder.{first};
 ghost use Rattle.terms.specs.Terms.{planOk, recordLength};
-ghost use Rattle.frame.specs.Frame.{headBytes, goodReply};
+ghost use Rattle.frame.specs.Frame.{goodReply, headerIn};
 ghost use Rattle.rounds.specs.declared.Lead.the-variants.{Node};
 ghost use Rattle.rounds.specs.Rounds.{told};
 ghost use Rattle.session.specs.Session.{saidOf};
@@ -26,11 +28,10 @@ ghost use Rattle.session.specs.Reply.{bears, recordLadder, checkNumber};
 ghost use Rattle.session.specs.Reader.{outcome, failing, actOn, acted, settled, heard, stored, accepted, ReadReplyCall, Acting};
 
 // Whether a reply bears a record, and not the first triple.
-fn bears_record(p: Plan, frame: &[u8]) -> bool
-    requires { ⌜ (planOk p ≡ true) × (headBytes 1 ≤ length (now frame)) ⌝ }
+fn bears_record(p: Plan, h: Header, frame: &[u8]) -> bool
+    requires { ⌜ (planOk p ≡ true) × (h ≡ headerIn (now frame)) ⌝ }
     ensures { λ r. ⌜ r ≡ bears p (now (frame .entry)) ⌝ }
 {
-    let h = frame::header_of(frame);
     let kind = h.kind;
     if kind != frame::READ_REPLY {
         return false;
@@ -41,14 +42,13 @@ fn bears_record(p: Plan, frame: &[u8]) -> bool
 
 impl Session {
     // What a reply that bears a record is refused for: 5, 6, 12, in this order.
-    fn check_record(self, p: Plan, frame: &[u8]) -> Check
-        requires { ⌜ (planOk p ≡ true) × (goodReply p (now frame) ≡ true) ⌝ }
+    fn check_record(self, p: Plan, h: Header, frame: &[u8]) -> Check
+        requires { ⌜ (planOk p ≡ true) × (goodReply p (now frame) ≡ true) × (h ≡ headerIn (now frame)) ⌝ }
         ensures { λ r. ⌜ checkNumber r ≡ first (recordLadder p self (now (frame .entry))) (λ k. k) 0 ⌝ }
     {
-        if !bears_record(p, frame) {
+        if !bears_record(p, h, frame) {
             return Check::Passed;
         }
-        let h = frame::header_of(frame);
         let at = frame::head_bytes(h.version);
         if record::time_zero(frame, at) {
             return Check::Failed(Refusal::TimeZero);
@@ -165,13 +165,12 @@ impl Session {
     }
 
     // An accepted reply of a read round.
-    fn hear(self, p: Plan, frame: &[u8], desk: &mut [u8], item: &mut [u8]) -> Took
-        requires { ⌜ (planOk p ≡ true) × (goodReply p (now frame) ≡ true) × (length (now desk) ≡ p .n * recordLength p) × (length (now item) ≡ p .m * p .f) ⌝ }
+    fn hear(self, p: Plan, h: Header, frame: &[u8], desk: &mut [u8], item: &mut [u8]) -> Took
+        requires { ⌜ (planOk p ≡ true) × (goodReply p (now frame) ≡ true) × (h ≡ headerIn (now frame)) × (length (now desk) ≡ p .n * recordLength p) × (length (now item) ≡ p .m * p .f) ⌝ }
         ensures { λ r. ⌜ outcome (saidOf (r .answer)) (r .session) (now (desk .exit)) (now (item .exit)) ≡ heard p self (now (frame .entry)) (now (desk .entry)) (now (item .entry)) ⌝ }
     {
-        let h = frame::header_of(frame);
         let i = h.node as usize;
-        if !bears_record(p, frame) {
+        if !bears_record(p, h, frame) {
             let s = self.marked(i, Heard::First);
             return s.settle(p, desk, item);
         }
@@ -204,17 +203,17 @@ impl Session {
     }
 
     // An accepted reply.
-    fn accept(self, p: Plan, frame: &[u8], desk: &mut [u8], item: &mut [u8]) -> Took
-        requires { ⌜ (planOk p ≡ true) × (goodReply p (now frame) ≡ true) × (length (now desk) ≡ p .n * recordLength p) × (length (now item) ≡ p .m * p .f) ⌝ }
+    fn accept(self, p: Plan, h: Header, frame: &[u8], desk: &mut [u8], item: &mut [u8]) -> Took
+        requires { ⌜ (planOk p ≡ true) × (goodReply p (now frame) ≡ true) × (h ≡ headerIn (now frame)) × (length (now desk) ≡ p .n * recordLength p) × (length (now item) ≡ p .m * p .f) ⌝ }
         ensures { λ r. ⌜ outcome (saidOf (r .answer)) (r .session) (now (desk .exit)) (now (item .exit)) ≡ accepted p self (now (frame .entry)) (now (desk .entry)) (now (item .entry)) ⌝ }
     {
-        if self.storing() {
-            let h = frame::header_of(frame);
+        let now = self.round;
+        if now.storing() {
             let i = h.node as usize;
             let s = self.marked(i, Heard::Record);
             return s.keep(p, &desk[..], item);
         }
-        self.hear(p, frame, desk, item)
+        self.hear(p, h, frame, desk, item)
     }
 
     // A reply to a reader.
@@ -222,16 +221,16 @@ impl Session {
         ensures { λ r. ⌜ ReadReplyCall p self (now (reply .entry)) (now (desk .entry)) (now (item .entry)) r (now (desk .exit)) (now (item .exit)) ⌝ }
     {
         match self.check(Operation::Read, p, reply, &desk[..], item.len()) {
-            Check::Failed(k) => Took {
+            Taken::Refused(k) => Took {
                 session: self,
                 answer: Answer::Refused(k),
             },
-            Check::Passed => match self.check_record(p, reply) {
+            Taken::Reply(h) => match self.check_record(p, h, reply) {
                 Check::Failed(k) => Took {
                     session: self,
                     answer: Answer::Refused(k),
                 },
-                Check::Passed => self.accept(p, reply, desk, item),
+                Check::Passed => self.accept(p, h, reply, desk, item),
             },
         }
     }

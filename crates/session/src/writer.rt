@@ -1,13 +1,13 @@
 // A reply to a writer. Document 01, "The client", writing: a time round, in which the session keeps the greatest time so far; the reply
 // that ends it fills the desk with all N records of the item lent with it; then a write round.
 use crate::Answer;
-use crate::Check;
-use crate::Operation;
 use crate::Session;
+use crate::Taken;
 use crate::Took;
 use frame::Header;
 use rounds::Heard;
 use rounds::Mark;
+use standing::Operation;
 use terms::Plan;
 use terms::Time;
 ghost use mathlib.Core.Path.{_≡_};
@@ -18,8 +18,8 @@ ghost use lib.ListN.{length};
 ghost use Rattle.terms.specs.Ladder.{first};
 ghost use Rattle.terms.specs.Terms.{planOk, recordLength};
 ghost use Rattle.terms.specs.Stamp.{time};
-ghost use Rattle.frame.specs.Frame.{framed, bodyOf};
-ghost use Rattle.session.specs.declared.Operation.the-variants.{Write};
+ghost use Rattle.frame.specs.Frame.{framed, bodyOf, headerIn};
+ghost use Rattle.standing.specs.declared.Operation.the-variants.{Write};
 ghost use Rattle.session.specs.Session.{saidOf};
 ghost use Rattle.session.specs.Reply.{replyLadder};
 ghost use Rattle.session.specs.Writer.{laterOf, timedOf, leaves, timeTurn, writeTurn, acceptedWrite, WriteReplyCall};
@@ -105,18 +105,19 @@ impl Session {
     fn accept_write(
         self,
         p: Plan,
+        h: Header,
         reply: &[u8],
         desk: &mut [u8],
         item: &[u8],
         cross: &mut [u8],
     ) -> Took
-        requires { ⌜ (first (replyLadder Write p self (now reply) (now desk) (length (now item))) (λ k. k) 0 ≡ 0) × (512 ≤ length (now cross)) ⌝ }
+        requires { ⌜ (first (replyLadder Write p self (now reply) (now desk) (length (now item))) (λ k. k) 0 ≡ 0) × (h ≡ headerIn (now reply)) × (512 ≤ length (now cross)) ⌝ }
         ensures { λ r. ⌜ leaves (saidOf (r .answer)) (r .session) (now (desk .exit))
             ≡ acceptedWrite p self (now (reply .entry)) (now (desk .entry)) (now (item .entry)) ⌝ }
     {
-        let h = frame::header_of(reply);
         let i = h.node as usize;
-        if self.storing() {
+        let now = self.round;
+        if now.storing() {
             let s = self.marked(i, Heard::Record);
             return s.write_turn(p);
         }
@@ -138,11 +139,11 @@ impl Session {
     {
         let c = self.check(Operation::Write, p, reply, &desk[..], item.len());
         match c {
-            Check::Failed(k) => Took {
+            Taken::Refused(k) => Took {
                 session: self,
                 answer: Answer::Refused(k),
             },
-            Check::Passed => self.accept_write(p, reply, desk, item, cross),
+            Taken::Reply(h) => self.accept_write(p, h, reply, desk, item, cross),
         }
     }
 

@@ -1,5 +1,5 @@
 use Rattle.answers.specs.Answers.{bothFit}
-use Rattle.session.proofs.Rules as rules
+use Rattle.standing.proofs.Rules as rules
 use borrow.Author.Tests.{eq-eqb, ne-eqb}
 use mathlib.Core.Path.{refl}
 use Rattle.answers.proofs.both_fit.Statement.{statement}

@@ -38,7 +38,7 @@ use Rattle.rounds.specs.declared.Heard.the-variants.{First, Record}
 use Rattle.rounds.specs.Rounds.{heardCount, every, slotStamp, aheadOf, stepOf, leadOf, joinsOf, setOf, closeWith, underOf, slotFits, slotsFit}
 use Rattle.recover.specs.Recover.{validates, slotFilled, refilled, sound, repaired, collected}
 use Rattle.session.specs.declared.Session.{Session}
-use Rattle.session.specs.declared.Operation.the-variants.{Write, Read}
+use Rattle.standing.specs.declared.Operation.the-variants.{Write, Read}
 use Rattle.session.specs.declared.Answer.{Answer}
 use Rattle.session.specs.declared.Answer.the-variants.{Refused, Open, Done}
 use Rattle.session.specs.declared.opening.Opened.{Opened}
@@ -46,7 +46,8 @@ use Rattle.session.specs.declared.opening.Opening.the-variants.{Accepted}
 use Rattle.session.specs.Session.{askNow, awaitsKind, markedOf, nextOf, storingOf, endedOf, refused}
 use Rattle.session.specs.Opening.{freshOf, openWith, OpenCall}
 use Rattle.session.specs.Ranges.{standingRules, openRules, inRange}
-use Rattle.session.specs.Reply.{lengthsOk, sameOperation, awaited, isHeard, bears}
+use Rattle.standing.specs.Standing.{lengthsOk, sameOperation, askIn, awaitsIn, roundRules}
+use Rattle.session.specs.Reply.{awaited, isHeard, bears}
 use Rattle.session.specs.Reader.{failing, actOn, actFor, closed, settled, heard, stored, accepted, readReply, ReadReplyCall}
 use Rattle.recover.specs.Records.{crossFor, stampFor, recordsFor}
 use Rattle.session.proofs.Kept.{Kept}
@@ -167,40 +168,40 @@ unfolding openWith first planOk countsOk limitsOk columnOf all plan
 opened-so = record { is = refl }
 
 pub met-1 : ReadReplyCall plan (start) reply-1 desk (0 ∷ []) (record { answer = Open; session = first-heard }) desk-poor (0 ∷ [])
-unfolding reply-1 hash poor stamp-bytes good desk desk-poor desk-good desk-full plan readReply first planOk countsOk limitsOk columnOf all recordLength lengthsOk inRange standingRules openRules heardCount every slotsFit slotFits slotStamp underOf num numFrom part
-    goodReply goodFrame suits shaped forParty oneOf bodyFits awaited askNow awaitsKind isHeard bears be beOnto accepted heard settled
+unfolding reply-1 hash poor stamp-bytes good desk desk-poor desk-good desk-full plan readReply first planOk countsOk limitsOk columnOf all recordLength lengthsOk inRange standingRules roundRules openRules heardCount every slotsFit slotFits slotStamp underOf num numFrom part
+    goodReply goodFrame suits shaped forParty oneOf bodyFits awaited askIn awaitsIn isHeard bears be beOnto accepted heard settled
     hashesOk timeZero fragmentHash prefixOf alike put stampAt stampNumber then sha256 sha.after compressOf addedOf roundsOf roundOf T1 T2 scheduleOf words padding bigEndian K
 met-1 = record { is = refl }
 
 met-2 : ReadReplyCall plan (first-heard) reply-2 desk-poor (0 ∷ []) (record { answer = Open; session = second-round }) desk-poor (0 ∷ [])
-unfolding reply-2 hash poor stamp-bytes good desk desk-poor desk-good desk-full plan readReply first planOk countsOk limitsOk columnOf all recordLength lengthsOk inRange standingRules openRules heardCount every slotsFit slotFits slotStamp underOf num numFrom part
-    goodReply goodFrame suits shaped forParty oneOf bodyFits awaited askNow awaitsKind isHeard bears be beOnto accepted heard settled
+unfolding reply-2 hash poor stamp-bytes good desk desk-poor desk-good desk-full plan readReply first planOk countsOk limitsOk columnOf all recordLength lengthsOk inRange standingRules roundRules openRules heardCount every slotsFit slotFits slotStamp underOf num numFrom part
+    goodReply goodFrame suits shaped forParty oneOf bodyFits awaited askIn awaitsIn isHeard bears be beOnto accepted heard settled
     hashesOk timeZero fragmentHash prefixOf alike put stampAt stampNumber then sha256 sha.after compressOf addedOf roundsOf roundOf T1 T2 scheduleOf words padding bigEndian K actFor actOn sound failing closeWith leadOf stepOf aheadOf setOf joinsOf decided classOf
     validates row crossMade regenerated among tabulate value blend weightOf ratio xtime mulN mul square sumPow inv div
 met-2 = record { is = refl }
 
 met-3 : ReadReplyCall plan (second-round) reply-3 desk-poor (0 ∷ []) (record { answer = Open; session = second-heard }) desk-good (0 ∷ [])
-unfolding reply-3 hash poor stamp-bytes good desk desk-poor desk-good desk-full plan readReply first planOk countsOk limitsOk columnOf all recordLength lengthsOk inRange standingRules openRules heardCount every slotsFit slotFits slotStamp underOf num numFrom part
-    goodReply goodFrame suits shaped forParty oneOf bodyFits awaited askNow awaitsKind isHeard bears be beOnto accepted heard settled
+unfolding reply-3 hash poor stamp-bytes good desk desk-poor desk-good desk-full plan readReply first planOk countsOk limitsOk columnOf all recordLength lengthsOk inRange standingRules roundRules openRules heardCount every slotsFit slotFits slotStamp underOf num numFrom part
+    goodReply goodFrame suits shaped forParty oneOf bodyFits awaited askIn awaitsIn isHeard bears be beOnto accepted heard settled
     hashesOk timeZero fragmentHash prefixOf alike put stampAt stampNumber then sha256 sha.after compressOf addedOf roundsOf roundOf T1 T2 scheduleOf words padding bigEndian K
 met-3 = record { is = refl }
 
 met-4 : ReadReplyCall plan (second-heard) reply-4 desk-good (0 ∷ []) (record { answer = Open; session = repair-round }) desk-full (0 ∷ [])
-unfolding reply-4 hash poor stamp-bytes good desk desk-poor desk-good desk-full plan readReply first planOk countsOk limitsOk columnOf all recordLength lengthsOk inRange standingRules openRules heardCount every slotsFit slotFits slotStamp underOf num numFrom part
-    goodReply goodFrame suits shaped forParty oneOf bodyFits awaited askNow awaitsKind isHeard bears be beOnto accepted heard settled
+unfolding reply-4 hash poor stamp-bytes good desk desk-poor desk-good desk-full plan readReply first planOk countsOk limitsOk columnOf all recordLength lengthsOk inRange standingRules roundRules openRules heardCount every slotsFit slotFits slotStamp underOf num numFrom part
+    goodReply goodFrame suits shaped forParty oneOf bodyFits awaited askIn awaitsIn isHeard bears be beOnto accepted heard settled
     hashesOk timeZero fragmentHash prefixOf alike put stampAt stampNumber then sha256 sha.after compressOf addedOf roundsOf roundOf T1 T2 scheduleOf words padding bigEndian K actFor actOn sound failing closeWith leadOf stepOf aheadOf setOf joinsOf decided classOf
     validates row crossMade regenerated among tabulate value blend weightOf ratio xtime mulN mul square sumPow inv div repaired refilled slotFilled
 met-4 = record { is = refl }
 
 met-5 : ReadReplyCall plan (repair-round) reply-5 desk-full (0 ∷ []) (record { answer = Open; session = once-stored }) desk-full (0 ∷ [])
-unfolding reply-5 hash poor stamp-bytes good desk desk-poor desk-good desk-full plan readReply first planOk countsOk limitsOk columnOf all recordLength lengthsOk inRange standingRules openRules heardCount every slotsFit slotFits slotStamp underOf num numFrom part
-    goodReply goodFrame suits shaped forParty oneOf bodyFits awaited askNow awaitsKind isHeard bears be beOnto accepted heard settled
+unfolding reply-5 hash poor stamp-bytes good desk desk-poor desk-good desk-full plan readReply first planOk countsOk limitsOk columnOf all recordLength lengthsOk inRange standingRules roundRules openRules heardCount every slotsFit slotFits slotStamp underOf num numFrom part
+    goodReply goodFrame suits shaped forParty oneOf bodyFits awaited askIn awaitsIn isHeard bears be beOnto accepted heard settled
     hashesOk timeZero fragmentHash prefixOf alike put stampAt stampNumber then stored
 met-5 = record { is = refl }
 
 met-6 : ReadReplyCall plan (once-stored) reply-6 desk-full (0 ∷ []) (record { answer = Done (stampAt desk-good 0) 2; session = ended }) desk-full (7 ∷ [])
-unfolding reply-6 hash poor stamp-bytes good desk desk-poor desk-good desk-full plan readReply first planOk countsOk limitsOk columnOf all recordLength lengthsOk inRange standingRules openRules heardCount every slotsFit slotFits slotStamp underOf num numFrom part
-    goodReply goodFrame suits shaped forParty oneOf bodyFits awaited askNow awaitsKind isHeard bears be beOnto accepted heard settled
+unfolding reply-6 hash poor stamp-bytes good desk desk-poor desk-good desk-full plan readReply first planOk countsOk limitsOk columnOf all recordLength lengthsOk inRange standingRules roundRules openRules heardCount every slotsFit slotFits slotStamp underOf num numFrom part
+    goodReply goodFrame suits shaped forParty oneOf bodyFits awaited askIn awaitsIn isHeard bears be beOnto accepted heard settled
     hashesOk timeZero fragmentHash prefixOf alike put stampAt stampNumber then stored collected laid from regenerated among tabulate value
 met-6 = record { is = refl }
 
@@ -284,13 +285,13 @@ unfoldable pub late : List ℕ
 late = frame readReplyKind 2 5 []
 
 late-met : ReadReplyCall plan second-heard late desk-good (0 ∷ []) (record { answer = Refused NotAwaited; session = second-heard }) desk-good (0 ∷ [])
-unfolding late hash stamp-bytes good desk-good plan readReply first planOk countsOk limitsOk columnOf all recordLength lengthsOk inRange standingRules openRules heardCount every
-    slotsFit slotFits slotStamp underOf num numFrom part goodReply goodFrame suits shaped forParty oneOf bodyFits awaited askNow awaitsKind be beOnto stampAt stampNumber then
+unfolding late hash stamp-bytes good desk-good plan readReply first planOk countsOk limitsOk columnOf all recordLength lengthsOk inRange standingRules roundRules openRules heardCount every
+    slotsFit slotFits slotStamp underOf num numFrom part goodReply goodFrame suits shaped forParty oneOf bodyFits awaited askIn awaitsIn be beOnto stampAt stampNumber then
     desk-poor poor
 late-met = record { is = refl }
 
 asked-first : askOf late ≡ askNow start
-unfolding late be beOnto num numFrom part askNow
+unfolding late be beOnto num numFrom part askIn
 asked-first = refl
 
 pub late-so : NotCounted (refused 10)
@@ -339,4 +340,4 @@ pub back-so : call-6 .itemLeft ≡ 7 ∷ []
 unfolding plan from
 back-so =
     repair-comes-back plan 1 (7 ∷ []) plan-ok (small-octets (7 ∷ []) seven-small) refl (0 ∷ []) refl once-stored reply-6 desk-full (call-6 .took) desk-full (7 ∷ []) met-6
-    (stampNumber (stampAt desk-good 0)) 2 refl refl (ap (λ (d : List ℕ). slotOf plan d 0) (sym written-so), tt)
+    (stampAt desk-good 0) 2 refl refl (ap (λ (d : List ℕ). slotOf plan d 0) (sym written-so), tt)

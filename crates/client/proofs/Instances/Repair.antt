@@ -26,11 +26,12 @@ use Rattle.rounds.specs.declared.Heard.the-variants.{First, Record}
 use Rattle.rounds.specs.Rounds.{heardCount, every, slotStamp, aheadOf, stepOf, leadOf, joinsOf, setOf, closeWith, underOf, slotFits, slotsFit, unheard}
 use Rattle.session.specs.declared.Session.{Session}
 use Rattle.session.specs.declared.Took.{Took}
-use Rattle.session.specs.declared.Operation.the-variants.{Read}
+use Rattle.standing.specs.declared.Operation.the-variants.{Read}
 use Rattle.session.specs.declared.Answer.the-variants.{Open, Done}
 use Rattle.session.specs.Session.{askNow, awaitsKind, withMarks, storingOf, markedOf, endedOf}
 use Rattle.session.specs.Ranges.{standingRules, openRules, inRange}
-use Rattle.session.specs.Reply.{lengthsOk, awaited, isHeard, bears}
+use Rattle.standing.specs.Standing.{lengthsOk, askIn, awaitsIn, roundRules}
+use Rattle.session.specs.Reply.{awaited, isHeard, bears}
 use Rattle.session.specs.Reader.{actOn, actFor, closed, settled, heard, stored, accepted, readReply, ReadReplyCall}
 use Rattle.session.specs.Opening.{freshOf, openWith, OpenCall}
 use Rattle.session.specs.declared.opening.Opened.{Opened}
@@ -71,8 +72,8 @@ left = repaired plan (closed plan (markedOf session 2 First) desk) 0 desk
 
 -- the call opens a repair round
 pub opens-so : ReadReplyCall plan session frame desk item took left item
-unfolding plan slot desk session frame item took left readReply first planOk countsOk limitsOk columnOf all recordLength lengthsOk inRange standingRules openRules
-    heardCount every slotsFit slotFits slotStamp underOf num numFrom part alike goodReply goodFrame suits shaped forParty oneOf bodyFits awaited askNow awaitsKind
+unfolding plan slot desk session frame item took left readReply first planOk countsOk limitsOk columnOf all recordLength lengthsOk inRange standingRules roundRules openRules
+    heardCount every slotsFit slotFits slotStamp underOf num numFrom part alike goodReply goodFrame suits shaped forParty oneOf bodyFits awaited askIn awaitsIn
     isHeard bears accepted heard settled actFor actOn sound closeWith leadOf stepOf aheadOf setOf joinsOf decided classOf
 opens-so = record { is = refl }
 
@@ -126,8 +127,8 @@ last-turn =
 
 turns-so : Calls (ReadTurn plan) (took .session) left (first-turn ∷ second-turn ∷ last-turn ∷ [])
 unfolding first-turn second-turn last-turn turn-open stored-by plan slot desk session item took left readReply first planOk countsOk limitsOk columnOf all recordLength lengthsOk
-    inRange standingRules openRules heardCount every slotsFit slotFits slotStamp underOf num numFrom part alike goodReply goodFrame suits shaped forParty oneOf bodyFits
-    awaited askNow awaitsKind isHeard bears accepted stored collected laid from closeWith leadOf stepOf aheadOf setOf joinsOf repaired refilled slotFilled regenerated
+    inRange standingRules roundRules openRules heardCount every slotsFit slotFits slotStamp underOf num numFrom part alike goodReply goodFrame suits shaped forParty oneOf bodyFits
+    awaited askIn awaitsIn isHeard bears accepted stored collected laid from closeWith leadOf stepOf aheadOf setOf joinsOf repaired refilled slotFilled regenerated
     among tabulate value blend weightOf ratio xtime mulN mul square sumPow inv div put stampAt stampNumber then
 turns-so = (
   (small-octets (stored-by 0) (stored-small .0), record { is = refl }),
@@ -157,8 +158,8 @@ heard-one =
     }
 
 heard-so : ReadReplyCall plan (opened .session) frame desk item (heard-one .took) desk item
-unfolding plan slot desk opened heard-one frame item readReply first planOk countsOk limitsOk columnOf all recordLength lengthsOk inRange standingRules openRules
-    heardCount every slotsFit slotFits underOf num numFrom part goodReply goodFrame suits shaped forParty oneOf bodyFits awaited askNow awaitsKind isHeard bears
+unfolding plan slot desk opened heard-one frame item readReply first planOk countsOk limitsOk columnOf all recordLength lengthsOk inRange standingRules roundRules openRules
+    heardCount every slotsFit slotFits underOf num numFrom part goodReply goodFrame suits shaped forParty oneOf bodyFits awaited askIn awaitsIn isHeard bears
     accepted heard settled
 heard-so = record { is = refl }
 

@@ -33,12 +33,13 @@ use Rattle.rounds.specs.declared.Bound.the-variants.{Free}
 use Rattle.rounds.specs.declared.Mark.{Mark}
 use Rattle.rounds.specs.Rounds.{bitOf, unheard, underOf}
 use Rattle.session.specs.declared.Session.{Session}
-use Rattle.session.specs.declared.Operation.the-variants.{Read}
+use Rattle.standing.specs.declared.Operation.the-variants.{Read}
 use Rattle.session.specs.declared.opening.Opened.{Opened}
 use Rattle.session.specs.declared.opening.Opening.the-variants.{Accepted as Granted}
 use Rattle.session.specs.Session.{askNow, awaitsKind}
 use Rattle.session.specs.Opening.{freshOf, openWith, OpenCall}
-use Rattle.session.specs.Reply.{lengthsOk, awaited, isHeard, bears}
+use Rattle.standing.specs.Standing.{lengthsOk, askIn, awaitsIn}
+use Rattle.session.specs.Reply.{awaited, isHeard, bears}
 use Rattle.recover.specs.Records.{crossFor, recordsFor}
 use Rattle.session.proofs.Made.{in-range-facts}
 use Rattle.session.proofs.Openings.{accepted-in-range}
@@ -109,7 +110,7 @@ module _ (node : ℕ) (body : List ℕ) (low : node < 2) (fits : bodyFits plan 7
       (record { frame-is = built.built-good (headerOf readReplyKind node 5) body Client plan refl (omega arith) (omega arith) refl fits; node-low = rw node-is low })
 
   awaits : awaited session (reply node body) ≡ true
-  unfolding reply session ask awaited askNow awaitsKind
+  unfolding reply session ask awaited askIn awaitsIn
   awaits =
       rw (
         eq-eqb (askOf (reply node body)) 5 (built.ask-frame (headerOf readReplyKind node 5) body (omega arith)),

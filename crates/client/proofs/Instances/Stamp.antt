@@ -27,7 +27,8 @@ use Rattle.session.specs.declared.Session.{Session}
 use Rattle.session.specs.declared.Answer.the-variants.{Done}
 use Rattle.session.specs.Session.{askNow, awaitsKind, markedOf, endedOf}
 use Rattle.session.specs.Ranges.{standingRules, openRules, inRange}
-use Rattle.session.specs.Reply.{lengthsOk, awaited, isHeard, bears}
+use Rattle.standing.specs.Standing.{lengthsOk, askIn, awaitsIn, roundRules}
+use Rattle.session.specs.Reply.{awaited, isHeard, bears}
 use Rattle.session.specs.Reader.{actOn, actFor, closed, settled, heard, accepted, readReply, ReadReplyCall}
 use Rattle.recover.proofs.Records.{record-passes}
 use Rattle.client.specs.Endings.{afterReply, deskAfter}
@@ -57,8 +58,8 @@ call =
     }
 
 pub done-so : ReadReplyCall plan first-heard second-reply desk-good (0 ∷ []) (call .took) desk-two (7 ∷ [])
-unfolding second-reply hash stamp-bytes good desk-good desk-two plan readReply first planOk countsOk limitsOk columnOf all recordLength lengthsOk inRange standingRules openRules heardCount every
-    slotsFit slotFits slotStamp underOf num numFrom part goodReply goodFrame suits shaped forParty oneOf bodyFits awaited askNow awaitsKind isHeard bears be beOnto accepted heard settled
+unfolding second-reply hash stamp-bytes good desk-good desk-two plan readReply first planOk countsOk limitsOk columnOf all recordLength lengthsOk inRange standingRules roundRules openRules heardCount every
+    slotsFit slotFits slotStamp underOf num numFrom part goodReply goodFrame suits shaped forParty oneOf bodyFits awaited askIn awaitsIn isHeard bears be beOnto accepted heard settled
     hashesOk timeZero fragmentHash prefixOf alike put stampAt stampNumber then sha256 sha.after compressOf addedOf roundsOf roundOf T1 T2 scheduleOf words padding bigEndian K actFor actOn
     sound closeWith leadOf stepOf aheadOf setOf joinsOf decided classOf validates row crossMade regenerated among tabulate value blend weightOf ratio xtime mulN mul square sumPow inv
     div decoded laid
@@ -110,6 +111,6 @@ pub item-so : call .itemLeft ≡ 7 ∷ []
 unfolding plan
 item-so =
     stamp-comes-back plan 1 (7 ∷ []) plan-ok (small-octets (7 ∷ []) seven-small) refl (0 ∷ []) refl first-heard second-reply desk-good (call .took) desk-two (7 ∷ []) done-so
-    (stampNumber (stampAt desk-good 0)) 1 refl refl (ap length after-so ∙ long-so)
+    (stampAt desk-good 0) 1 refl refl (ap length after-so ∙ long-so)
     (subst (λ (d : List ℕ). All (Bears plan 1 (7 ∷ []) d) (lowest plan (closed plan (afterReply plan first-heard second-reply) d))) (sym after-so)
     (subst (All (Bears plan 1 (7 ∷ []) desk-two)) (sym lowest-so) (bears-so, tt)))

@@ -22,7 +22,7 @@ use Rattle.rounds.specs.declared.Bound.the-variants.{Free}
 use Rattle.rounds.specs.declared.Heard.the-variants.{Record}
 use Rattle.rounds.specs.Rounds.{heardCount, every}
 use Rattle.session.specs.declared.Session.{Session}
-use Rattle.session.specs.declared.Operation.the-variants.{Write}
+use Rattle.standing.specs.declared.Operation.the-variants.{Write}
 use Rattle.session.specs.declared.Answer.{Answer}
 use Rattle.session.specs.declared.Answer.the-variants.{Refused, Open, Done}
 use Rattle.session.specs.declared.opening.Opened.{Opened}
@@ -30,7 +30,8 @@ use Rattle.session.specs.declared.opening.Opening.the-variants.{Accepted}
 use Rattle.session.specs.Session.{askNow, awaitsKind, markedOf, storingOf, endedOf, refused, stillOpen}
 use Rattle.session.specs.Opening.{freshOf, openWith, OpenCall}
 use Rattle.session.specs.Ranges.{standingRules, openRules, inRange}
-use Rattle.session.specs.Reply.{lengthsOk, awaited, isHeard}
+use Rattle.standing.specs.Standing.{lengthsOk, askIn, awaitsIn, roundRules}
+use Rattle.session.specs.Reply.{awaited, isHeard}
 use Rattle.recover.specs.Records.{stampFor, recordsFor}
 use Rattle.session.specs.Writer.{timedOf, leaves, timeEnd, timeTurn, writeTurn, acceptedWrite, writeReply, WriteReplyCall}
 use Rattle.session.proofs.Kept.{Kept}
@@ -87,26 +88,26 @@ unfolding openWith first planOk countsOk limitsOk columnOf all plan
 opened-so = record { is = refl }
 
 pub met-1 : WriteReplyCall plan start (time-reply 0) desk (7 ∷ []) (call-1 .took) desk
-unfolding time-reply desk plan writeReply first planOk countsOk limitsOk columnOf all recordLength lengthsOk inRange standingRules openRules heardCount every num numFrom part
-    goodReply goodFrame suits shaped forParty oneOf bodyFits awaited askNow awaitsKind isHeard be beOnto acceptedWrite timeTurn
+unfolding time-reply desk plan writeReply first planOk countsOk limitsOk columnOf all recordLength lengthsOk inRange standingRules roundRules openRules heardCount every num numFrom part
+    goodReply goodFrame suits shaped forParty oneOf bodyFits awaited askIn awaitsIn isHeard be beOnto acceptedWrite timeTurn
 met-1 = record { is = refl }
 
 filled : leaves stillOpen (storingOf (timedOf once-timed 1 0) (stampFor plan 1 (7 ∷ []))) (recordsFor plan 1 (7 ∷ [])) ≡ writeReply plan once-timed (time-reply 1) desk (7 ∷ [])
-unfolding time-reply desk plan writeReply first planOk countsOk limitsOk columnOf all recordLength lengthsOk inRange standingRules openRules heardCount every num numFrom part
-    goodReply goodFrame suits shaped forParty oneOf bodyFits awaited askNow awaitsKind isHeard be beOnto acceptedWrite timeTurn timeEnd
+unfolding time-reply desk plan writeReply first planOk countsOk limitsOk columnOf all recordLength lengthsOk inRange standingRules roundRules openRules heardCount every num numFrom part
+    goodReply goodFrame suits shaped forParty oneOf bodyFits awaited askIn awaitsIn isHeard be beOnto acceptedWrite timeTurn timeEnd
 filled = refl
 
 pub met-2 : WriteReplyCall plan once-timed (time-reply 1) desk (7 ∷ []) (call-2 .took) desk-full
 met-2 = record { is = (λ j. leaves stillOpen (storingOf (timedOf once-timed 1 0) (sym stamped-so j)) (sym written-so j)) ∙ filled }
 
 pub met-3 : WriteReplyCall plan write-round (write-reply 0) desk-full (7 ∷ []) (call-3 .took) desk-full
-unfolding write-reply stamp-bytes hash good desk-full plan writeReply first planOk countsOk limitsOk columnOf all recordLength lengthsOk inRange standingRules openRules heardCount every
-    num numFrom part goodReply goodFrame suits shaped forParty oneOf bodyFits awaited askNow awaitsKind isHeard be beOnto acceptedWrite writeTurn stampAt stampNumber then
+unfolding write-reply stamp-bytes hash good desk-full plan writeReply first planOk countsOk limitsOk columnOf all recordLength lengthsOk inRange standingRules roundRules openRules heardCount every
+    num numFrom part goodReply goodFrame suits shaped forParty oneOf bodyFits awaited askIn awaitsIn isHeard be beOnto acceptedWrite writeTurn stampAt stampNumber then
 met-3 = record { is = refl }
 
 pub met-4 : WriteReplyCall plan once-stored (write-reply 2) desk-full (7 ∷ []) (call-4 .took) desk-full
-unfolding write-reply stamp-bytes hash good desk-full plan writeReply first planOk countsOk limitsOk columnOf all recordLength lengthsOk inRange standingRules openRules heardCount every
-    num numFrom part goodReply goodFrame suits shaped forParty oneOf bodyFits awaited askNow awaitsKind isHeard be beOnto acceptedWrite writeTurn stampAt stampNumber then
+unfolding write-reply stamp-bytes hash good desk-full plan writeReply first planOk countsOk limitsOk columnOf all recordLength lengthsOk inRange standingRules roundRules openRules heardCount every
+    num numFrom part goodReply goodFrame suits shaped forParty oneOf bodyFits awaited askIn awaitsIn isHeard be beOnto acceptedWrite writeTurn stampAt stampNumber then
 met-4 = record { is = refl }
 
 time-small : (small (time-reply 0) ≡ true) × (small (time-reply 1) ≡ true)
@@ -134,12 +135,12 @@ kept-so = every-session Write plan ask opened opened-so refl desk desk-long (cal
 
 -- ---- node 2 answers the time round late, when the write round has heard node 0: refused 10
 late-met : WriteReplyCall plan once-stored (time-reply 2) desk-full (7 ∷ []) (record { answer = Refused NotAwaited; session = once-stored }) desk-full
-unfolding time-reply stamp-bytes hash good desk-full plan writeReply first planOk countsOk limitsOk columnOf all recordLength lengthsOk inRange standingRules openRules heardCount every
-    num numFrom part goodReply goodFrame suits shaped forParty oneOf bodyFits awaited askNow awaitsKind be beOnto stampAt
+unfolding time-reply stamp-bytes hash good desk-full plan writeReply first planOk countsOk limitsOk columnOf all recordLength lengthsOk inRange standingRules roundRules openRules heardCount every
+    num numFrom part goodReply goodFrame suits shaped forParty oneOf bodyFits awaited askIn awaitsIn be beOnto stampAt
 late-met = record { is = refl }
 
 asked-first : askOf (time-reply 2) ≡ askNow start
-unfolding time-reply be beOnto num numFrom part askNow
+unfolding time-reply be beOnto num numFrom part askIn
 asked-first = refl
 
 pub late-so : NotCounted (refused 10)

@@ -19,7 +19,7 @@ use Rattle.terms.specs.Terms.{planOk}
 use Rattle.terms.proofs.Facts.{facts}
 use Rattle.rounds.specs.Rounds.{heardCount}
 use Rattle.session.specs.declared.Session.{Session}
-use Rattle.session.specs.Session.{replies}
+use Rattle.standing.specs.Standing.{replies}
 use Rattle.session.specs.Reader.{acted, closed}
 use Rattle.client.specs.Round.{roundAt, ending, saidInTurn, openUntil, RoundOpens, Accepted, Acceptable, Each, OneANode, allMarked, allSlotted, SameReplies}
 use Rattle.client.proofs.Round.Swaps.{Reordered, swaps, length-kept}

@@ -6,7 +6,8 @@ use Prim.Native.Nat.{ℕ, _≤_}
 use lib.ListN.{length}
 use Rattle.terms.specs.declared.Plan.{Plan}
 use Rattle.session.specs.declared.Session.{Session}
-use Rattle.session.specs.Session.{replies, Said, saidOf}
+use Rattle.standing.specs.Standing.{replies}
+use Rattle.session.specs.Session.{Said, saidOf}
 use Rattle.session.specs.Reader.{Outcome, outcome, readReply}
 use Rattle.client.specs.Turns.{Turn, ReadTurn, Calls}
 use Rattle.client.specs.Round.{roundAt, ending, saidInTurn, RoundOpens, Accepted, SameReplies, Lent, repliesOf, answersOf, leftBy}

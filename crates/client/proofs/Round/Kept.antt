@@ -22,8 +22,9 @@ use Rattle.rounds.specs.Rounds.{heardCount, bitOf, markOf, unheard, underOf, sl
 use Rattle.rounds.proofs.Laws.{count-set, not-heard}
 use Rattle.session.specs.declared.Session.{Session}
 use Rattle.session.specs.Session.{askNow, awaitsKind, markedOf, roundOpen}
-use Rattle.session.specs.Reply.{lengthsOk, awaited, isHeard, bears}
-use Rattle.session.proofs.Rules.{lengths-are}
+use Rattle.standing.specs.Standing.{lengthsOk, askIn, awaitsIn}
+use Rattle.session.specs.Reply.{awaited, isHeard, bears}
+use Rattle.standing.proofs.Rules.{lengths-are}
 use Rattle.session.proofs.Made.{rest-set}
 use Rattle.session.proofs.Slots.{slots-after}
 use Rattle.client.specs.Endings.{heardAs, afterReply, deskAfter}
@@ -60,11 +61,11 @@ module _ (p : Plan) (s : Session) (f : List ℕ) (l : length (s .marks) ≡ 16) 
 
 -- a mark changes nothing of what the round asks of another reply
 pub fits-later : (p : Plan) (s : Session) (k : ℕ) (h : Heard) (f : List ℕ) → Fits p s f → Fits p (markedOf s k h) f
-unfolding awaited askNow awaitsKind
+unfolding awaited askIn awaitsIn
 fits-later p s k h f q = record { good = q .good; await = q .await; timed = q .timed; hashed = q .hashed; under = q .under }
 
 pub fits-before : (p : Plan) (s : Session) (k : ℕ) (h : Heard) (f : List ℕ) → Fits p (markedOf s k h) f → Fits p s f
-unfolding awaited askNow awaitsKind
+unfolding awaited askIn awaitsIn
 fits-before p s k h f q = record { good = q .good; await = q .await; timed = q .timed; hashed = q .hashed; under = q .under }
 
 -- ---- what an accepted reply leaves

@@ -16,11 +16,12 @@ use Rattle.frame.specs.Frame.{frameNode, bodyOf, goodReply}
 use Rattle.record.specs.Record.{hashesOk, timeZero}
 use Rattle.rounds.specs.Rounds.{underOf}
 use Rattle.session.specs.declared.Session.{Session}
-use Rattle.session.specs.declared.Stage.{Stage}
-use Rattle.session.specs.declared.Stage.the-variants.{Asking, Storing, Ended}
-use Rattle.session.specs.Session.{isRead, isAsking, isStoring, isEnded, readRound, refused, isRefused, roundOpen}
+use Rattle.standing.specs.declared.Stage.{Stage}
+use Rattle.standing.specs.declared.Stage.the-variants.{Asking, Storing, Ended}
+use Rattle.standing.specs.Standing.{isRead, isAsking, isStoring, isEnded, lengthsOk}
+use Rattle.session.specs.Session.{readRound, refused, isRefused, roundOpen}
 use Rattle.session.specs.Ranges.{inRange}
-use Rattle.session.specs.Reply.{lengthsOk, awaited, isHeard, bears, recordLadder}
+use Rattle.session.specs.Reply.{awaited, isHeard, bears, recordLadder}
 use Rattle.session.specs.Reader.{Outcome, outcome, closed, settled, accepted, readReply}
 use Rattle.session.proofs.Made.{OpenIs, in-range-facts, open-in-range}
 use Rattle.client.specs.Endings.{readLadder, afterReply, deskAfter}

@@ -13,9 +13,11 @@ use Rattle.frame.specs.Frame.{frameNode}
 use Rattle.frame.proofs.Frames.{reply-is}
 use Rattle.rounds.specs.Rounds.{heardCount}
 use Rattle.session.specs.declared.Session.{Session}
-use Rattle.session.specs.Session.{readRound, replies, Said, stillOpen, isRefused}
+use Rattle.standing.specs.Standing.{replies}
+use Rattle.session.specs.Session.{readRound, Said, stillOpen, isRefused}
 use Rattle.session.specs.Reply.{isHeard}
-use Rattle.session.proofs.Rules.{lengths-are, few-open, many-over}
+use Rattle.standing.proofs.Rules.{lengths-are}
+use Rattle.session.proofs.Rules.{few-open, many-over}
 use Rattle.session.specs.Reader.{Outcome, acted, closed, settled, readReply}
 use Rattle.client.specs.Endings.{heardAs, afterReply, deskAfter}
 use Rattle.client.specs.Round.{roundAt, ending, saidInTurn, openUntil, Accepted, Each, OneANode, allMarked, allSlotted}

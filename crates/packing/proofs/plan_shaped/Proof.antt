@@ -1,6 +1,6 @@
 use mathlib.Core.Path.{ap, subst}
 use Prim.Native.Nat.{ℕ, _≤_, _<_}
-use Rattle.session.proofs.Rules as rules
+use Rattle.standing.proofs.Rules as rules
 use Rattle.packing.specs.PlanBytes.{planShaped}
 use borrow.Author.Tests.{le-leb, lt-leb, eq-eqb, ne-eqb}
 use lib.Dec.{leb}

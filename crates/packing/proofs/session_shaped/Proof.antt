@@ -1,4 +1,4 @@
-use Rattle.session.proofs.Rules as rules
+use Rattle.standing.proofs.Rules as rules
 use Rattle.octets.specs.Bytes.{part}
 use Rattle.packing.specs.SessionBytes.{sessionShaped}
 use borrow.Author.Tests.{le-leb, lt-leb, eq-eqb, ne-eqb, not-true, not-false}

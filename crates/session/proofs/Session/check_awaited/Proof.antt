@@ -1,3 +1,4 @@
+use Prim.{tt}
 use mathlib.Core.Path.{refl, sym, ap, _∙_}
 use mathlib.Core.Bool.{not}
 use mathlib.Core.List.{List}
@@ -26,11 +27,11 @@ check-awaited-spec =
     (λ c κs.
     let p = c .before .pre in
     (p .0, p .1, p .2, p .3))
-    (λ c. stop _ _ (at-awaited (c .before)) (ap not (sym (c .before .awaits .ensures)) ∙ c .if1 .taken) refl)
+    (λ c. (stop _ _ (at-awaited (c .before)) (ap not (sym (c .before .awaits .ensures)) ∙ c .if1 .taken) refl, tt))
     (λ c κs. c .before .before .before .pre .4)
     (λ c.
     let d = at-heard (c .before .before) in
-    stop _ _ d (sym (c .before .has-heard .ensures ∙ ap (λ (h : Header). isHeard (d .start .args .self) (h .node)) (d .start .pre .2)) ∙ c .if2 .taken) refl)
+    (stop _ _ d (sym (c .before .has-heard .ensures ∙ ap (λ (h : Header). isHeard (d .start .args .self) (h .node)) (d .start .pre .2)) ∙ c .if2 .taken) refl, tt))
     (λ c.
     let d = at-heard (c .before .before) in
-    end _ _ (next 0 d refl (sym (c .before .has-heard .ensures ∙ ap (λ (h : Header). isHeard (d .start .args .self) (h .node)) (d .start .pre .2)) ∙ c .if2 .left)) refl refl))
+    (end _ _ (next 0 d refl (sym (c .before .has-heard .ensures ∙ ap (λ (h : Header). isHeard (d .start .args .self) (h .node)) (d .start .pre .2)) ∙ c .if2 .left)) refl refl, d .start .pre .2)))

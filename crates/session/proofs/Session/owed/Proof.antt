@@ -1,3 +1,5 @@
+use mathlib.Core.Path.{ap}
+use Rattle.session.specs.Reply.{checkNumber}
 use Rattle.session.proofs.Checks.{check-passed}
 use Rattle.session.proofs.Oweds as laws
 use borrow.Author.Needs.{needs}
@@ -15,7 +17,7 @@ owed-spec =
     enum-told
     (λ c κs.
     let owed-check = c .before .before .before .owed-check in
-    check-passed _ _ (owed-check .ensures) (c .before .enum-told .given .1))
+    check-passed _ _ (owed-check .ensures) (ap checkNumber (c .before .enum-told .given .1)))
     (λ c.
     let owed-check = c .before .before .before .owed-check in
     let args = c .before .before .before .before .before .before .args in
@@ -27,6 +29,6 @@ owed-spec =
     let owed-check = c .before .before .before .before .before .before .owed-check in
     let args = c .before .before .before .before .before .before .before .before .before .args in
     record {
-      is = laws.owed-written (args .p) (args .self) _ _ _ _ _ (check-passed _ _ (owed-check .ensures) (enum-told .given .1))
+      is = laws.owed-written (args .p) (args .self) _ _ _ _ _ (check-passed _ _ (owed-check .ensures) (ap checkNumber (enum-told .given .1)))
           (write-request .ensures);
     }))

@@ -7,7 +7,7 @@ use Rattle.terms.specs.Ladder.{Rung}
 use Rattle.terms.proofs.Down.{Down, top, next, left, stop, end}
 use Rattle.terms.proofs.Plans.{plan-is}
 use Rattle.session.specs.Owed.{owedLadder}
-use Rattle.session.proofs.Rules as rules
+use Rattle.standing.proofs.Rules as rules
 use borrow.Author.Needs.{needs}
 use Rattle.session.proofs.Session.owed_check.Statement.{statement}
 use Rattle.session.proofs.Session.owed_check.Tie as tie
@@ -33,7 +33,7 @@ at-end c = next 14 (at-range (c .before .before)) refl (ap not (sym (c .before .
 
 -- 4
 abbrev at-node : tie.Else4 → Down ladder 4
-at-node c = next 4 (at-end (c .before .before)) refl (sym (c .before .ended .ensures) ∙ c .if4 .left)
+at-node c = next 4 (at-end (c .before .before .before)) refl (sym (c .before .ended .ensures) ∙ c .if4 .left)
 
 -- 11
 abbrev at-heard : tie.Else5 → Down ladder 11
@@ -52,7 +52,7 @@ owed-check-spec =
     (not-false _ (left 1 d), rules.room-is _ _ _ (not-false _ (left 2 d)) .desk-is))
     (λ c. stop _ _ (at-range (c .before .before)) (ap not (sym (c .before .ranges-ok .ensures)) ∙ c .if3 .taken) refl)
     (λ c κs. search needs)
-    (λ c. stop _ _ (at-end (c .before .before)) (sym (c .before .ended .ensures) ∙ c .if4 .taken) refl)
+    (λ c. stop _ _ (at-end (c .before .before .before)) (sym (c .before .ended .ensures) ∙ c .if4 .taken) refl)
     (λ c. stop _ _ (at-node (c .before .before)) (ap not (le-ltb _ _ (c .if5 .taken))) refl)
     (λ c κs.
     let d = at-heard c in

@@ -1,7 +1,7 @@
 use mathlib.Core.Path.{sym, _∙_}
 use borrow.Author.Tests.{not-true, not-false}
 use Rattle.session.specs.Ranges.{inRange}
-use Rattle.session.proofs.Rules as rules
+use Rattle.standing.proofs.Rules as rules
 use borrow.Author.Needs.{needs}
 use Rattle.session.proofs.Session.ranges_ok.Statement.{statement}
 use Rattle.session.proofs.Session.ranges_ok.Tie as tie
@@ -12,11 +12,17 @@ returns c = rules.and-fails _ (sym (c .before .stands .ensures) ∙ not-true (c 
 
 returns-2 : tie.Need-returns-2
 unfolding inRange
-returns-2 c = rules.and-last (sym (c .before .before .before .stands .ensures) ∙ not-false (c .before .before .before .stands .result) (c .before .before .if1 .left)) (rules.or-holds _ (sym (c .before .ended .ensures) ∙ c .if2 .taken))
+returns-2 c =
+    let first = c .before .before .before in
+    rules.and-last (sym (first .before .stands .ensures) ∙ not-false (first .before .stands .result) (first .if1 .left)) (rules.or-holds _ (sym (c .before .ended .ensures) ∙ c .if2 .taken))
 
 returns-3 : tie.Need-returns-3
 unfolding inRange
-returns-3 c = rules.and-last (sym (c .before .before .before .before .stands .ensures) ∙ not-false (c .before .before .before .before .stands .result) (c .before .before .before .if1 .left)) (rules.or-last (sym (c .before .before .ended .ensures) ∙ c .before .if2 .left) (c .open-ok .ensures))
+returns-3 c =
+    let second = c .before in
+    let first = second .before .before .before in
+    rules.and-last (sym (first .before .stands .ensures) ∙ not-false (first .before .stands .result) (first .if1 .left))
+    (rules.or-last (sym (second .before .ended .ensures) ∙ second .if2 .left) (c .open-ok .ensures))
 
 pub ranges-ok-spec : {M : Type 1} → statement M
 ranges-ok-spec =

@@ -7,7 +7,6 @@ pub bears-record-spec : {M : Type 1} → statement M
 bears-record-spec =
     tie.close
     (tie.spec
-    (λ c κs. search needs)
-    (λ c. laws.bears-not _ _ _ (c .before .header-of .ensures .0) (c .if1 .taken))
+    (λ c. laws.bears-not _ _ _ (c .before .before .pre .1) (c .if1 .taken))
     (λ c κs. search needs) (λ c κs. search needs) (λ c. search needs)
-    (λ c. laws.bears-last _ _ _ _ _ (c .before .before .before .header-of .ensures .0) (c .before .before .if1 .left) (c .before .head-bytes .ensures) (c .record-length .ensures .0)))
+    (λ c. laws.bears-last _ _ _ _ _ (c .before .before .before .before .pre .1) (c .before .before .if1 .left) (c .before .head-bytes .ensures) (c .record-length .ensures .0)))

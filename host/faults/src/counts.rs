@@ -53,10 +53,16 @@ impl Counts {
             self;
         let Counts { poisoned, believed, partitions, lost, good, stale, unjudged, faults, .. } = self;
         let Faults { kills, midway, restarts, damages, setbacks, liars, lies, beside, handed, cleared } = faults;
+        let opens = format!("opens {opened} done ({repaired} repairs begun, {strays} of the Byzantine client's)");
+        let keepers = format!("{kills} kills ({midway} while serving), {restarts} restarts");
+        let liars = format!("{liars} liars ({lies} lies, {believed} of them taken), {poisoned} poisoned saves");
         [
             format!("saves {saved} done, {given_up} given up, {clock} clock spent"),
-            format!("opens {opened} done ({repaired} repairs begun, {strays} of the Byzantine client's), {never} never written, {aborted} aborted, {spent} spent, {opens_given_up} given up"),
-            format!("{kills} kills ({midway} while serving), {restarts} restarts, {damages} damages, {setbacks} set-backs, {liars} liars ({lies} lies, {believed} of them taken), {poisoned} poisoned saves, {partitions} partitions, {lost} messages lost, {beside} requests served beside another, {handed} locks handed over, {cleared} new files removed"),
+            format!("{opens}, {never} never written, {aborted} aborted, {spent} spent, {opens_given_up} given up"),
+            format!(
+                "{keepers}, {beside} requests beside another, {handed} locks handed over, {cleared} new files removed"
+            ),
+            format!("{damages} damages, {setbacks} set-backs, {liars}, {partitions} partitions, {lost} messages lost"),
             format!("{good} histories are a register's, {stale} made stale are not, the checker gave up on {unjudged}"),
         ]
         .join("; ")

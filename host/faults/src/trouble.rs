@@ -6,7 +6,7 @@ use std::{fmt, io};
 pub enum Trouble {
     /// A sentence that is held against a run (docs/FAULTS.md) is broken.
     Broken(String),
-    /// The harness cannot go on.
+    /// The harness cannot go on, or has not done what it is for.
     Failed(String),
 }
 
@@ -35,9 +35,7 @@ impl From<io::Error> for Trouble {
 
 impl fmt::Display for Trouble {
     fn fmt(&self, to: &mut fmt::Formatter) -> fmt::Result {
-        match self {
-            Trouble::Broken(why) => write!(to, "{why}"),
-            Trouble::Failed(why) => write!(to, "the harness cannot go on: {why}"),
-        }
+        let (Trouble::Broken(why) | Trouble::Failed(why)) = self;
+        write!(to, "{why}")
     }
 }

@@ -1,162 +1,178 @@
-//! A run over one block: several clients at once, their messages in flight, and a seed that says what happens next. Messages are
-//! delivered in any order, some twice, some not at all.
+//! A run over one block: several clients at once, their messages under way, and a seed that says what happens next.
 
-use crate::library::{Plan, Session, Stamp, ABORTED, CLOCK_SPENT, DONE, NEVER_WRITTEN, ROUNDS_SPENT};
-use crate::nodes::{Faults, Nodes};
-use crate::register::{linearizable, stale_copies, Call, Outcome};
+use crate::client::{Operation, Told};
+use crate::counts::Counts;
+use crate::judge::Judge;
+use crate::network::{Message, Network, LEFT};
+use crate::nodes::Nodes;
+use crate::plan::{frame, frame_kind, time_of, Plan};
+use crate::poison::{poisoned, sound, POISONS};
+use crate::register::Outcome;
+use crate::server::{Command, WAYS};
+use crate::tactics::{after_held_replies, cut, first, lateness, First, Probe, AFTER_A_CUT, AFTER_A_SAVE};
+use crate::trouble::Trouble;
+use crate::wrong::Wrong;
 use second::random::Random;
-use std::path::Path;
 
+/// The clients that keep to the protocol; one more may not.
 const CLIENTS: usize = 3;
 /// How often a client asks again when nothing is under way, before it gives up.
 const PATIENCE: usize = 8;
 
-/// What came of the operations, for the summary.
-#[derive(Default)]
-pub struct Counts {
-    pub saved: usize,
-    pub given_up: usize,
-    pub opened: usize,
-    pub never: usize,
-    pub aborted: usize,
-    pub spent: usize,
-    pub opens_given_up: usize,
-    pub clock: usize,
-    pub repaired: usize,
-    pub stale: usize,
-    pub faults: Faults,
-    pub digest: u64,
+/// What a run is over.
+pub struct Setting<'a> {
+    pub plan: Plan,
+    /// None: the nodes are in memory.
+    pub command: Option<&'a Command>,
+    pub operations: usize,
+    pub still: bool,
+    pub wrong: Option<Wrong>,
+    pub counts: &'a mut Counts,
 }
 
-struct Operation {
-    session: Session,
-    call: usize,
-    place: [u8; 3],
-    asked: usize,
-    /// The greatest timestamp that was completed before this began.
-    floor: Stamp,
-}
-
-struct Message {
-    client: usize,
-    node: usize,
-    frame: Vec<u8>,
-    reply: bool,
-}
-
-pub struct Block<'a> {
+struct Block<'a> {
     plan: Plan,
     nodes: Nodes,
+    network: Network,
     random: Random,
-    counts: &'a mut Counts,
+    judge: Judge<'a>,
     clients: Vec<Option<Operation>>,
-    asks: [u64; CLIENTS],
-    flight: Vec<Message>,
-    history: Vec<Call>,
-    /// The item of each call; empty for an open.
-    items: Vec<Vec<u8>>,
-    /// The greatest timestamp of a completed save or open.
-    top: Stamp,
-    now: usize,
+    asks: [u64; CLIENTS + 1],
+    operations: usize,
+    wrong: Option<Wrong>,
+    /// The calls that are to come next, each alone, the last one first.
+    probes: Vec<Probe>,
+    /// From this one on, nodes are slow.
+    slow: usize,
+    /// Times near 2^64-1 are told and written at the end of this run.
+    late: bool,
     /// The end of the run: no more faults, losses or cut-off clients.
     calm: bool,
 }
 
-/// A run of `operations` calls over a fresh block in `folder`, then a last open, a save and an open in calm.
-pub fn run(
-    plan: Plan,
-    command: &[String],
-    folder: &Path,
-    random: Random,
-    operations: usize,
-    still: bool,
-    counts: &mut Counts,
-) -> Result<(), String> {
-    let nodes = Nodes::start(plan, command, folder, still).map_err(|e| format!("a keeper cannot be started: {e}"))?;
+/// A run of so many calls over a fresh block, then a last open, a save and an open in calm.
+pub fn run(setting: Setting, mut random: Random) -> Result<(), Trouble> {
+    let Setting { plan, command, operations, still, wrong, counts } = setting;
+    let way = random.pick(&WAYS);
+    let nodes = Nodes::start(plan, command, way, still, wrong)?;
     let mut block = Block {
         plan,
         nodes,
-        random,
-        counts,
+        network: Network::new(&mut random),
+        judge: Judge::new(plan, counts),
         clients: (0..CLIENTS).map(|_| None).collect(),
         asks: std::array::from_fn(|client| (client as u64 + 1) << 48),
-        flight: Vec::new(),
-        history: Vec::new(),
-        items: Vec::new(),
-        top: [0; 40],
-        now: 0,
+        operations,
+        wrong,
+        probes: Vec::new(),
+        slow: 0,
+        late: random.chance(25),
         calm: false,
+        random,
     };
-    while block.history.len() < operations {
-        block.step(true)?;
-    }
-    while block.clients.iter().any(Option::is_some) {
-        block.step(false)?;
-    }
-    block.end()
+    block.turn_some();
+    let told = block.all();
+    block.judge.counts.take(&block.nodes.faults, &block.network);
+    told
 }
 
 impl Block<'_> {
-    /// One thing happens.
-    fn step(&mut self, more: bool) -> Result<(), String> {
-        self.now += 1;
-        if !self.nodes.limits_kept() {
-            return Err("the schedule has more faults than the plan allows".into());
+    fn all(&mut self) -> Result<(), Trouble> {
+        while self.judge.calls() < self.operations || self.clients.iter().any(Option::is_some) {
+            self.step()?;
         }
-        let chance = self.random.within(0, 999);
-        let client = self.random.within(0, CLIENTS - 1);
-        match chance {
-            0..=11 if !self.calm => {
-                self.nodes.fault(&mut self.random, &mut self.counts.faults).map_err(|e| e.to_string())
+        self.end()
+    }
+
+    /// In most runs that allow it, nodes lie from the beginning.
+    fn turn_some(&mut self) {
+        if self.random.chance(75) {
+            for _ in 0..self.plan.b {
+                let node = self.random.below(self.plan.n);
+                self.nodes.turn(node);
             }
-            12..=31 if !self.calm => self.wake(),
-            32..=35 if !self.calm && self.clients[client].is_some() => {
-                self.give_up(client);
-                Ok(())
-            }
-            36..=135 if more && self.clients[client].is_none() => {
-                let save = self.random.within(0, 1) == 0;
-                self.begin(client, save);
-                Ok(())
-            }
-            _ if self.flight.is_empty() => {
-                self.ask_again(client);
-                Ok(())
-            }
-            _ => self.deliver(),
         }
     }
 
+    /// One thing happens.
+    fn step(&mut self) -> Result<(), Trouble> {
+        self.judge.now += 1;
+        if !self.nodes.limits_kept() {
+            return Err(Trouble::Failed("the schedule has more faults than the plan allows".into()));
+        }
+        let more = self.judge.calls() < self.operations;
+        self.nodes.late = self.late && 4 * self.judge.calls() > 3 * self.operations;
+        let client = self.random.below(CLIENTS);
+        match self.random.within(0, 999) {
+            0..=11 => self.nodes.fault(&mut self.random)?,
+            12..=31 => self.wake()?,
+            32 | 33 if self.clients[client].is_some() => self.give_up(client, 50),
+            34..=36 if !self.network.parted() => {
+                self.network.part(CLIENTS + 1, self.plan.n, &mut self.random);
+                self.judge.counts.partitions += 1;
+            }
+            37..=46 => self.network.heal(),
+            47..=51 if more && self.plan.byzantine => self.lie(),
+            52..=151 if more && self.clients[client].is_none() => self.begin_some(client),
+            _ => return self.deliver(client),
+        }
+        Ok(())
+    }
+
     /// A silent node is started again.
-    fn wake(&mut self) -> Result<(), String> {
+    fn wake(&mut self) -> Result<(), Trouble> {
         let silent = self.nodes.silent();
         if silent.is_empty() {
             return Ok(());
         }
-        let node = silent[self.random.within(0, silent.len() - 1)];
-        self.counts.faults.restarts += 1;
-        self.nodes.restart(node).map_err(|e| e.to_string())
+        let node = self.random.pick(&silent);
+        Ok(self.nodes.restart(node)?)
     }
 
-    fn begin(&mut self, client: usize, save: bool) {
-        let call = self.history.len();
-        let item = if save { self.random.bytes(self.plan.item()) } else { Vec::new() };
-        let session = Session::begin(self.plan, self.asks[client], save.then(|| item.clone()));
-        self.asks[client] += self.plan.w as u64 + 1;
-        let outcome = if save { Outcome::GivenUp(call) } else { Outcome::Nothing };
-        self.history.push(Call { called: self.now, returned: usize::MAX, outcome });
-        self.items.push(item);
-        let place = session.place();
-        self.clients[client] = Some(Operation { session, call, place, asked: 0, floor: self.top });
+    /// The next probe, if nothing is beside it; or a save or an open.
+    fn begin_some(&mut self, client: usize) {
+        if self.probes.is_empty() {
+            let save = self.random.chance(65);
+            self.begin(client, save, None);
+        } else if self.clients.iter().all(Option::is_none) {
+            let Probe { save, first, client: by } = self.probes.pop().expect("there is one");
+            self.begin(by.unwrap_or(client), save, Some(first));
+        }
+    }
+
+    fn begin(&mut self, client: usize, save: bool, probe: Option<First>) {
+        if self.random.chance(15) {
+            self.slow = self.random.below(self.plan.n);
+        }
+        let item = save.then(|| self.random.bytes(self.plan.item()));
+        let (call, floor) = self.judge.call(item.clone());
+        let mut operation = Operation::begin(self.plan, self.asks[client], item, self.wrong, call, floor);
+        operation.probe = probe;
+        let cut_off = if save { 45 } else { 10 };
+        if !self.calm && probe.is_none() {
+            operation.cut = self.random.chance(cut_off).then(|| cut(&self.plan, &mut self.random));
+            operation.held = self.random.chance(12).then_some(self.plan.replies());
+        }
+        if self.wrong != Some(Wrong::SameAsk) {
+            self.asks[client] += self.plan.w as u64 + 1;
+        }
+        self.clients[client] = Some(operation);
+        if self.random.chance(50) {
+            self.network.recall(client);
+        }
         self.ask(client);
     }
 
     /// Sends the requests owed to all nodes that are not heard.
     fn ask(&mut self, client: usize) {
         let Some(operation) = &self.clients[client] else { return };
-        for node in 0..self.plan.n {
-            if let Some(frame) = operation.session.owed(node) {
-                self.flight.push(Message { client, node, frame, reply: false });
+        let whom = first(operation.save(), operation.storing(), operation.probe, &mut self.random);
+        let late = lateness(&self.plan, &self.nodes, whom, self.slow, &mut self.random);
+        for (node, late) in late.into_iter().enumerate() {
+            if let Some(frame) = operation.owed(node) {
+                self.nodes.overhear(node, &frame);
+                let call = operation.call;
+                self.network.send(Message { client, node, call, frame, reply: false, lying: false, late });
             }
         }
     }
@@ -165,166 +181,196 @@ impl Block<'_> {
         let Some(operation) = &mut self.clients[client] else { return };
         operation.asked += 1;
         if operation.asked > PATIENCE {
-            self.give_up(client);
+            self.give_up(client, 50);
         } else {
             self.ask(client);
         }
     }
 
-    /// The client is cut off, or has waited enough; what it sent stays under way.
-    fn give_up(&mut self, client: usize) {
+    /// The client is cut off, or has waited enough; so much of a hundred of what it sent is lost.
+    fn give_up(&mut self, client: usize, percent: usize) {
         let operation = self.clients[client].take().expect("it has an operation");
-        self.history[operation.call].returned = self.now;
-        if operation.session.save {
-            self.counts.given_up += 1;
-        } else {
-            self.counts.opens_given_up += 1;
+        self.network.forget(client, percent, &mut self.random);
+        if operation.storing() {
+            self.probes = AFTER_A_CUT.to_vec();
+        }
+        self.judge.given_up(&operation);
+    }
+
+    /// The Byzantine client writes under one timestamp, to some of the nodes: fragments of no item, or a cross checksum that is not theirs,
+    /// or what a client might save, or two items at one time, or an item that another has saved.
+    fn lie(&mut self) {
+        let newest = time_of(&self.nodes.newest());
+        let mut time = newest.max(1).saturating_add(self.random.pick(&[0, 1, 1, 1, 5]));
+        if self.nodes.late && self.random.chance(30) {
+            time = u64::MAX - self.random.pick(&[0, 1, 1, 2]);
+        }
+        let way = self.random.within(0, 9);
+        if way < 6 {
+            let poison = self.random.pick(&POISONS);
+            let records = poisoned(&self.plan, poison, time, &mut self.random);
+            self.judge.counts.poisoned += 1;
+            return self.spread(records, 0);
+        }
+        for _ in 0..1 + (way == 8) as usize {
+            let old = self.judge.some_item(&mut self.random).filter(|_| way == 9);
+            let item = old.unwrap_or_else(|| self.random.bytes(self.plan.item()));
+            let call = self.judge.stray(item.clone());
+            self.spread(sound(&self.plan, time, &item), call);
         }
     }
 
-    /// One message under way arrives, or is lost, or arrives and will arrive again.
-    fn deliver(&mut self) -> Result<(), String> {
-        let at = self.random.within(0, self.flight.len() - 1);
-        let Message { client, node, frame, reply } = self.flight.swap_remove(at);
-        let chance = self.random.within(0, 99);
-        if !self.calm && chance < 4 {
-            return Ok(());
-        }
-        if !self.calm && chance < 7 {
-            self.flight.push(Message { client, node, frame: frame.clone(), reply });
-        }
-        if reply {
-            return self.take(client, &frame);
-        }
-        let answer = if !self.calm && chance > 97 {
-            self.nodes.serve_and_kill(node, &frame, &mut self.random, &mut self.counts.faults)
-        } else {
-            self.nodes.serve(node, &frame)
-        };
-        if let Some(frame) = answer? {
-            // The channel is authentic: a reply comes from the node that it names.
-            if frame.get(6) != Some(&(node as u8)) {
-                return Err(format!("node {node} sent a frame of another node"));
+    /// Sends each record to its node; as a rule so many arrive that a reader has to judge them.
+    fn spread(&mut self, records: Vec<Vec<u8>>, call: usize) {
+        let mut far = self.plan.n - cut(&self.plan, &mut self.random).min(self.plan.n);
+        let mut order: Vec<usize> = (0..self.plan.n).collect();
+        let ask = self.asks[CLIENTS];
+        self.asks[CLIENTS] += 1;
+        while !order.is_empty() {
+            let node = order.swap_remove(self.random.below(order.len()));
+            let frame = frame(3, node, ask, &records[node]);
+            self.nodes.overhear(node, &frame);
+            if far > 0 {
+                far -= 1;
+                continue;
             }
-            self.flight.push(Message { client, node, frame, reply: true });
+            self.network.send(Message { client: CLIENTS, node, call, frame, reply: false, lying: true, late: 0 });
+        }
+        self.probes = AFTER_A_CUT.to_vec();
+    }
+
+    /// One message under way arrives. Where none can, the partition ends or a client asks again.
+    fn deliver(&mut self, client: usize) -> Result<(), Trouble> {
+        let Some(message) = self.network.next(&mut self.random) else {
+            if self.network.parted() && self.random.chance(30) {
+                self.network.heal();
+            }
+            self.ask_again(client);
+            return Ok(());
+        };
+        if message.reply {
+            return self.take(message);
+        }
+        let kill = !self.calm && self.random.chance(2);
+        if !kill && frame_kind(&message.frame) == 3 && self.nodes.side_by_side() {
+            return self.deliver_two(message);
+        }
+        let serve = if kill { Nodes::serve_and_kill } else { Nodes::serve };
+        let answer = serve(&mut self.nodes, &message, &mut self.random)?;
+        self.answered(message, answer)
+    }
+
+    /// A write request, and at the same moment that of another client, or the same by way of another connection, whose reply is not heard.
+    fn deliver_two(&mut self, message: Message) -> Result<(), Trouble> {
+        if let Some(other) = self.network.beside(&message) {
+            let [one, two] = self.nodes.serve_two([&message, &other], &mut self.random)?;
+            self.answered(message, one)?;
+            return self.answered(other, two);
+        }
+        let one = if self.random.chance(30) {
+            let [one, _] = self.nodes.serve_two([&message, &message.beside()], &mut self.random)?;
+            one
+        } else {
+            self.nodes.serve(&message, &mut self.random)?
+        };
+        self.answered(message, one)
+    }
+
+    /// A node has served a request, and its reply is under way.
+    fn answered(&mut self, message: Message, answer: Option<Vec<u8>>) -> Result<(), Trouble> {
+        let Message { client, node, call, late, .. } = message;
+        let Some(frame) = answer else { return Ok(()) };
+        // The channel is authentic: a reply comes from the node that it names.
+        if frame.get(6) != Some(&(node as u8)) {
+            return Err(Trouble::Broken(format!("node {node} sent a frame of another node")));
+        }
+        if client < CLIENTS {
+            let stored = frame_kind(&frame) == 4 && !self.nodes.lies(node);
+            let operation = self.clients[client].as_ref().filter(|operation| operation.call == call);
+            let late = if operation.is_some_and(|operation| operation.held.is_some()) { LEFT } else { late };
+            self.network.send(Message { client, node, call, frame, reply: true, lying: false, late });
+            self.replied(client, call, stored);
         }
         Ok(())
     }
 
-    /// A client takes a reply. Late, repeated and damaged ones are refused and change nothing.
-    fn take(&mut self, client: usize, frame: &[u8]) -> Result<(), String> {
+    /// A reply to a call is under way, and perhaps its record is stored by a good node. Enough for one that is to be cut off?
+    fn replied(&mut self, client: usize, call: usize, stored: bool) {
+        let Some(operation) = self.clients[client].as_mut().filter(|operation| operation.call == call) else { return };
+        let enough = |left: &mut Option<usize>| {
+            left.as_mut().is_some_and(|left| {
+                *left = left.saturating_sub(1);
+                *left == 0
+            })
+        };
+        if enough(&mut operation.held) {
+            let probes = after_held_replies(client, (client + 1) % CLIENTS, operation.save());
+            self.give_up(client, 0);
+            self.probes = probes.to_vec();
+        } else if stored && enough(&mut operation.cut) {
+            let percent = self.random.pick(&[100, 100, 100, 50]);
+            self.give_up(client, percent);
+        }
+    }
+
+    /// A client takes a reply.
+    fn take(&mut self, message: Message) -> Result<(), Trouble> {
+        let client = message.client;
         let Some(operation) = &mut self.clients[client] else { return Ok(()) };
-        let said = operation.session.reply(frame);
-        let place = operation.session.place();
-        match said {
-            0 if place != operation.place => {
-                self.counts.repaired += (!operation.session.save && place[0] == 1) as usize;
-                operation.place = place;
+        let told = operation.take(&message.frame);
+        self.judge.counts.believed += (self.nodes.lies(message.node) && !matches!(told, Told::Refused)) as usize;
+        match told {
+            Told::Refused | Told::Nothing => {}
+            Told::Round => {
+                self.judge.counts.repaired += (!operation.save() && operation.storing()) as usize;
                 operation.asked = 0;
                 self.ask(client);
-                Ok(())
             }
-            0..=31 => Ok(()),
-            _ => {
+            Told::Ended(ending) => {
                 let operation = self.clients[client].take().expect("it is there");
-                self.returned(operation, said)
+                self.network.forget(client, if self.calm { 0 } else { 80 }, &mut self.random);
+                self.judge.returned(&operation, &ending)?;
+                // A time round that hears one node too few misses a save where b is 0, and there alone.
+                let often = if self.plan.b == 0 { 80 } else { 40 };
+                if operation.save() && self.probes.is_empty() && self.random.chance(often) {
+                    self.probes = AFTER_A_SAVE.to_vec();
+                }
             }
         }
-    }
-
-    /// An operation has ended: the three sentences are held against it, and the history takes it.
-    fn returned(&mut self, operation: Operation, said: u32) -> Result<(), String> {
-        let Operation { session, call, floor, .. } = operation;
-        let stamp = session.stamp();
-        let outcome = match (session.save, said) {
-            (true, DONE) if stamp > floor => Outcome::Saved(call),
-            (true, DONE) => return Err(format!("save {call} is not above one completed before it began")),
-            (false, DONE) => {
-                let from = self.items.iter().position(|item| *item == session.item);
-                let from = from.ok_or(format!("open {call} returned bytes that nobody saved"))?;
-                if stamp < floor {
-                    return Err(format!("open {call} returned an older sheet than one completed before it began"));
-                }
-                Outcome::Opened(Some(from))
-            }
-            (false, NEVER_WRITTEN) if floor == [0; 40] => Outcome::Opened(None),
-            (false, NEVER_WRITTEN) => return Err(format!("open {call} found nothing, and a save had been completed")),
-            (false, ABORTED) if !self.plan.repairable => Outcome::Nothing,
-            (false, ROUNDS_SPENT) | (true, CLOCK_SPENT) => Outcome::Nothing,
-            _ => return Err(format!("call {call} ended with {said}")),
-        };
-        self.top = self.top.max(stamp);
-        self.history[call] = Call { called: self.history[call].called, returned: self.now, outcome };
-        self.count(said, outcome);
         Ok(())
     }
 
-    fn count(&mut self, said: u32, outcome: Outcome) {
-        let counts = &mut *self.counts;
-        *match (said, outcome) {
-            (_, Outcome::Saved(_)) => &mut counts.saved,
-            (_, Outcome::Opened(Some(_))) => &mut counts.opened,
-            (NEVER_WRITTEN, _) => &mut counts.never,
-            (ABORTED, _) => &mut counts.aborted,
-            (ROUNDS_SPENT, _) => &mut counts.spent,
-            _ => &mut counts.clock,
-        } += 1;
-    }
-
-    /// All nodes speak again and all that is under way arrives; an open; a save and an open that returns it. Then the books and
-    /// the history are looked at.
-    fn end(mut self) -> Result<(), String> {
+    /// All nodes speak again and tell the truth, and all that is under way arrives; an open; a save and an open that returns it. Then the
+    /// books and the history are looked at.
+    fn end(&mut self) -> Result<(), Trouble> {
         self.calm = true;
+        self.network.calm = true;
+        self.network.heal();
+        self.nodes.end_lies();
         for node in self.nodes.silent() {
-            self.nodes.restart(node).map_err(|e| e.to_string())?;
+            self.nodes.restart(node)?;
         }
-        while !self.flight.is_empty() {
-            self.deliver()?;
+        while !self.network.is_empty() {
+            self.deliver(0)?;
         }
         self.alone(false)?;
         let saved = self.alone(true)?;
         let opened = self.alone(false)?;
-        match (saved, opened) {
-            (Outcome::Saved(call), Outcome::Opened(Some(from))) if call == from => {}
-            // One node's forged record may lie above the save; with one round, an open cannot step below it.
-            (Outcome::Saved(_), Outcome::Nothing) if self.plan.w == 1 => {}
-            _ => return Err(format!("in calm, a save gave {saved:?} and the open after it {opened:?}")),
-        }
-        if let Some(lost) = self.nodes.lost().map_err(|e| e.to_string())? {
-            return Err(lost);
-        }
-        self.judge()
+        let above = self.nodes.above(&self.judge.stamp_before_last())?;
+        self.judge.calm(saved, opened, above)?;
+        self.nodes.none_lost()?;
+        Ok(self.judge.history()?)
     }
 
     /// One operation with nothing beside it.
-    fn alone(&mut self, save: bool) -> Result<Outcome, String> {
-        let call = self.history.len();
-        self.now += 1;
-        self.begin(0, save);
-        while self.clients[0].is_some() || !self.flight.is_empty() {
-            self.now += 1;
-            if self.flight.is_empty() {
-                self.ask_again(0);
-            } else {
-                self.deliver()?;
-            }
+    fn alone(&mut self, save: bool) -> Result<Outcome, Trouble> {
+        let call = self.judge.calls();
+        self.judge.now += 1;
+        self.begin(0, save, None);
+        while self.clients[0].is_some() || !self.network.is_empty() {
+            self.judge.now += 1;
+            self.deliver(0)?;
         }
-        Ok(self.history[call].outcome)
-    }
-
-    fn judge(self) -> Result<(), String> {
-        if !linearizable(&self.history) {
-            let calls: Vec<String> = self.history.iter().map(|call| format!("{call:?}")).collect();
-            return Err(format!("the history is not a register's:\n{}", calls.join("\n")));
-        }
-        let stale = stale_copies(&self.history);
-        if stale.iter().any(|copy| linearizable(copy)) {
-            return Err("the checker accepts this history with an open made stale".into());
-        }
-        self.counts.stale += stale.len();
-        let text = format!("{:?}", self.history);
-        let fold = |hash: u64, byte: u8| (hash ^ byte as u64).wrapping_mul(0x100_0000_01b3);
-        self.counts.digest = text.bytes().fold(self.counts.digest ^ 0xcbf2_9ce4_8422_2325, fold);
-        Ok(())
+        Ok(self.judge.outcome(call))
     }
 }

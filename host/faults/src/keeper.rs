@@ -1,10 +1,10 @@
 //! One keeper as a process: frames into its standard input, replies and lines out of it, SIGKILL.
 
 use crate::library::frame_length;
+use crate::trouble::Trouble;
 use std::io::{self, BufRead, BufReader, Read, Write};
-use std::path::Path;
 use std::process::{Child, ChildStdin, Command, Stdio};
-use std::sync::mpsc::{channel, Receiver, Sender};
+use std::sync::mpsc::{channel, Receiver, RecvTimeoutError, Sender};
 use std::thread;
 use std::time::Duration;
 
@@ -21,8 +21,8 @@ enum Heard {
 pub enum Answer {
     Reply(Vec<u8>),
     Refused,
-    /// The keeper has ended: its book or its plan is not one.
-    Gone,
+    /// The keeper has ended: its book or its plan is not one. Its last line.
+    Gone(String),
 }
 
 pub struct Keeper {
@@ -32,16 +32,8 @@ pub struct Keeper {
 }
 
 impl Keeper {
-    /// `command` and then PLAN, BOOK and the word that no other keeper has this book.
-    pub fn start(command: &[String], plan: &Path, book: &Path) -> io::Result<Keeper> {
-        let mut child = Command::new(&command[0])
-            .args(&command[1..])
-            .args([plan, book])
-            .arg("locked")
-            .stdin(Stdio::piped())
-            .stdout(Stdio::piped())
-            .stderr(Stdio::piped())
-            .spawn()?;
+    pub fn start(command: &mut Command) -> io::Result<Keeper> {
+        let mut child = command.stdin(Stdio::piped()).stdout(Stdio::piped()).stderr(Stdio::piped()).spawn()?;
         let (send, heard) = channel();
         let input = child.stdin.take().expect("piped");
         let (output, errors) = (child.stdout.take().expect("piped"), child.stderr.take().expect("piped"));
@@ -62,18 +54,28 @@ impl Keeper {
 
     /// Waits for what becomes of the one request that was sent. Refusals 4 to 8 are the request's, and the keeper goes on; any other
     /// line comes before its end.
-    pub fn answer(&mut self) -> Result<Answer, String> {
+    pub fn answer(&mut self) -> Result<Answer, Trouble> {
+        let mut last = String::new();
         loop {
             match self.heard.recv_timeout(PATIENCE) {
                 Ok(Heard::Frame(frame)) => return Ok(Answer::Reply(frame)),
                 Ok(Heard::Line(line)) if (4..=8).any(|k| line.starts_with(&format!("refused {k}:"))) => {
                     return Ok(Answer::Refused)
                 }
-                Ok(Heard::Line(_)) => {}
-                Ok(Heard::End) => return Ok(Answer::Gone),
-                Err(_) => return Err("a keeper neither replied nor refused nor ended".into()),
+                Ok(Heard::Line(line)) => last = line,
+                Ok(Heard::End) | Err(RecvTimeoutError::Disconnected) => return Ok(Answer::Gone(last)),
+                Err(RecvTimeoutError::Timeout) => {
+                    return Err(Trouble::Failed("a keeper neither replied nor refused nor ended".into()))
+                }
             }
         }
+    }
+
+    /// The end of its input, and then its own.
+    pub fn end(self) {
+        let Keeper { mut child, input, .. } = self;
+        drop(input);
+        let _ = child.wait();
     }
 
     /// SIGKILL. Gives the reply that it may have sent before.

@@ -1,0 +1,70 @@
+//! What came of the runs, for the summary.
+
+use crate::network::Network;
+use crate::nodes::Faults;
+
+#[derive(Default)]
+pub struct Counts {
+    pub calls: usize,
+    pub saved: usize,
+    pub given_up: usize,
+    pub opened: usize,
+    pub never: usize,
+    pub aborted: usize,
+    pub spent: usize,
+    pub opens_given_up: usize,
+    pub clock: usize,
+    pub repaired: usize,
+    /// Opens that returned what the Byzantine client wrote.
+    pub strays: usize,
+    pub poisoned: usize,
+    /// Replies of lying nodes that a client took.
+    pub believed: usize,
+    pub partitions: usize,
+    pub lost: usize,
+    /// Histories that the checker took for a register's, copies with an open made stale that it refused, and those on which it gave up.
+    pub good: usize,
+    pub stale: usize,
+    pub unjudged: usize,
+    pub faults: Faults,
+    /// Of the histories of one seed.
+    pub digest: u64,
+}
+
+impl Counts {
+    /// Adds those of one run.
+    pub fn take(&mut self, faults: &Faults, network: &Network) {
+        let all = &mut self.faults;
+        all.kills += faults.kills;
+        all.midway += faults.midway;
+        all.restarts += faults.restarts;
+        all.damages += faults.damages;
+        all.setbacks += faults.setbacks;
+        all.liars += faults.liars;
+        all.lies += faults.lies;
+        all.beside += faults.beside;
+        all.cleared += faults.cleared;
+        all.handed += faults.handed;
+        self.lost += network.lost;
+    }
+
+    pub fn line(&self) -> String {
+        let Counts { saved, given_up, clock, opened, repaired, strays, never, aborted, spent, opens_given_up, .. } =
+            self;
+        let Counts { poisoned, believed, partitions, lost, good, stale, unjudged, faults, .. } = self;
+        let Faults { kills, midway, restarts, damages, setbacks, liars, lies, beside, handed, cleared } = faults;
+        let opens = format!("opens {opened} done ({repaired} repairs begun, {strays} of the Byzantine client's)");
+        let keepers = format!("{kills} kills ({midway} while serving), {restarts} restarts");
+        let liars = format!("{liars} liars ({lies} lies, {believed} of them taken), {poisoned} poisoned saves");
+        [
+            format!("saves {saved} done, {given_up} given up, {clock} clock spent"),
+            format!("{opens}, {never} never written, {aborted} aborted, {spent} spent, {opens_given_up} given up"),
+            format!(
+                "{keepers}, {beside} requests beside another, {handed} locks handed over, {cleared} new files removed"
+            ),
+            format!("{damages} damages, {setbacks} set-backs, {liars}, {partitions} partitions, {lost} messages lost"),
+            format!("{good} histories are a register's, {stale} made stale are not, the checker gave up on {unjudged}"),
+        ]
+        .join("; ")
+    }
+}

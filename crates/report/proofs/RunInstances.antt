@@ -21,7 +21,7 @@ use Rattle.terms.specs.Terms.{planOk, countsOk, limitsOk, columnOf, recordLengt
 use Rattle.frame.specs.Frame.{readPreviousKind, frame, shaped, bodyFits, forParty, oneOf, suits, goodFrame, goodReply}
 use Rattle.record.specs.Record.{timeZero}
 use Rattle.rounds.specs.Rounds.{heardCount, every, slotStamp, slotsFit, slotFits, underOf}
-use Rattle.session.specs.Session.{askNow, awaitsKind}
+use Rattle.session.specs.Session.{askNow}
 use Rattle.session.specs.Ranges.{standingRules, openRules, inRange}
 use Rattle.standing.specs.Standing.{lengthsOk, askIn, awaitsIn, roundRules, roomOk, readRequest}
 use Rattle.standing.specs.declared.Stage.the-variants.{Asking}

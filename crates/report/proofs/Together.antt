@@ -27,7 +27,7 @@ use Rattle.session.specs.declared.Took.{Took}
 use Rattle.session.specs.declared.Answer.{Answer}
 use Rattle.session.specs.declared.Answer.the-variants.{Refused}
 use Rattle.standing.specs.declared.Operation.the-variants.{Write, Read}
-use Rattle.session.specs.Session.{askNow, awaitsKind, sessionWith, saidOf}
+use Rattle.session.specs.Session.{sessionWith, saidOf}
 use Rattle.session.specs.Reply.{awaited}
 use Rattle.session.specs.Writer.{WriteReplyCall}
 use Rattle.session.specs.Reader.{ReadReplyCall}

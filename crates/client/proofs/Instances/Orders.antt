@@ -21,7 +21,7 @@ use Rattle.recover.specs.Recover.{validates, sound}
 use Rattle.standing.specs.Standing.{askIn, awaitsIn, lengthsOk, roundRules}
 use Rattle.session.specs.declared.Answer.the-variants.{Open}
 use Rattle.session.specs.declared.Session.{Session}
-use Rattle.session.specs.Session.{askNow, awaitsKind, markedOf, isRefused}
+use Rattle.session.specs.Session.{markedOf, isRefused}
 use Rattle.session.specs.Ranges.{standingRules, openRules, inRange}
 use Rattle.session.specs.Reply.{awaited, isHeard, bears}
 use Rattle.session.specs.Reader.{Outcome, actOn, actFor, settled, heard, accepted, failing, readReply, ReadReplyCall}

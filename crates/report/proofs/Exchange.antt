@@ -1,8 +1,10 @@
--- One exchange between a client and a node, over plain variables: what is known of a session and its desk where a request is owed (Sendable), a
--- request at a node (at-node), a reply at a client (at-client).
---   quiet-given        a refusal that is given is none of those whose conditions do not hold
---   request-taken      a request that is owed is not refused 4, 5 or 6 by a good book of its node
---   reply-taken        the reply to it, from a book whose records pass, is not refused 4, 5, 6, 10 or 12 by the session that asked
+-- One exchange between a client and a node, over plain variables.
+--   Quiet quiet-given  no rung of some numbers applies; then a refusal that is given is none of them
+--   AtNode AtClient    what a node asks of a request (4, 5, 6), and a client of a reply (4, 5, 6, 10, 12)
+--   Sendable           what is known of a session and its desk where a request is owed
+--   Written was-written   a call that wrote a request, cut off from its buffer
+--   request-passes     a request that is owed passes at its node; not-refused-there: so a call is not refused for it
+--   reply-passes       the reply to it, from a good book whose records pass, passes at the session that asked
 -- Assumes nothing.
 use Prim.{Unit, tt}
 use Prim.Native.Nat.{ℕ, _+_, _-_, _*_, _^_, _≤_, _<_}

@@ -13,7 +13,7 @@
 --   due-as synced-as  what is due, by the case of a step and of what was done since
 -- Assumes nothing.
 use mathlib.Core.Path.{_≡_, refl, sym, ap, _∙_, subst}
-use mathlib.Core.Bool.{Bool, true, false, not}
+use mathlib.Core.Bool.{Bool, true, false}
 use mathlib.Core.List.{List}
 use Prim.Native.Nat.{ℕ, _+_, _-_, _≤_}
 use native.Mathlib.Omega.{arith}
@@ -22,9 +22,7 @@ use lib.ListN.{length, length-append, drop}
 use lib.Dec.{eqb, ltb}
 use Rattle.octets.specs.Bytes.{part, put, over, alike}
 use Rattle.octets.proofs.Laws.{length-part, part-all, part-put-same}
-use Rattle.octets.proofs.Meaning.{is-alike}
 use Rattle.terms.specs.Ladder.{first, None}
-use Rattle.terms.specs.Terms.{refusalNumber}
 use Rattle.terms.specs.declared.Plan.{Plan}
 use Rattle.terms.specs.declared.Refusal.{Refusal}
 use Rattle.terms.proofs.Down.{clear}

@@ -2,7 +2,7 @@
 -- time 1, whose hashes antt computes. A fresh book takes it (executed); a read that hears it is done with its timestamp in one round (read-so); a
 -- write that hears a time goes on to its write round (write-so). Assumes nothing.
 use Prim.{tt}
-use Prim.Native.Nat.{ℕ}
+use Prim.Native.Nat.{ℕ, _+_}
 use mathlib.Core.Path.{_≡_, refl, sym, ap, _∙_, subst}
 use mathlib.Core.Bool.{true, cond}
 use mathlib.Core.List.{List, [], _∷_}

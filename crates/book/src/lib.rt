@@ -11,7 +11,7 @@ ghost use Rattle.terms.specs.Terms.{planOk};
 ghost use Rattle.terms.specs.Stamp.{time};
 ghost use Rattle.book.specs.Records.{timed, rising, below, lastOf, lastBelow, fateOf};
 ghost use Rattle.book.specs.Inside.{fateBy, Lies, Placed, Grows};
-ghost use Rattle.book.specs.Book.{fixed, bookHead, bookLent, bookIn, recordsIn, usedIn, headed, filled, laidOut, Checked, Holds};
+ghost use Rattle.book.specs.Book.{bookHead, bookLent, bookIn, recordsIn, usedIn, headed, filled, laidOut, Checked, Holds};
 use terms::Plan;
 use terms::Time;
 
@@ -59,7 +59,7 @@ pub fn lent(n: usize) -> bool
 
 // The header as a value: version 1 has no more than the fixed bytes.
 fn header_of(p: Plan, book: &[u8]) -> Book
-    requires { ⌜ (planOk p ≡ true) × (fixed ≤ length (now book)) ⌝ }
+    requires { ⌜ (planOk p ≡ true) × (bookHead 1 ≤ length (now book)) ⌝ }
     ensures { λ k. ⌜ (k ≡ bookIn p (now (book .entry))) × (k .count < 65536) × (k .each ≤ 1576) × (73 ≤ k .each) ⌝ }
 {
     let version = octets::get(book, 4, 1);
@@ -113,7 +113,7 @@ fn rising(k: Book, book: &[u8]) -> bool
 
 // Whether the numbers of the header are those of version 1 and this plan, with the length in use that goes with the count.
 fn headed(p: Plan, k: Book, book: &[u8]) -> bool
-    requires { ⌜ (fixed ≤ length (now book)) × (k ≡ bookIn p (now book)) × (k .count < 65536) × (k .each ≤ 1576) ⌝ }
+    requires { ⌜ (bookHead 1 ≤ length (now book)) × (k ≡ bookIn p (now book)) × (k .count < 65536) × (k .each ≤ 1576) ⌝ }
     ensures { λ a. ⌜ a ≡ headed 1 (bookHead 1) p (now (book .entry)) ⌝ }
 {
     let n = p.n;
@@ -148,7 +148,7 @@ fn filled(p: Plan, k: Book, book: &[u8]) -> bool
 
 // The shape of a book of this plan (refusal 3). The second fact is for those who write it.
 pub fn good(p: Plan, book: &[u8]) -> Shape
-    requires { ⌜ (planOk p ≡ true) × (fixed ≤ length (now book)) ⌝ }
+    requires { ⌜ (planOk p ≡ true) × (bookHead 1 ≤ length (now book)) ⌝ }
     ensures { λ s. ⌜ Checked p (now (book .entry)) s ⌝ }
 {
     let k = header_of(p, book);

@@ -46,7 +46,7 @@ use Rattle.client.proofs.Instances.Read as reads
 use Rattle.client.proofs.Instances.Read.{plan, hash, poor, stamp-bytes, good, desk-poor, desk-good, desk-full}
 use Rattle.client.proofs.Instances.Write as writes
 use Rattle.packing.specs.PlanBytes.{memberOf, clientsOf, planShaped, planAt, planOf}
-use Rattle.packing.specs.SessionBytes.{boundBytes, markBytes, roundBytes, askBytes, heardBytes, sessionBytes, operationOf, stageOf, heardOf, boundShaped, boundOf, marksShaped, marksOf, sessionShaped, roundAt, sessionAt, sessionOf}
+use Rattle.packing.specs.SessionBytes.{sessionLength, boundBytes, markBytes, roundBytes, askBytes, heardBytes, sessionBytes, operationOf, stageOf, heardOf, boundShaped, boundOf, marksShaped, marksOf, sessionShaped, roundAt, sessionAt, sessionOf}
 use Rattle.answers.specs.Answers.{lentLadder, bothFit, endingAfter, madeNumber, servedNumber}
 use Rattle.pasis.specs.Store.{FreshBook, NodeServes}
 use Rattle.pasis.specs.Client.{sessionFits, sessionAfter, openedBytes, openedAs, openBytes, OpenServes, asked, askedAs, owedBytes, OwedServes, tookBytes, tookAs, readBytes, withItem, writeBytes, WriteServes, ReadServes}
@@ -191,28 +191,28 @@ unfolding first
 lent-so refuse pass = rw reads.plan-ok
 
 module _ where
-  reading-long : length reading-bytes ≡ 117
+  reading-long : length reading-bytes ≡ sessionLength
   unfolding reading-bytes sessionBytes askBytes roundBytes boundBytes heardBytes markBytes be beOnto
   reading-long = refl
 
-  writing-long : length writing-bytes ≡ 117
+  writing-long : length writing-bytes ≡ sessionLength
   unfolding writing-bytes sessionBytes askBytes roundBytes boundBytes heardBytes markBytes be beOnto
   writing-long = refl
 
-pub host-open-met : OpenServes Read plan-bytes top (replicate 117 0) 13 (replicate 117 0)
+pub host-open-met : OpenServes Read plan-bytes top (replicate sessionLength 0) 13 (replicate sessionLength 0)
 unfolding openBytes late-ask not-opened
 host-open-met =
-    let e : openedAs (openWith Read Free plan late-ask) (replicate 117 0) ≡ openedBytes 13 (replicate 117 0) =
-    ap (λ (o : Opens). openedAs o (replicate 117 0)) (sym (opening-met .is)) in
+    let e : openedAs (openWith Read Free plan late-ask) (replicate sessionLength 0) ≡ openedBytes 13 (replicate sessionLength 0) =
+    ap (λ (o : Opens). openedAs o (replicate sessionLength 0)) (sym (opening-met .is)) in
     record {
-      is = sym (ap (λ (p : Plan). first (lentLadder p true) (λ (k : ℕ). openedBytes k (replicate 117 0)) (openedAs (openWith Read Free p late-ask) (replicate 117 0))) plan-so
+      is = sym (ap (λ (p : Plan). first (lentLadder p true) (λ (k : ℕ). openedBytes k (replicate sessionLength 0)) (openedAs (openWith Read Free p late-ask) (replicate sessionLength 0))) plan-so
           ∙ lent-so _ _ ∙ e);
     }
 
 pub host-open-refuses : Given (lentLadder (planOf plan-bytes) true ++ openingLadder (planOf plan-bytes) top) 13 × (oneOf 13 (0 ∷ 1 ∷ 2 ∷ 13 ∷ []) ≡ true)
 host-open-refuses = (
-  host-open-exactly Read plan-bytes top (replicate 117 0) 13 (replicate 117 0) host-open-met 13 (omega arith) (omega arith) .0 refl,
-  host-open-numbers Read plan-bytes top (replicate 117 0) 13 (replicate 117 0) host-open-met,
+  host-open-exactly Read plan-bytes top (replicate sessionLength 0) 13 (replicate sessionLength 0) host-open-met 13 (omega arith) (omega arith) .0 refl,
+  host-open-numbers Read plan-bytes top (replicate sessionLength 0) 13 (replicate sessionLength 0) host-open-met,
 )
 
 pub host-owed-met : OwedServes plan-bytes reading-bytes 0 desk-good (replicate 152 0) 11 (replicate 152 0)

@@ -27,7 +27,7 @@ use Rattle.book.specs.declared.Fate.{Fate}
 use Rattle.book.specs.declared.Fate.the-variants as fates
 use Rattle.book.specs.Records.{lastOf, rising, lastBelow, holds, holdsOther, fateOf}
 use Rattle.book.specs.Inside.{Placed, Grows}
-use Rattle.book.specs.Book.{fixed, bookLent, nodeOf, laidOut, recordsIn, recordsOf, usedIn, usedOf, grown, Holds, Sound}
+use Rattle.book.specs.Book.{bookHead, bookLent, nodeOf, laidOut, recordsIn, recordsOf, usedIn, usedOf, grown, Holds, Sound}
 use Rattle.book.proofs.Lists as lists
 use Rattle.book.proofs.Laws as books
 use Rattle.book.proofs.Back.{long}
@@ -57,7 +57,7 @@ unfolding bookReplyOk
 lengths-last p book reply r h e = rw h e
 
 pub record LengthsAre (p : Plan) (book reply : ℕ) : Type 0 where
-  pub low : fixed ≤ book
+  pub low : bookHead 1 ≤ book
   pub high : book ≤ 65536
   pub room : longest 1 p ≤ reply
 

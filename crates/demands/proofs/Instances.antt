@@ -4,7 +4,7 @@
 --   host-node-refuses host-fresh-refuses host-open-refuses host-owed-refuses host-write-refuses host-read-refuses   the same on bytes, and the numbers
 --   invalid-so         the node's request, a record whose cross checksum is not that of its fragments, is one that VALIDATE turns away
 -- Assumes nothing.
-use Prim.Native.Nat.{ℕ}
+use Prim.Native.Nat.{ℕ, _+_}
 use mathlib.Core.Path.{_≡_, refl, sym, ap, _∙_}
 use mathlib.Core.Bool.{true, false}
 use mathlib.Core.List.{List, [], _∷_, _++_}
@@ -24,7 +24,7 @@ use Rattle.record.specs.Record.{fragmentHash, hashesOk, timeZero, prefixOf}
 use Rattle.rounds.specs.declared.Bound.the-variants.{Free}
 use Rattle.rounds.specs.Rounds.{heardCount, every, slotsFit, slotFits, slotStamp, underOf}
 use Rattle.book.specs.Records.{timed, rising}
-use Rattle.book.specs.Book.{nodeOf, recordsFrom, header, joined, laidAs, laidOut, headed, filled, goodBook}
+use Rattle.book.specs.Book.{bookHead, nodeOf, recordsFrom, header, joined, laidAs, laidOut, headed, filled, goodBook}
 use Rattle.node.specs.declared.Answer.{Answer}
 use Rattle.node.specs.declared.Answer.the-variants as node
 use Rattle.node.specs.declared.Made.the-variants as made
@@ -57,7 +57,7 @@ use Rattle.demands.proofs.Refusals.{node-exactly, fresh-exactly, openin
 
 -- ---- the node: a record that passes its hash check at node 0 alone, sent to node 2, whose book is fresh
 pub book : List ℕ
-book = over (laidOut plan 2 []) (replicate 148 0)
+book = over (laidOut plan 2 []) (replicate (bookHead 1 + 137) 0)
 
 pub request : List ℕ
 request = frame writeRequestKind 2 6 poor
@@ -96,12 +96,12 @@ invalid-so =
     invalid-as-the-report plan request book (replicate 152 0) (small-octets request (small-so .0)) (small-octets book (small-so .1)) good-so kind-so turned-so
 
 -- ---- a fresh book for node 3 of 3
-pub fresh-met : FreshCall plan 3 (replicate 148 0) (made.Refused WrongFrame) (replicate 148 0)
+pub fresh-met : FreshCall plan 3 (replicate (bookHead 1 + 137) 0) (made.Refused WrongFrame) (replicate (bookHead 1 + 137) 0)
 unfolding plan freshened first planOk countsOk limitsOk columnOf all
 fresh-met = record { is = refl }
 
-pub fresh-refuses : Given (freshLadder plan 3 (replicate 148 0)) 4
-fresh-refuses = fresh-exactly plan 3 (replicate 148 0) (made.Refused WrongFrame) (replicate 148 0) fresh-met 4 (omega arith) .0 refl
+pub fresh-refuses : Given (freshLadder plan 3 (replicate (bookHead 1 + 137) 0)) 4
+fresh-refuses = fresh-exactly plan 3 (replicate (bookHead 1 + 137) 0) (made.Refused WrongFrame) (replicate (bookHead 1 + 137) 0) fresh-met 4 (omega arith) .0 refl
 
 -- ---- an opening with the last ask number
 pub late-ask : Ask
@@ -174,15 +174,15 @@ host-node-refuses = (
   host-node-numbers plan-bytes request book (replicate 152 0) 6 book (replicate 152 0) host-node-met,
 )
 
-pub host-fresh-met : FreshBook plan-bytes 3 (replicate 148 0) 4 (replicate 148 0)
+pub host-fresh-met : FreshBook plan-bytes 3 (replicate (bookHead 1 + 137) 0) 4 (replicate (bookHead 1 + 137) 0)
 host-fresh-met =
-    let e = fresh-met .is ∙ ap (λ (p : Plan). freshened p 3 (replicate 148 0)) (sym plan-so) in
+    let e = fresh-met .is ∙ ap (λ (p : Plan). freshened p 3 (replicate (bookHead 1 + 137) 0)) (sym plan-so) in
     record { number = ap (λ (o : FreshOutcome). madeNumber (o .answer)) e; book = ap (λ (o : FreshOutcome). o .book) e }
 
-pub host-fresh-refuses : Given (freshLadder (planOf plan-bytes) 3 (replicate 148 0)) 4 × (oneOf 4 (0 ∷ 1 ∷ 2 ∷ 4 ∷ []) ≡ true)
+pub host-fresh-refuses : Given (freshLadder (planOf plan-bytes) 3 (replicate (bookHead 1 + 137) 0)) 4 × (oneOf 4 (0 ∷ 1 ∷ 2 ∷ 4 ∷ []) ≡ true)
 host-fresh-refuses = (
-  host-fresh-exactly plan-bytes 3 (replicate 148 0) 4 (replicate 148 0) host-fresh-met 4 (omega arith) (omega arith) .0 refl,
-  host-fresh-numbers plan-bytes 3 (replicate 148 0) 4 (replicate 148 0) host-fresh-met,
+  host-fresh-exactly plan-bytes 3 (replicate (bookHead 1 + 137) 0) 4 (replicate (bookHead 1 + 137) 0) host-fresh-met 4 (omega arith) (omega arith) .0 refl,
+  host-fresh-numbers plan-bytes 3 (replicate (bookHead 1 + 137) 0) 4 (replicate (bookHead 1 + 137) 0) host-fresh-met,
 )
 
 -- the client's: where plan and lengths are right, the call's own order decides

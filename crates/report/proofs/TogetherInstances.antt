@@ -7,7 +7,7 @@ use Prim.{tt}
 use mathlib.Core.Path.{_≡_, refl, sym, subst}
 use mathlib.Core.Bool.{true}
 use mathlib.Core.List.{List, [], _∷_}
-use Prim.Native.Nat.{ℕ}
+use Prim.Native.Nat.{ℕ, _+_}
 use lib.ListN.{replicate, take}
 use Rattle.octets.specs.Bytes.{part, over, num, numFrom, be, beOnto, alike}
 use Rattle.sha256.specs.Sha256.{sha256, after, compressOf, addedOf, roundsOf, roundOf, T1, T2, scheduleOf, words, padding, bigEndian, K}
@@ -20,7 +20,7 @@ use Rattle.frame.specs.Frame.{writeRequestKind, frame, goodRequest, shaped, bod
 use Rattle.record.specs.Record.{fragmentHash, hashesOk, timeZero, prefixOf}
 use Rattle.rounds.specs.Rounds.{heardCount, every}
 use Rattle.book.specs.Records.{timed, rising, some}
-use Rattle.book.specs.Book.{recordsFrom, header, joined, laidAs, laidOut, headed, filled, goodBook}
+use Rattle.book.specs.Book.{bookHead, recordsFrom, header, joined, laidAs, laidOut, headed, filled, goodBook}
 use Rattle.node.specs.declared.Answer.the-variants.{Replied}
 use Rattle.node.specs.declared.Answer.the-variants as node
 use Rattle.node.specs.declared.Made.the-variants.{Fresh}
@@ -55,14 +55,14 @@ use Rattle.report.proofs.Together.{write-request-taken, write-reply-tak
 
 -- ---- node 2's fresh book, with room for one record
 pub book : List ℕ
-book = over (laidOut plan 2 []) (replicate 148 0)
+book = over (laidOut plan 2 []) (replicate (bookHead 1 + 137) 0)
 
-made-so : FreshCall plan 2 (replicate 148 0) Fresh book
+made-so : FreshCall plan 2 (replicate (bookHead 1 + 137) 0) Fresh book
 unfolding book freshened first planOk countsOk limitsOk columnOf all plan
 made-so = record { is = refl }
 
 pub of-calls : OfCalls plan 2 book
-of-calls = record { lent = replicate 148 0; fresh = book; makes = made-so; calls = []; history = tt; is = refl }
+of-calls = record { lent = replicate (bookHead 1 + 137) 0; fresh = book; makes = made-so; calls = []; history = tt; is = refl }
 
 desk-small : small desk ≡ true
 unfolding small desk

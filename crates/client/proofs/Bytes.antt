@@ -1,54 +1,23 @@
--- Numbers and hashes are bytes, so that a timestamp is known by its number. Assumes nothing.
---   octets-be octets-sha256   the bytes of a number, and a hash, are bytes
+-- A timestamp that was made is known by its number. Assumes nothing.
 --   made-stamp         bytes with the number of a timestamp that was made are that timestamp
 --   same-verifier      two that are one number have one verifier
 --   stamp-for          the number of a write's timestamp
-use Prim.{tt}
-use Prim.Native.Nat.{ℕ, zero, suc, _+_, _/_, _%_, _≤_}
+use Prim.Native.Nat.{ℕ, _≤_}
 use mathlib.Core.Path.{_≡_, sym, ap, _∙_}
-use mathlib.Core.List.{List, [], _∷_, _++_, append-nil}
+use mathlib.Core.List.{List, [], append-nil}
 use native.Mathlib.Omega.{arith}
 use lib.ListN.{length, length-append}
-use Rattle.octets.specs.Bytes.{part, num, be, beOnto, Octets}
+use Rattle.octets.specs.Bytes.{part, num, be, Octets}
 use Rattle.octets.proofs.Laws.{length-be, part-first, part-last}
-use Rattle.octets.proofs.Meaning.{Bytes, octets-all, octets-append, be-part}
-use Rattle.sha256.specs.Sha256.{sha256, bytes4, after, pad}
-use Rattle.sha256.specs.declared.State.{State}
-use Rattle.sha256.proofs.Laws.{sha256-length}
+use Rattle.octets.proofs.Meaning.{octets-be, octets-append, be-part}
+use Rattle.sha256.specs.Sha256.{sha256}
+use Rattle.sha256.proofs.Laws.{sha256-length, octets-sha256}
 use Rattle.terms.specs.Stamp.{stamp, stampNumber}
 use Rattle.terms.specs.declared.Plan.{Plan}
 use Rattle.terms.proofs.Stamps.{stamp-at-number}
 use Rattle.record.specs.Record.{stampOf}
 use Rattle.record.specs.Desk.{stampMade}
 use Rattle.recover.specs.Records.{crossFor, stampFor}
-
-bytes-onto : (n x : ℕ) (s : List ℕ) → Bytes s → Bytes (beOnto n x s)
-unfolding beOnto
-bytes-onto zero x s b = b
-bytes-onto (suc n) x s b = bytes-onto n (x / 256) (x % 256 ∷ s) (omega arith, b)
-
-pub octets-be : (n x : ℕ) → Octets (be n x)
-unfolding be
-octets-be n x = octets-all (be n x) (bytes-onto n x [] tt)
-
-bytes-4 : (x : ℕ) → Octets (bytes4 x)
-bytes-4 x = octets-all (bytes4 x) (omega arith, (omega arith, (omega arith, (omega arith, tt))))
-
-eight : (a b c d e f g h : ℕ) → Octets (bytes4 a ++ bytes4 b ++ bytes4 c ++ bytes4 d ++ bytes4 e ++ bytes4 f ++ bytes4 g ++ bytes4 h)
-eight a b c d e f g h =
-    octets-append (bytes4 a ++ bytes4 b ++ bytes4 c ++ bytes4 d ++ bytes4 e ++ bytes4 f ++ bytes4 g) (bytes4 h)
-    (octets-append (bytes4 a ++ bytes4 b ++ bytes4 c ++ bytes4 d ++ bytes4 e ++ bytes4 f) (bytes4 g)
-    (octets-append (bytes4 a ++ bytes4 b ++ bytes4 c ++ bytes4 d ++ bytes4 e) (bytes4 f)
-    (octets-append (bytes4 a ++ bytes4 b ++ bytes4 c ++ bytes4 d) (bytes4 e)
-    (octets-append (bytes4 a ++ bytes4 b ++ bytes4 c) (bytes4 d)
-    (octets-append (bytes4 a ++ bytes4 b) (bytes4 c)
-    (octets-append (bytes4 a) (bytes4 b) (bytes-4 a) (bytes-4 b)) (bytes-4 c)) (bytes-4 d)) (bytes-4 e)) (bytes-4 f)) (bytes-4 g)) (bytes-4 h)
-
-pub octets-sha256 : (m : List ℕ) → Octets (sha256 m)
-unfolding sha256
-octets-sha256 m =
-    let s : State = after (length (pad m) / 64) (pad m) in
-    eight (s .a) (s .b) (s .c) (s .d) (s .e) (s .f) (s .g) (s .h)
 
 -- ---- one number, one timestamp
 module _ (time : ℕ) (cross : List ℕ) where

@@ -100,6 +100,16 @@ octets-all [] b i = lit< tt
 octets-all (x ∷ l) b zero = b .0
 octets-all (x ∷ l) b (suc i) = octets-all l (b .1) i
 
+-- the bytes of a number are bytes
+bytes-onto : (n x : ℕ) (s : List ℕ) → Bytes s → Bytes (beOnto n x s)
+unfolding beOnto
+bytes-onto zero x s b = b
+bytes-onto (suc n) x s b = bytes-onto n (x / 256) (x % 256 ∷ s) (omega arith, b)
+
+pub octets-be : (n x : ℕ) → Octets (be n x)
+unfolding be
+octets-be n x = octets-all (be n x) (bytes-onto n x [] tt)
+
 pub octets-append : (a b : List ℕ) → Octets a → Octets b → Octets (a ++ b)
 octets-append [] b h k i = k i
 octets-append (x ∷ a) b h k zero = h 0

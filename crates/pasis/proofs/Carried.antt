@@ -6,19 +6,18 @@
 --   Carried       what a call leaves of a session: such a session and such an answer, and the same session at a refusal
 -- Assumes nothing.
 use Prim.{Unit, tt}
-use Prim.Native.Nat.{ℕ, zero, suc, _+_, _*_, _/_, _%_, _<_, _^_}
+use Prim.Native.Nat.{ℕ, _+_, _*_, _<_, _^_}
 use mathlib.Core.Path.{_≡_, refl, sym, ap, _∙_}
 use mathlib.Core.Bool.{Bool, true, false, cond}
-use mathlib.Core.List.{List, [], _∷_, _++_, append-nil}
-use native.Mathlib.Nat.{mod-lt}
+use mathlib.Core.List.{List, [], _++_, append-nil}
 use native.Mathlib.Omega.{arith}
 use borrow.Author.Tests.{leb-true, leb-false, eqb-true, ne-eqb, not-false}
 use lib.ListN.{length, length-set}
 use lib.Dec.{leb, eqb, ltb, lit<}
-use Rattle.octets.specs.Bytes.{be, beOnto, put, Octets}
-use Rattle.octets.proofs.Meaning.{octets-all, octets-append, octets-drop, octets-put}
-use Rattle.sha256.specs.declared.State.{State}
-use Rattle.sha256.specs.Sha256.{sha256, bytesOf}
+use Rattle.octets.specs.Bytes.{be, put, Octets}
+use Rattle.octets.proofs.Meaning.{octets-be, octets-append, octets-drop, octets-put}
+use Rattle.sha256.proofs.Laws.{octets-sha256}
+use Rattle.sha256.specs.Sha256.{sha256}
 use Rattle.terms.specs.Ladder.{Rung, rung, Given, None, _and_}
 use Rattle.terms.specs.Terms.{planOk, openingOk, recordLength, slotsOf, slotAt, thresholdsOf, refusalNumber}
 use Rattle.terms.specs.Stamp.{stampAt, stampNumber, zeroStamp, time, top}
@@ -139,21 +138,9 @@ opened-lasts op p a d k o =
     }
 
 -- ---- timestamps: the one of a write, and a candidate's
-octets-be : (n x : ℕ) (s : List ℕ) → Octets s → Octets (beOnto n x s)
-unfolding beOnto
-octets-be zero x s o = o
-octets-be (suc n) x s o = octets-be n (x / 256) (x % 256 ∷ s) (octets-append (x % 256 ∷ []) s (octets-all (x % 256 ∷ []) (mod-lt x (lit< tt), tt)) o)
-
-word : {A : Type 0} (x : ℕ) → A → (x / 2 ^ 24 % 256 < 256) × ((x / 2 ^ 16 % 256 < 256) × ((x / 2 ^ 8 % 256 < 256) × ((x % 256 < 256) × A)))
-word x a = (mod-lt _ (lit< tt), (mod-lt _ (lit< tt), (mod-lt _ (lit< tt), (mod-lt _ (lit< tt), a))))
-
-octets-state : (h : State) → Octets (bytesOf h)
-octets-state h =
-    octets-all (bytesOf h) (word (h .a) (word (h .b) (word (h .c) (word (h .d) (word (h .e) (word (h .f) (word (h .g) (word (h .h) tt))))))))
-
 stamp-wide : (p : Plan) (t : ℕ) (i : List ℕ) → Wide (stampFor p t i)
-unfolding stampFor sha256 be
-stamp-wide p t i = wide-at _ 0 (octets-append (be 8 t) (sha256 (crossFor p i)) (octets-be 8 t [] (octets-all [] tt)) (octets-state _))
+unfolding stampFor
+stamp-wide p t i = wide-at _ 0 (octets-append (be 8 t) (sha256 (crossFor p i)) (octets-be 8 t) (octets-sha256 (crossFor p i)))
 
 close-wide : (p : Plan) (s : Session) (d : List ℕ) → Octets d → Wide (closed p s d .stamp)
 unfolding closeWith

@@ -7,6 +7,7 @@ extern "C" {
     pub fn pasis_plan_size() -> usize;
     pub fn pasis_session_size() -> usize;
     pub fn pasis_ending_size() -> usize;
+    pub fn pasis_smallest_plan(member: u8, t: u64, b: u64, m: u64, counts: *mut u8, counts_len: usize) -> u32;
     pub fn pasis_fresh_book(plan: *const u8, plan_len: usize, node: u64, book: *mut u8, book_len: usize) -> u32;
     pub fn pasis_node(
         plan: *const u8, plan_len: usize, request: *const u8, request_len: usize, book: *mut u8, book_len: usize,

@@ -20,6 +20,10 @@ pub fn ending_size() -> usize {
     unsafe { pasis_ending_size() }
 }
 
+pub fn smallest_plan(member: u8, t: u64, b: u64, m: u64, counts: &mut [u8]) -> u32 {
+    unsafe { pasis_smallest_plan(member, t, b, m, counts.as_mut_ptr(), counts.len()) }
+}
+
 pub fn fresh_book(plan: &[u8], node: u64, book: &mut [u8]) -> u32 {
     unsafe { pasis_fresh_book(plan.as_ptr(), plan.len(), node, book.as_mut_ptr(), book.len()) }
 }

@@ -1,6 +1,6 @@
-/* example.c: saves a block and opens it again, over five books in memory, with node 3 silent throughout. It prints what happened and
- * ends with 0 if the bytes that came back are those that were saved. In a real host `deliver` is a network, and the node's half of
- * it runs on another machine:
+/* example.c: saves a block and opens it again, over as few books in memory as its wish needs, with node 3 silent throughout. It prints
+ * what happened and ends with 0 if the bytes that came back are those that were saved. In a real host `deliver` is a network, and the
+ * node's half of it runs on another machine:
  *
  *   cc -Ihost host/example.c libpasis.a */
 #include <inttypes.h>
@@ -10,19 +10,32 @@
 
 #include "pasis.h"
 
-enum { N = 5, M = 2, F = 1024, SILENT = 3, RECORDS = 4 };
+enum { MOST = PASIS_NODES_MOST, M = 2, F = 1024, SILENT = 3, RECORDS = 4 };
 
-static const struct pasis_plan values = {N, 1, 1, 3, M, F, PASIS_REPAIRABLE, PASIS_CRASH, 16};
+/* The wish: one node may be lost or lie, and two fragments give the block. `choose` finds N and Q. */
+static struct pasis_plan values = {0, 1, 1, 0, M, F, PASIS_REPAIRABLE, PASIS_CRASH, 16};
 
+/* N is known when the program runs: there is room for the most, and of the desk exactly N*R bytes are lent. */
 static uint8_t plan[PASIS_PLAN_SIZE];
-static uint8_t books[N][PASIS_BOOK_SIZE(N, F, RECORDS)];
+static uint8_t books[MOST][PASIS_BOOK_SIZE(MOST, F, RECORDS)];
 static uint8_t session[PASIS_SESSION_SIZE], ending[PASIS_ENDING_SIZE];
-static uint8_t desk[PASIS_DESK_SIZE(N, F)];
-static uint8_t request[PASIS_FRAME_SIZE(N, F)], reply[PASIS_FRAME_SIZE(N, F)];
+static uint8_t desk[PASIS_DESK_SIZE(MOST, F)];
+static uint8_t request[PASIS_FRAME_SIZE(MOST, F)], reply[PASIS_FRAME_SIZE(MOST, F)];
 
 static void fail(const char *call, uint32_t answer) {
   fprintf(stderr, "example: %s: %" PRIu32 ", %s\n", call, answer, pasis_strerror(answer));
   exit(1);
+}
+
+/* The smallest plan for the wish. */
+static void choose(void) {
+  uint8_t counts[PASIS_COUNTS_SIZE];
+  uint32_t answer = pasis_smallest_plan(values.member, values.t, values.b, values.m, counts, sizeof counts);
+  if (answer != PASIS_OK) fail("pasis_smallest_plan", answer);
+  values.N = counts[0];
+  values.Q = counts[1];
+  pasis_plan_bytes(&values, plan);
+  printf("a plan of %u nodes\n", values.N);
 }
 
 /* Carries `request` to a node and its answer back into `reply`. False is silence: nothing came back in the time that the caller allows. */
@@ -40,12 +53,11 @@ static int deliver(unsigned node) {
 
 /* One reply, to a save (`saved` is the block) or to an open (`opened` is where it goes). */
 static uint32_t hear(const uint8_t *saved, uint8_t *opened) {
-  size_t length = (size_t)pasis_frame_length(reply), item = PASIS_ITEM_SIZE(M, F);
+  size_t length = (size_t)pasis_frame_length(reply), desk_len = pasis_desk_size(plan), item = PASIS_ITEM_SIZE(M, F);
   if (saved)
-    return pasis_write_reply(plan, sizeof plan, session, sizeof session, reply, length, desk, sizeof desk, saved, item, ending,
+    return pasis_write_reply(plan, sizeof plan, session, sizeof session, reply, length, desk, desk_len, saved, item, ending,
                              sizeof ending);
-  return pasis_read_reply(plan, sizeof plan, session, sizeof session, reply, length, desk, sizeof desk, opened, item, ending,
-                          sizeof ending);
+  return pasis_read_reply(plan, sizeof plan, session, sizeof session, reply, length, desk, desk_len, opened, item, ending, sizeof ending);
 }
 
 /* Drives the open session to its ending, or to silence: a pass over all nodes that brings nothing new. */
@@ -53,8 +65,9 @@ static uint32_t drive(const uint8_t *saved, uint8_t *opened) {
   int news = 1;
   while (news) {
     news = 0;
-    for (unsigned node = 0; node < N; node++) {
-      uint32_t answer = pasis_owed(plan, sizeof plan, session, sizeof session, node, desk, sizeof desk, request, sizeof request);
+    for (unsigned node = 0; node < values.N; node++) {
+      uint32_t answer =
+          pasis_owed(plan, sizeof plan, session, sizeof session, node, desk, pasis_desk_size(plan), request, sizeof request);
       if (answer == PASIS_REFUSED_HEARD) continue;
       if (answer != PASIS_OK) fail("pasis_owed", answer);
       printf("  kind %u to node %u: ", request[5], node);
@@ -76,8 +89,8 @@ int main(void) {
     fprintf(stderr, "example: the header and the archive are of different interfaces\n");
     return 1;
   }
-  pasis_plan_bytes(&values, plan);
-  for (unsigned node = 0; node < N; node++) {
+  choose();
+  for (unsigned node = 0; node < values.N; node++) {
     uint32_t answer = pasis_fresh_book(plan, sizeof plan, node, books[node], sizeof books[node]);
     if (answer != PASIS_OK) fail("pasis_fresh_book", answer);
   }

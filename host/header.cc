@@ -36,9 +36,27 @@ static int sizes(const uint8_t *plan) {
   return 0;
 }
 
+// The counts of a wish, and its refusals in their order: 1, 2, 20. A refused call leaves the bytes.
+static int wishes() {
+  uint8_t counts[3] = {7, 7, 7};
+  MUST(pasis_smallest_plan(2, 1, 1, 2, counts, 2) == PASIS_REFUSED_PLAN);
+  MUST(pasis_smallest_plan(PASIS_REPAIRABLE, 8, 9, 2, counts, 3) == PASIS_REFUSED_PLAN);
+  MUST(pasis_smallest_plan(PASIS_REPAIRABLE, 8, 0, 0, counts, 3) == PASIS_REFUSED_PLAN);
+  MUST(pasis_smallest_plan(PASIS_REPAIRABLE, 8, 0, 1, counts, 3) == PASIS_REFUSED_LENGTH);
+  MUST(pasis_smallest_plan(PASIS_REPAIRABLE, 1, 1, 2, counts, 1) == PASIS_REFUSED_LENGTH);
+  MUST(pasis_smallest_plan(PASIS_REPAIRABLE, 8, 0, 1, counts, 2) == PASIS_REFUSED_WISH);
+  MUST(pasis_smallest_plan(PASIS_NON_REPAIR, UINT64_MAX, UINT64_MAX, UINT64_MAX, counts, 2) == PASIS_REFUSED_WISH);
+  MUST(counts[0] == 7 && counts[1] == 7 && counts[2] == 7);
+  MUST(pasis_smallest_plan(PASIS_REPAIRABLE, 1, 1, 2, counts, sizeof counts - 1) == PASIS_OK);
+  MUST(counts[0] == 5 && counts[1] == 3 && counts[2] == 7);
+  MUST(pasis_smallest_plan(PASIS_NON_REPAIR, 1, 1, 4, counts, PASIS_COUNTS_SIZE) == PASIS_OK);
+  MUST(counts[0] == 7 && counts[1] == 3 && counts[2] == 7);
+  return 0;
+}
+
 // Every answer has words of its own.
 static int words() {
-  std::vector<uint32_t> answers = {0, 101, 102, 103, 104, 105};
+  std::vector<uint32_t> answers = {0, PASIS_REFUSED_WISH, 101, 102, 103, 104, 105};
   for (uint32_t refusal = 1; refusal <= 14; refusal++) answers.push_back(refusal);
   for (uint32_t a : answers) {
     MUST(std::strcmp(pasis_strerror(a), pasis_strerror(77)) != 0);
@@ -62,5 +80,6 @@ int main() {
     MUST(pasis_book_size(plan, 3) == PASIS_BOOK_SIZE(p.N, p.F, 3) && pasis_fragment_size(plan) == p.F);
     if (sizes(plan)) return 1;
   }
-  return words();
+  MUST(PASIS_REFUSED_WISH == 20 && !std::strcmp(pasis_strerror(20), "no N and Q up to 16 are accepted for this wish"));
+  return wishes() || words();
 }

@@ -13,6 +13,7 @@
  *
  * Linking: libpasis.a and a C library (memset and its like), nothing else. What this header defines itself is inline.
  *
+ *   the plan       pasis_smallest_plan once, by whoever lays the plan down, where its N and Q are to be found
  *   node side      pasis_fresh_book once, then pasis_node for each request
  *   client side    pasis_open_write or pasis_open_read; pasis_owed for each node, as often as wanted; pasis_write_reply or
  *                  pasis_read_reply for each reply, until it answers an ending (101 to 105)
@@ -46,7 +47,7 @@ extern "C" {
 /* ---- Version ----------------------------------------------------------------------------------------------------------------------
  * The number of this interface: layouts, calls and answers. The header's as a macro, the archive's as a call; a program that was
  * compiled with one and linked with the other should compare them once, at its start. */
-#define PASIS_INTERFACE 1
+#define PASIS_INTERFACE 2
 uint32_t pasis_interface(void);
 
 /* ---- Answers ----------------------------------------------------------------------------------------------------------------------
@@ -54,9 +55,10 @@ uint32_t pasis_interface(void);
 enum pasis_answer {
   PASIS_OK = 0, /* accepted and open; or served, or opened, or made */
 
-  /* Refusals, in the paper's words. "All leave every buffer and the session as they came." 15 to 31 are kept for later interfaces. */
-  PASIS_REFUSED_PLAN = 1,     /* plan outside its rules; also not 11 bytes, or a member or clients byte above 1 */
-  PASIS_REFUSED_LENGTH = 2,   /* a lent length is wrong: book, reply or request buffer, desk, item, session, ending */
+  /* Refusals, in the paper's words; 20 in those of document 02, the change requests. "All leave every buffer and the session as they
+   * came." 15 to 19 and 21 to 31 are kept for later interfaces. */
+  PASIS_REFUSED_PLAN = 1,     /* plan outside its rules; also not 11 bytes, or a member or clients byte above 1; a wish with b above t or m 0 */
+  PASIS_REFUSED_LENGTH = 2,   /* a lent length is wrong: book, reply or request buffer, desk, item, session, ending, counts */
   PASIS_REFUSED_BOOK = 3,     /* book not of this shape, or not of this plan (its N or F differs) */
   PASIS_REFUSED_FRAME = 4,    /* frame length (for its kind too), version, kind for this party, or node wrong; a node number of N or more */
   PASIS_REFUSED_TIME = 5,     /* time 0 in a record or a bound */
@@ -69,6 +71,7 @@ enum pasis_answer {
   PASIS_REFUSED_BOUND = 12,   /* reply not strictly below the bound */
   PASIS_REFUSED_ASK = 13,     /* opening ask number plus W above 2^64-1 */
   PASIS_REFUSED_ENDED = 14,   /* session has ended */
+  PASIS_REFUSED_WISH = 20,    /* no N and Q up to 16 are accepted for this wish */
 
   /* Endings, of the two reply calls. The session has ended, and `ending` has been written. */
   PASIS_DONE = 101,          /* done: a write stands at N-t nodes; a read has its block in `item` */
@@ -100,6 +103,7 @@ static inline const char *pasis_strerror(uint32_t answer) {
     case PASIS_REFUSED_BOUND: return "reply not strictly below the bound";
     case PASIS_REFUSED_ASK: return "opening ask number plus W above 2^64-1";
     case PASIS_REFUSED_ENDED: return "session has ended";
+    case PASIS_REFUSED_WISH: return "no N and Q up to 16 are accepted for this wish";
     case PASIS_DONE: return "done";
     case PASIS_NEVER_WRITTEN: return "never written";
     case PASIS_ABORTED: return "aborted";
@@ -114,6 +118,7 @@ static inline const char *pasis_strerror(uint32_t answer) {
 #define PASIS_PLAN_SIZE 11
 #define PASIS_SESSION_SIZE 117
 #define PASIS_ENDING_SIZE 42
+#define PASIS_COUNTS_SIZE 2                                            /* N, then Q: what pasis_smallest_plan writes */
 #define PASIS_TIMESTAMP_SIZE 40                                        /* an 8 byte time, then the 32 byte hash of the cross checksum */
 #define PASIS_NODES_MOST 16                                            /* N is 1 to 16 */
 #define PASIS_BOOK_LEAST 11                                            /* "lent book: 11 to 65,536 bytes" */
@@ -139,7 +144,8 @@ size_t pasis_ending_size(void);
  *
  * t nodes may be silent or worse, b of those may lie. A block is m*F bytes and comes back from any m fragments. A round ends at N-t
  * replies. A candidate set of Q+b or more is complete, one below Q-t is incomplete, any other is unclassifiable.
- * Its bytes: N, t, b, Q, m, F (2), member, clients, W (2). Every call checks them; pasis_open_read at ask number 0 is a check alone. */
+ * Its bytes: N, t, b, Q, m, F (2), member, clients, W (2). Every call that is lent them checks them; pasis_open_read at ask
+ * number 0 is a check alone. */
 enum { PASIS_REPAIRABLE = 0, PASIS_NON_REPAIR = 1 }; /* member */
 enum { PASIS_CRASH = 0, PASIS_BYZANTINE = 1 };       /* clients */
 
@@ -174,6 +180,16 @@ static inline size_t pasis_desk_size(const uint8_t plan[PASIS_PLAN_SIZE]) { retu
 static inline size_t pasis_item_size(const uint8_t plan[PASIS_PLAN_SIZE]) { return plan[4] * pasis_fragment_size(plan); }
 static inline size_t pasis_frame_size(const uint8_t plan[PASIS_PLAN_SIZE]) { return pasis_record_size(plan) + 15; }
 static inline size_t pasis_book_size(const uint8_t plan[PASIS_PLAN_SIZE], size_t records) { return 11 + records * pasis_record_size(plan); }
+
+/* pasis_smallest_plan finds the N and Q of a plan, for who knows the other values that bear on them: a wish.
+ *   member   PASIS_REPAIRABLE or PASIS_NON_REPAIR
+ *   t, b, m  as in the plan; any number may be asked
+ *   counts   2 bytes (PASIS_COUNTS_SIZE), written: N at counts[0], Q at counts[1]
+ *   answers 0; or refuses 1, b above t, m 0, or a member byte above 1; 2, counts is not 2 bytes; 20, no N and Q up to 16 are accepted
+ *   for this wish; in that order
+ * N is the smallest with which the rules above accept any Q, and Q the smallest that they accept with that N. F, clients and W have no
+ * part in this and are free in their ranges. More nodes may be had than N: then Q may stay, or rise to the most that the rules allow. */
+uint32_t pasis_smallest_plan(uint8_t member, uint64_t t, uint64_t b, uint64_t m, uint8_t *counts, size_t counts_len);
 
 /* ---- Frames -----------------------------------------------------------------------------------------------------------------------
  * 4 byte length of the rest, version 1, kind, node, 8 byte ask number, body. A call that is lent a frame is lent exactly that frame: cut

@@ -11,12 +11,14 @@ enum { N = 16, T = 3, M = 8, F = 1024, W = 3, ITEM = M * F, RECORDS = 4, ANSWERS
 static const struct pasis_plan values = {N, T, 1, 12, M, F, PASIS_REPAIRABLE, PASIS_BYZANTINE, W};
 static uint8_t plan[PASIS_PLAN_SIZE], session[PASIS_SESSION_SIZE], ending[PASIS_ENDING_SIZE], item[ITEM], back[ITEM];
 static uint8_t books[N][PASIS_BOOK_SIZE(N, F, RECORDS)], desk[PASIS_DESK_SIZE(N, F)], request[PASIS_FRAME_SIZE(N, F)], reply[PASIS_FRAME_SIZE(N, F)];
-static uint64_t ask = 1;
+static uint8_t counts[PASIS_COUNTS_SIZE];
+static uint64_t ask = 1, lost = T;
 static unsigned node;
 static uint32_t said;
 
 // The calls, each a function of nothing so that one thread can make any.
 static void nothing(void) { said = pasis_interface(); }
+static void smallest_plan(void) { said = pasis_smallest_plan(PASIS_REPAIRABLE, lost, 1, M, counts, sizeof counts); }
 static void fresh_book(void) { said = pasis_fresh_book(plan, sizeof plan, node, books[node], sizeof books[node]); }
 static void serve(void) {
   said = pasis_node(plan, sizeof plan, request, (size_t)pasis_frame_length(request), books[node], sizeof books[node], reply, sizeof reply);
@@ -33,13 +35,13 @@ static void read_reply(void) {
                           ITEM, ending, sizeof ending);
 }
 
-enum { NOTHING, FRESH_BOOK, NODE, OPEN_WRITE, OPEN_READ, OWED, WRITE_REPLY, READ_REPLY, CALLS };
+enum { NOTHING, SMALLEST_PLAN, FRESH_BOOK, NODE, OPEN_WRITE, OPEN_READ, OWED, WRITE_REPLY, READ_REPLY, CALLS };
 static const struct {
   const char *name;
   void (*make)(void);
-} calls[CALLS] = {{"nothing", nothing},       {"pasis_fresh_book", fresh_book}, {"pasis_node", serve},
-                  {"pasis_open_write", open_write}, {"pasis_open_read", open_read},   {"pasis_owed", owed},
-                  {"pasis_write_reply", write_reply}, {"pasis_read_reply", read_reply}};
+} calls[CALLS] = {{"nothing", nothing},       {"pasis_smallest_plan", smallest_plan}, {"pasis_fresh_book", fresh_book},
+                  {"pasis_node", serve},      {"pasis_open_write", open_write},       {"pasis_open_read", open_read},
+                  {"pasis_owed", owed},       {"pasis_write_reply", write_reply},     {"pasis_read_reply", read_reply}};
 static long most[CALLS][ANSWERS];
 
 static uint32_t call(int which) {
@@ -86,6 +88,14 @@ static void opened(unsigned rounds, const uint8_t *block) {
   if (round_of(READ_REPLY, N) != PASIS_DONE || memcmp(back, block, ITEM)) fail("open", "not done with the block that was saved");
 }
 
+// A wish that 15 nodes serve, and one that no plan does.
+static void wishes(void) {
+  must(SMALLEST_PLAN, PASIS_OK);
+  if (counts[0] != 15 || counts[1] != 11) fail("pasis_smallest_plan", "not N 15 and Q 11");
+  lost = UINT64_MAX;
+  must(SMALLEST_PLAN, PASIS_REFUSED_WISH);
+}
+
 static void story(void) {
   uint8_t late[sizeof request], repaired[ITEM];
   for (node = 0; node < N; node++) must(FRESH_BOOK, PASIS_OK);
@@ -110,6 +120,7 @@ int main(int argc, char **argv) {
   for (size_t i = 0; i < ITEM; i++) item[i] = (uint8_t)(i * 31 + (i >> 8));
   used("nothing", nothing); // the first thread of a process also does what the C library does once
   must(NOTHING, PASIS_INTERFACE);
+  wishes();
   story();
   for (int which = 0; which < CALLS; which++)
     for (int answer = 0; answer < ANSWERS; answer++) {

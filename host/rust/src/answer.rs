@@ -5,7 +5,7 @@ use std::fmt;
 /// The bytes of an ending: a timestamp, and the rounds in two.
 pub const ENDING_SIZE: usize = 42;
 
-/// The refusals of document 01, under its numbers.
+/// The refusals of document 01, under its numbers, and `Wish`, the 20 of document 02.
 #[derive(Clone, Copy, Debug, PartialEq, Eq)]
 pub enum Refusal {
     Plan,
@@ -22,48 +22,51 @@ pub enum Refusal {
     Bound,
     Ask,
     Ended,
+    Wish,
     /// A number that this interface does not have.
     Other(u32),
 }
 
-const KNOWN: [(Refusal, &str); 14] = [
-    (Refusal::Plan, "plan outside its rules"),
-    (Refusal::Length, "a lent length is wrong"),
-    (Refusal::Book, "book not of this shape, or not of this plan"),
+const KNOWN: [(u32, Refusal, &str); 15] = [
+    (1, Refusal::Plan, "plan outside its rules"),
+    (2, Refusal::Length, "a lent length is wrong"),
+    (3, Refusal::Book, "book not of this shape, or not of this plan"),
     (
+        4,
         Refusal::Frame,
         "frame length (for its kind too), version, kind for this party, or node wrong; a node number of N or more",
     ),
-    (Refusal::Time, "time 0 in a record or a bound"),
-    (Refusal::Hash, "a hash check fails"),
-    (Refusal::Held, "same timestamp held with other bytes"),
-    (Refusal::Room, "no room in the book for R more bytes"),
-    (Refusal::Session, "session out of its ranges, or of the other operation"),
-    (Refusal::Awaited, "ask number, kind or write timestamp not the one awaited"),
-    (Refusal::Heard, "this node is already heard"),
-    (Refusal::Bound, "reply not strictly below the bound"),
-    (Refusal::Ask, "opening ask number plus W above 2^64-1"),
-    (Refusal::Ended, "session has ended"),
+    (5, Refusal::Time, "time 0 in a record or a bound"),
+    (6, Refusal::Hash, "a hash check fails"),
+    (7, Refusal::Held, "same timestamp held with other bytes"),
+    (8, Refusal::Room, "no room in the book for R more bytes"),
+    (9, Refusal::Session, "session out of its ranges, or of the other operation"),
+    (10, Refusal::Awaited, "ask number, kind or write timestamp not the one awaited"),
+    (11, Refusal::Heard, "this node is already heard"),
+    (12, Refusal::Bound, "reply not strictly below the bound"),
+    (13, Refusal::Ask, "opening ask number plus W above 2^64-1"),
+    (14, Refusal::Ended, "session has ended"),
+    (20, Refusal::Wish, "no N and Q up to 16 are accepted for this wish"),
 ];
 
 impl Refusal {
     pub(crate) fn from_number(number: u32) -> Refusal {
-        let known = (number as usize).checked_sub(1).and_then(|at| KNOWN.get(at));
-        known.map_or(Refusal::Other(number), |(refusal, _)| *refusal)
+        let known = KNOWN.iter().find(|(its, ..)| *its == number);
+        known.map_or(Refusal::Other(number), |(_, refusal, _)| *refusal)
     }
 
-    /// Document 01's number.
+    /// The documents' number.
     pub fn number(self) -> u32 {
         match self {
             Refusal::Other(number) => number,
-            known => KNOWN.iter().position(|(refusal, _)| *refusal == known).map_or(0, |at| at as u32 + 1),
+            known => KNOWN.iter().find(|(_, refusal, _)| *refusal == known).map_or(0, |(number, ..)| *number),
         }
     }
 }
 
 impl fmt::Display for Refusal {
     fn fmt(&self, f: &mut fmt::Formatter<'_>) -> fmt::Result {
-        let words = KNOWN.iter().find(|(refusal, _)| refusal == self).map(|(_, words)| *words);
+        let words = KNOWN.iter().find(|(_, refusal, _)| refusal == self).map(|(.., words)| *words);
         write!(f, "refusal {}: {}", self.number(), words.unwrap_or("not a number of this interface"))
     }
 }

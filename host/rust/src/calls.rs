@@ -1,11 +1,11 @@
-//! The seven calls, on the types of this crate.
+//! The calls of the node and of the client, on the types of this crate; `Wish::smallest` is the eighth.
 
 use crate::{Answer, Plan, Refusal, Session, ENDING_SIZE, SESSION_SIZE};
 use pasis_raw as raw;
 
 type Made<T> = Result<T, Refusal>;
 
-fn accepted(number: u32) -> Made<()> {
+pub(crate) fn accepted(number: u32) -> Made<()> {
     match number {
         0 => Ok(()),
         refusal => Err(Refusal::from_number(refusal)),

@@ -5,7 +5,9 @@
 //! document 01 gives, and leaves every byte as it came.
 //!
 //! ```
-//! let plan = pasis::Plan { n: 1, t: 0, b: 0, q: 1, m: 1, f: 4, w: 1, ..pasis::Plan::default() };
+//! let wish = pasis::Wish { member: pasis::Member::Repairable, t: 0, b: 0, m: 1 };
+//! let plan = wish.plan(4, pasis::Clients::Crash, 1)?;
+//! assert_eq!(plan.n, 1);
 //! let mut book = vec![0; plan.book_size(8)];
 //! let mut desk = vec![0; plan.desk_size()];
 //! let (mut request, mut reply) = (vec![0; plan.frame_size()], vec![0; plan.frame_size()]);
@@ -28,14 +30,16 @@ mod answer;
 mod calls;
 mod plan;
 mod session;
+mod wish;
 
 pub use answer::{Answer, Refusal, Timestamp, ENDING_SIZE};
 pub use calls::{fresh_book, node, open_read, open_write, owed, read_reply, write_reply};
 pub use plan::{Clients, Member, Plan, BOOK_LEAST, BOOK_MOST, PLAN_SIZE};
 pub use session::{Mark, Operation, Session, Stage, SESSION_SIZE};
+pub use wish::{Counts, Wish, COUNTS_SIZE};
 
 /// The interface that this crate was written for; [`interface`] is the archive's.
-pub const INTERFACE: u32 = 1;
+pub const INTERFACE: u32 = 2;
 
 /// The interface number of the archive that is linked.
 pub fn interface() -> u32 {

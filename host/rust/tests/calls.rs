@@ -229,7 +229,9 @@ fn every_refusal_has_its_number_and_words() {
     assert_eq!(Refusal::Plan.number(), 1);
     assert_eq!(Refusal::Ended.number(), 14);
     assert_eq!(Refusal::Hash.to_string(), "refusal 6: a hash check fails");
-    assert_eq!(Refusal::Other(20).to_string(), "refusal 20: not a number of this interface");
+    assert_eq!(Refusal::Wish.number(), 20);
+    assert_eq!(Refusal::Wish.to_string(), "refusal 20: no N and Q up to 16 are accepted for this wish");
+    assert_eq!(Refusal::Other(19).to_string(), "refusal 19: not a number of this interface");
 }
 
 /// Sizes of what no plan has are large, not wrong, and nothing panics.

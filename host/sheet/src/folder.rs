@@ -112,7 +112,7 @@ fn clear(folder: &Path) -> io::Result<bool> {
     };
     let making = folder.join(MAKING);
     let begun = paths.contains(&making) || paths.contains(&files::beside(&making, files::OURS));
-    if !paths.is_empty() && !(begun && paths.iter().all(ours)) {
+    if !(paths.is_empty() || begun && paths.iter().all(ours)) {
         return Ok(false);
     }
     // The sign goes last, so that a second cut leaves it.

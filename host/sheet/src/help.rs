@@ -4,7 +4,8 @@ const CODES: &str = "\
 Exit codes:
   0  done
   1  done in part: the save was cut off, or its write round did not end; some nodes hold it
-  2  wrong use: arguments, a file that is not there, a block of the wrong length, a plan outside its rules
+  2  wrong use: arguments, a file that is not there, a block of the wrong length, a plan outside its rules,
+     a wish that no plan serves
   3  ended without a value: never written
   4  ended without a value: aborted (non-repair plans)
   5  ended without a value: rounds spent
@@ -30,6 +31,7 @@ pub fn all() -> String {
         "\
 sheet: a block of fixed size, kept as fragments in a folder of N books so that it survives the loss of some.
 
+  sheet plan                the smallest plan for a wish: how many nodes may be lost or lie, how many pieces give a block
   sheet new FOLDER          make a plan and N fresh books
   sheet save FOLDER FILE    save a block
   sheet open FOLDER FILE    open the block that the rule decides on
@@ -45,7 +47,8 @@ A book that is missing or damaged counts as a silent node and is named on standa
 
 pub fn verb(verb: &str) -> String {
     let (text, options) = match verb {
-        "new" => (NEW, NEW_OPTIONS.to_string()),
+        "plan" => (PLAN, WISH_OPTIONS.to_string()),
+        "new" => (NEW, format!("{NEW_OPTIONS}{WISH_OPTIONS}")),
         "save" => (SAVE, format!("{DOWN}{SAVE_OPTIONS}")),
         "open" => (OPEN, DOWN.to_string()),
         "show" => (SHOW, format!("{DOWN}{SHOW_OPTIONS}")),
@@ -54,11 +57,27 @@ pub fn verb(verb: &str) -> String {
     format!("{text}\nOptions:\n{options}{COMMON}\n{CODES}")
 }
 
+const PLAN: &str = "\
+sheet plan --lost T --lying B --pieces M [--non-repair]
+
+Prints the smallest plan for a wish, ready to be saved as a plan file: sheet new --plan and keeper take it as it is. Comments in it say what
+the plan survives, what a save costs on all nodes, and what one more node would buy: a greater T, B or M, each alone. No plan
+has more than 16 nodes; where that is too few, a line says which value to lower and how far.
+";
+
+const WISH_OPTIONS: &str = "  --lost T      so many nodes may be lost or silent
+  --lying B     so many of those may lie, at most T
+  --pieces M    so many good pieces of a save give its block back, 1 or more
+  --non-repair  the member non-repair: an open stores nothing, but may end aborted; without this, repairable
+";
+
 const NEW: &str = "\
 sheet new FOLDER [--plan FILE] [--room BYTES]
+sheet new FOLDER --lost T --lying B --pieces M [--non-repair] [--room BYTES]
 
 Makes FOLDER, which must be empty or not there, with a plan, N fresh books (book-0, book-1, ...) and an ask number.
-A plan is nine lines; without --plan it is these, for blocks of 2,048 bytes:
+With --lost, --lying and --pieces the plan is the one that sheet plan prints for them. A plan is nine lines; where none is given it is
+these, for blocks of 2,048 bytes:
 
   N 5                   nodes, 1 to 16
   t 1                   of them may be lost or worse

@@ -7,6 +7,7 @@ pub enum Json {
     Null,
     Bool(bool),
     Number(u64),
+    Decimal(f64),
     Text(String),
     List(Vec<Json>),
     Object(Vec<(&'static str, Json)>),
@@ -51,6 +52,7 @@ impl fmt::Display for Json {
             Json::Null => f.write_str("null"),
             Json::Bool(value) => write!(f, "{value}"),
             Json::Number(number) => write!(f, "{number}"),
+            Json::Decimal(number) => write!(f, "{number}"),
             Json::Text(text) => quoted(f, text),
             Json::List(values) => {
                 f.write_str("[")?;

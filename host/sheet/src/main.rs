@@ -1,6 +1,6 @@
 //! `sheet`: a block kept in a folder of N books on one machine. The library decides; this program keeps files, carries frames from one to
 //! the other, and says what happened. `words` reads the command line, `folder` keeps the files, `drive` carries an operation to its
-//! end, `verbs` are the five commands, `picture` is what `show` prints.
+//! end, `verbs` are the commands but two: `picture` is what `show` prints, `wish` what `plan` prints.
 
 mod book;
 mod claim;
@@ -13,6 +13,7 @@ mod json;
 mod picture;
 mod plan_text;
 mod verbs;
+mod wish;
 mod words;
 
 use code::{Fault, Report};
@@ -24,7 +25,8 @@ use words::Command;
 fn obey(command: &Command) -> Result<Report, Fault> {
     match command {
         Command::Help(text) => Ok(Report::help(text)),
-        Command::New { folder, plan, room } => verbs::new(folder, plan.as_deref(), *room),
+        Command::Plan { wish } => wish::tell(wish),
+        Command::New { folder, plan, room } => verbs::new(folder, plan, *room),
         Command::Save { folder, file, down, stop_after } => verbs::save(folder, file, down, *stop_after),
         Command::Open { folder, file, down } => verbs::open(folder, file, down),
         Command::Show { folder, down, all } => picture::show(folder, down, *all),

@@ -1,4 +1,4 @@
-//! The commands but `show`.
+//! The commands but `plan` and `show`.
 
 use crate::book;
 use crate::code::{fault, Code, Fault, Report};
@@ -7,6 +7,8 @@ use crate::files;
 use crate::folder::{missing, read_plan, Folder};
 use crate::json::Json;
 use crate::plan_text;
+use crate::wish;
+use crate::words::Chosen;
 use pasis::{Answer, Plan, Stage, BOOK_MOST};
 use std::ffi::OsStr;
 use std::io::{self, Write};
@@ -45,8 +47,12 @@ pub fn known(plan: &Plan, down: &[usize]) -> Result<(), Fault> {
     }
 }
 
-pub fn new(folder: &Path, plan: Option<&OsStr>, room: Option<usize>) -> Result<Report, Fault> {
-    let plan = plan.map_or(Ok(Plan::default()), |file| read_plan(file, Code::WrongUse))?;
+pub fn new(folder: &Path, plan: &Chosen, room: Option<usize>) -> Result<Report, Fault> {
+    let plan = match plan {
+        Chosen::Default => Plan::default(),
+        Chosen::File(file) => read_plan(file, Code::WrongUse)?,
+        Chosen::Smallest(wish) => wish::smallest(wish)?,
+    };
     let room = room.unwrap_or(BOOK_MOST);
     let least = plan.book_size(1);
     if room < least || room > BOOK_MOST {

@@ -2,16 +2,27 @@
 
 use crate::code::{fault, Code, Fault};
 use crate::help;
+use crate::wish::OPTIONS;
+use pasis::{Member, Wish};
 use std::ffi::{OsStr, OsString};
 use std::path::PathBuf;
+use std::str::FromStr;
 
 pub enum Command {
     Help(String),
-    New { folder: PathBuf, plan: Option<OsString>, room: Option<usize> },
+    Plan { wish: Wish },
+    New { folder: PathBuf, plan: Chosen, room: Option<usize> },
     Save { folder: PathBuf, file: OsString, down: Vec<usize>, stop_after: Option<usize> },
     Open { folder: PathBuf, file: OsString, down: Vec<usize> },
     Show { folder: PathBuf, down: Vec<usize>, all: bool },
     Check { folder: PathBuf },
+}
+
+/// Where the plan of a new sheet comes from.
+pub enum Chosen {
+    Default,
+    File(OsString),
+    Smallest(Wish),
 }
 
 /// What a verb takes: its arguments, its options with a value, its options without.
@@ -23,7 +34,8 @@ struct Form {
 
 fn form(verb: &str) -> Option<Form> {
     let (arguments, valued, plain): (&[_], &[_], &[_]) = match verb {
-        "new" => (&["FOLDER"], &["--plan", "--room"], &["--json"]),
+        "plan" => (&[], &OPTIONS, &["--non-repair", "--json"]),
+        "new" => (&["FOLDER"], &["--plan", "--room", "--lost", "--lying", "--pieces"], &["--non-repair", "--json"]),
         "save" => (&["FOLDER", "FILE"], &["--down", "--stop-after"], &["--json"]),
         "open" => (&["FOLDER", "FILE"], &["--down"], &["--json"]),
         "show" => (&["FOLDER"], &["--down"], &["--all", "--json"]),
@@ -82,12 +94,38 @@ fn sort(verb: &str, form: &Form, words: &[OsString]) -> Result<Given, Fault> {
     Ok(given)
 }
 
-fn number(verb: &str, given: &Given, name: &str) -> Result<Option<usize>, Fault> {
+fn number<T: FromStr>(verb: &str, given: &Given, name: &str) -> Result<Option<T>, Fault> {
     let Some(value) = given.option(name) else { return Ok(None) };
-    let digits = value.to_str().filter(|text| text.bytes().all(|byte| byte.is_ascii_digit()));
-    match digits.and_then(|text| text.parse().ok()) {
-        Some(number) => Ok(Some(number)),
+    let digits = value.to_str().filter(|text| !text.is_empty() && text.bytes().all(|byte| byte.is_ascii_digit()));
+    match digits.map(str::parse) {
+        Some(Ok(number)) => Ok(Some(number)),
+        Some(Err(_)) => {
+            wrong(verb, format!("{name}: {} is above 2^64-1, the most that a number may be", value.display()))
+        }
         None => wrong(verb, format!("{name}: {} is not a number", value.display())),
+    }
+}
+
+/// The wish: all three numbers belong to it.
+fn wish(verb: &str, given: &Given) -> Result<Wish, Fault> {
+    let [t, b, m] = OPTIONS.map(|name| number(verb, given, name));
+    let (Some(t), Some(b), Some(m)) = (t?, b?, m?) else {
+        let missing: Vec<&str> = OPTIONS.into_iter().filter(|name| given.option(name).is_none()).collect();
+        let all = "a wish has --lost, --lying and --pieces";
+        return wrong(verb, format!("{all}; not given: {}", missing.join(", ")));
+    };
+    let member = if given.option("--non-repair").is_some() { Member::NonRepair } else { Member::Repairable };
+    Ok(Wish { member, t, b, m })
+}
+
+/// The plan of a new sheet: of a file, for a wish, or neither; not both.
+fn chosen(verb: &str, given: &Given) -> Result<Chosen, Fault> {
+    let wished = OPTIONS.into_iter().chain(["--non-repair"]).find(|name| given.option(name).is_some());
+    match (given.option("--plan"), wished) {
+        (Some(_), Some(name)) => wrong(verb, format!("--plan and {name} are of two plans; give one of them")),
+        (Some(file), None) => Ok(Chosen::File(file.to_os_string())),
+        (None, Some(_)) => wish(verb, given).map(Chosen::Smallest),
+        (None, None) => Ok(Chosen::Default),
     }
 }
 
@@ -112,14 +150,12 @@ fn command(verb: &str, form: &Form, words: &[OsString]) -> Result<Command, Fault
     if let Some(place) = given.arguments.iter().position(|word| word.is_empty()) {
         return wrong(verb, format!("the {} has no name", form.arguments[place]));
     }
-    let folder = PathBuf::from(&given.arguments[0]);
+    let folder = given.arguments.first().map(PathBuf::from).unwrap_or_default();
     let file = given.arguments.last().cloned().unwrap_or_default();
     let down = down(verb, &given)?;
     Ok(match verb {
-        "new" => {
-            let plan = given.option("--plan").map(OsStr::to_os_string);
-            Command::New { folder, plan, room: number(verb, &given, "--room")? }
-        }
+        "plan" => Command::Plan { wish: wish(verb, &given)? },
+        "new" => Command::New { folder, plan: chosen(verb, &given)?, room: number(verb, &given, "--room")? },
         "save" => Command::Save { folder, file, down, stop_after: number(verb, &given, "--stop-after")? },
         "open" => Command::Open { folder, file, down },
         "show" => Command::Show { folder, down, all: given.option("--all").is_some() },
@@ -129,7 +165,7 @@ fn command(verb: &str, form: &Form, words: &[OsString]) -> Result<Command, Fault
 
 pub fn read(words: &[OsString]) -> Result<Command, Fault> {
     let Some((verb, rest)) = words.split_first() else {
-        return wrong("", "sheet wants a verb: new, save, open, show or check".to_string());
+        return wrong("", "sheet wants a verb: plan, new, save, open, show or check".to_string());
     };
     let asks = |word: &OsString| word == "--help" || word == "-h";
     let verb = verb.to_string_lossy();

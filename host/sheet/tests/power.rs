@@ -4,6 +4,7 @@
 use keeper_trials::disk::{calls, files, set_files, Call, Disk, Left};
 use second::book::Book;
 use second::plan::{Clients, Member, Plan};
+use std::collections::btree_map::Entry;
 use std::collections::{BTreeMap, BTreeSet};
 use std::fs;
 use std::io;
@@ -135,8 +136,8 @@ impl Cuts<'_> {
         let mut told = self.shown(&disk)?;
         let mut looked = 0;
         for (i, call) in made.iter().enumerate() {
-            if !seen.contains_key(&call.process) {
-                seen.insert(call.process, self.shown(&disk)?);
+            if let Entry::Vacant(place) = seen.entry(call.process) {
+                place.insert(self.shown(&disk)?);
             }
             disk.make(call);
             if call.name == "write" && call.number == 1 {

@@ -223,6 +223,9 @@ fn wrong_use_is_one_line_and_loses_nothing() {
         "save s one --stop-after few", "open s", "open s out --stop-after 1", "show", "show nowhere", "show one", "check s s",
         "check s --json=yes", "new s", "new one", "new q --plan bad", "new q --plan worse", "new q --plan nothing",
         "new q --room 10", "new q --room 65537", "show s --al", "open s s/plan", "open s s/out", "open s link",
+        "plan", "plan s --lost 1 --lying 1 --pieces 2", "plan --lost 1 --lying 1", "plan --lost 1 --lying 1 --pieces",
+        "plan --lost 1 --lying 1 --pieces 2 --room 9", "new q --lost 1", "new q --non-repair", "new q --plan p --lost 1",
+        "new q --lost 5 --lying 5 --pieces 1", "new q --lost 1 --lying 1 --pieces 2 --room 10",
     ];
     for words in wrong {
         let (code, out, err) = place.sheet(words);
@@ -341,13 +344,148 @@ fn json_is_one_object() {
 #[test]
 fn help_at_each_verb() {
     let place = Place::new("help");
-    for words in ["--help", "new --help", "save --help", "open s -h", "show --help", "check --help --json"] {
+    for words in
+        ["--help", "plan --help", "new --help", "save --help", "open s -h", "show --help", "check --help --json"]
+    {
         let (code, out, err) = place.sheet(words);
         assert_eq!((code, err.as_str()), (0, ""), "{words}");
         assert!(out.contains("Exit codes:\n  0  done\n") && out.contains("  9  system"), "{words}");
     }
-    assert_eq!(place.sheet("--version").1, "sheet 1.0.0, interface 1 of libpasis\n");
+    assert_eq!(place.sheet("--version").1, "sheet 1.0.0, interface 2 of libpasis\n");
     assert!(Path::new(env!("CARGO_BIN_EXE_sheet")).is_file());
+}
+
+// ---- plans for a wish
+
+/// What `plan` prints is a plan file as it is, with its sentences as comments.
+#[test]
+fn a_printed_plan_is_a_plan_file() {
+    let place = Place::new("wish");
+    let (code, text, err) = place.sheet("plan --lost 2 --lying 1 --pieces 3");
+    assert_eq!((code, err.as_str()), (0, ""));
+    assert_eq!(
+        text,
+        "# The smallest plan for --lost 2 --lying 1 --pieces 3.\n\
+         # Survives: any 2 of the 8 nodes lost or silent, even if 1 of these lies; any 3 good pieces of a save give its block back.\n\
+         # Costs: a save of a block of 3072 bytes takes 8192 bytes of pieces on all nodes, about 2.67 times its size; with the heads of \
+         the records, 296 bytes a node, 10560.\n\
+         # More: the same nodes allow nothing more; one more node would buy --lying 2 or --pieces 4.\n\
+         # F, clients and W have no part in N and Q and may be changed; clients is byzantine where one may lie.\n\
+         N 8\nt 2\nb 1\nQ 5\nm 3\nF 1024\nmember repairable\nclients crash\nW 16\n"
+    );
+    place.put("wished", &text);
+    place.put("block", [7; 3072]);
+    assert_eq!(place.code("new s --plan wished"), 0);
+    assert_eq!(place.sheet_with("new piped --plan -", text.as_bytes()).0, 0);
+    assert_eq!(place.get("piped/plan"), place.get("s/plan"));
+    assert_eq!(place.code("save s block --down 0,7"), 0);
+    assert_eq!(place.code("open s out --down 3,4"), 0);
+    assert_eq!(place.get("out"), [7; 3072]);
+    // The file itself serves as the folder's plan too: comments are no edit.
+    place.put("s/plan", &text);
+    assert_eq!(place.code("check s"), 0);
+}
+
+/// The bytes that `plan` tells of are those that a save takes: the used bytes of all books, less their 11 each.
+#[test]
+fn a_save_costs_what_is_told() {
+    let place = Place::new("cost");
+    let (_, out, _) = place.sheet("plan --lost 1 --lying 1 --pieces 4 --non-repair --json");
+    assert!(
+        out.contains("\"block\":4096,\"bytes\":{\"pieces\":7168,\"heads\":1848,\"all\":9016},\"times\":1.75,"),
+        "{out}"
+    );
+    place.put("block", [7; 4096]);
+    assert_eq!(place.code("new s --lost 1 --lying 1 --pieces 4 --non-repair"), 0);
+    assert_eq!(place.code("save s block"), 0);
+    let used = |node: usize| {
+        let book = place.get(&format!("s/book-{node}"));
+        u32::from_be_bytes(*book.first_chunk().expect("a length")) as usize + 4 - 11
+    };
+    assert_eq!((0..7).map(used).sum::<usize>(), 9016);
+}
+
+#[test]
+fn a_sheet_for_a_wish() {
+    let place = five("wished");
+    let (code, out, err) = place.sheet("new w --lost 1 --lying 1 --pieces 2 --room 3000");
+    assert_eq!((code, err.as_str()), (0, ""));
+    assert_eq!(out, "w: 5 books, each with room for 2 saves of 2048 bytes\n");
+    assert_eq!(place.code("new default"), 0);
+    assert_eq!(place.get("w/plan"), place.get("default/plan"));
+    let (_, out, _) = place.sheet("new n --non-repair --pieces=4 --lying=1 --lost=1 --json");
+    assert!(
+        out.contains("\"plan\":{\"N\":7,\"t\":1,\"b\":1,\"Q\":3,\"m\":4,\"F\":1024,\"member\":\"non-repair\""),
+        "{out}"
+    );
+    place.put("block", [9; 2048]);
+    assert_eq!(place.code("save w block --down 2"), 0);
+    assert_eq!(place.code("open w out --down 0"), 0);
+    assert_eq!(place.get("out"), [9; 2048]);
+}
+
+/// Each kind of bad wish gets its own line, of `plan` and of `new` alike, and nothing is made.
+#[test]
+fn bad_wishes_are_one_line() {
+    let place = five("bad-wish");
+    let over = "no plan of up to 16 nodes serves";
+    for (wish, line) in [
+        ("--lost 2 --lying 3 --pieces 1", "--lying 3 is above --lost 2, of which they are a part (refusal 1): lower --lying to 2"),
+        ("--lost 1 --lying 1 --pieces 0", "--pieces 0 gives no block back (refusal 1): raise --pieces to 1"),
+        (
+            "--lost 1 --lying 2 --pieces 0",
+            "--lying 2 is above --lost 1, of which they are a part, and --pieces 0 gives no block back (refusal 1): lower --lying to 1 and raise --pieces to 1",
+        ),
+        ("--lost 5 --lying 5 --pieces 1", &format!("{over} --lost 5 --lying 5 --pieces 1 (refusal 20): lower --lying to 2")),
+        (
+            "--lost 4 --lying 1 --pieces 9",
+            &format!("{over} --lost 4 --lying 1 --pieces 9 (refusal 20): lower --lost to 3, or lower --pieces to 7"),
+        ),
+        (
+            "--lost 9 --lying 9 --pieces 2 --non-repair",
+            &format!("{over} --lost 9 --lying 9 --pieces 2 --non-repair (refusal 20): lower --lost to 2 and lower --lying to 2"),
+        ),
+        (
+            "--lost 9 --lying 9 --pieces 18446744073709551615",
+            &format!("{over} --lost 9 --lying 9 --pieces 18446744073709551615 (refusal 20): lower --lost to 3 and lower --lying to 3 and lower --pieces to 7"),
+        ),
+    ] {
+        for verb in ["plan", "new q"] {
+            let (code, out, err) = place.sheet(&format!("{verb} {wish}"));
+            assert_eq!((code, out.as_str(), err), (2, "", format!("sheet: {line}\n")), "{verb}");
+        }
+        let (code, out, _) = place.sheet(&format!("plan {wish} --json"));
+        assert_eq!((code, out), (2, format!("{{\"code\":2,\"outcome\":\"wrong use\",\"error\":\"{line}\",\"notes\":[\"{line}\"]}}\n")));
+    }
+    assert!(!place.file("q").exists());
+}
+
+/// What is no wish at all.
+#[test]
+fn wishes_that_are_not_whole() {
+    let place = five("half-wish");
+    for (words, line) in [
+        ("plan", "a wish has --lost, --lying and --pieces; not given: --lost, --lying, --pieces (sheet plan"),
+        ("plan --lost 1 --pieces 2", "a wish has --lost, --lying and --pieces; not given: --lying (sheet plan"),
+        (
+            "new q --non-repair --lost 1",
+            "a wish has --lost, --lying and --pieces; not given: --lying, --pieces (sheet new",
+        ),
+        ("new q --plan p --pieces 2", "--plan and --pieces are of two plans; give one of them (sheet new"),
+        ("new q --plan p --non-repair", "--plan and --non-repair are of two plans; give one of them (sheet new"),
+        ("plan --lost 1 --lying one --pieces 2", "--lying: one is not a number (sheet plan"),
+        ("plan --lost= --lying 1 --pieces 2", "--lost:  is not a number (sheet plan"),
+        ("plan --lost -1 --lying 1 --pieces 2", "--lost: -1 is not a number (sheet plan"),
+        (
+            "plan --lost 1 --lying 1 --pieces 18446744073709551616",
+            "--pieces: 18446744073709551616 is above 2^64-1, the most that a number may be (sheet plan",
+        ),
+        ("plan 5 --lost 1 --lying 1 --pieces 2", "5 is one argument too many (sheet plan"),
+    ] {
+        let (code, out, err) = place.sheet(words);
+        assert_eq!((code, out.as_str(), err), (2, "", format!("sheet: {line} --help says more)\n")));
+    }
+    assert!(!place.file("q").exists());
 }
 
 // ---- beside others
@@ -563,7 +701,7 @@ fn json_has_whole_timestamps() {
 #[test]
 fn options_are_indented() {
     let place = Place::new("indent");
-    for verb in ["new", "save", "open", "show", "check"] {
+    for verb in ["plan", "new", "save", "open", "show", "check"] {
         let (_, out, _) = place.sheet(&format!("{verb} --help"));
         let options = out.split("Options:\n").nth(1).and_then(|rest| rest.split("\n\n").next()).expect("options");
         assert!(options.lines().all(|line| line.starts_with("  --")), "{options}");

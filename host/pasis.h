@@ -57,7 +57,7 @@ enum pasis_answer {
 
   /* Refusals, in the paper's words; 20 in those of document 02, the change requests. "All leave every buffer and the session as they
    * came." 15 to 19 and 21 to 31 are kept for later interfaces. */
-  PASIS_REFUSED_PLAN = 1,     /* plan outside its rules; also not 11 bytes, or a member or clients byte above 1; a wish with b above t or m 0 */
+  PASIS_REFUSED_PLAN = 1,     /* plan outside its rules; not 11 bytes; a member or clients byte above 1; a wish with b above t or m 0 */
   PASIS_REFUSED_LENGTH = 2,   /* a lent length is wrong: book, reply or request buffer, desk, item, session, ending, counts */
   PASIS_REFUSED_BOOK = 3,     /* book not of this shape, or not of this plan (its N or F differs) */
   PASIS_REFUSED_FRAME = 4,    /* frame length (for its kind too), version, kind for this party, or node wrong; a node number of N or more */

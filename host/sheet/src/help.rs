@@ -60,14 +60,14 @@ pub fn verb(verb: &str) -> String {
 const PLAN: &str = "\
 sheet plan --lost T --lying B --pieces M [--non-repair]
 
-Prints the smallest plan for a wish, ready to be saved as a plan file: sheet new --plan and keeper take it as it is. Comments in it say what
-the plan survives, what a save costs on all nodes, and what one more node would buy: a greater T, B or M, each alone. No plan
-has more than 16 nodes; where that is too few, a line says which value to lower and how far.
+Prints the smallest plan for a wish, ready to be saved as a plan file: sheet new --plan and keeper take it as it is. Comments in it
+say what the plan survives, what a save costs on all nodes, and what one more node would buy: a greater T, B or M, each alone.
+No plan has more than 16 nodes; where that is too few, a line says which value to lower and how far.
 ";
 
 const WISH_OPTIONS: &str = "  --lost T      so many nodes may be lost or silent
   --lying B     so many of those may lie, at most T
-  --pieces M    so many good pieces of a save give its block back, 1 or more
+  --pieces M    so many good pieces (fragments) of a save give its block back, 1 or more
   --non-repair  the member non-repair: an open stores nothing, but may end aborted; without this, repairable
 ";
 

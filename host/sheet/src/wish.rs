@@ -90,10 +90,14 @@ fn lowered_together(wish: &Wish) -> Wish {
     lowered(&wish, 2).unwrap_or(wish)
 }
 
-/// What to wish for instead: one value lowered, where that is enough, each that will do; else more of them. A b above t and an m of 0 are
-/// set right first.
+/// The wish without a b above t and an m of 0.
+fn set_right(wish: &Wish) -> Wish {
+    Wish { b: wish.b.min(wish.t), m: wish.m.max(1), ..*wish }
+}
+
+/// What to wish for instead: one value lowered, where that is enough, each that will do; else more of them.
 fn instead(wish: &Wish) -> Vec<Wish> {
-    let near = Wish { b: wish.b.min(wish.t), m: wish.m.max(1), ..*wish };
+    let near = set_right(wish);
     if serve(MOST, &near) {
         return vec![near];
     }
@@ -121,8 +125,9 @@ fn reason(wish: &Wish, refusal: Refusal) -> String {
     let (t, b) = (wish.t, wish.b);
     let above = (b > t).then(|| format!("--lying {b} is above --lost {t}, of which they are a part"));
     let none = (wish.m == 0).then(|| "--pieces 0 gives no block back".to_string());
+    let few = (!serve(MOST, &set_right(wish))).then(|| format!("{MOST} nodes are too few for the rest"));
     let words = match refusal {
-        Refusal::Plan => above.into_iter().chain(none).collect::<Vec<_>>().join(", and "),
+        Refusal::Plan => [above, none, few].into_iter().flatten().collect::<Vec<_>>().join(", and "),
         _ => format!("no plan of up to {MOST} nodes serves {}", typed(wish)),
     };
     format!("{words} (refusal {})", refusal.number())

@@ -1,5 +1,5 @@
-//! `sheet plan`, as people meet it, for every wish that 16 nodes serve and for those around: what it prints is held against all plans that the
-//! library accepts, one by one, and what it advises is done and asked again.
+//! `sheet plan`, as people meet it, for every wish that 16 nodes serve and for those around: what it prints is held against all plans that
+//! the library accepts, one by one, and what it advises is done and asked again.
 
 use pasis::{Member, Plan, Wish};
 use std::process::Command;

@@ -434,7 +434,13 @@ fn bad_wishes_are_one_line() {
         ("--lost 1 --lying 1 --pieces 0", "--pieces 0 gives no block back (refusal 1): raise --pieces to 1"),
         (
             "--lost 1 --lying 2 --pieces 0",
-            "--lying 2 is above --lost 1, of which they are a part, and --pieces 0 gives no block back (refusal 1): lower --lying to 1 and raise --pieces to 1",
+            "--lying 2 is above --lost 1, of which they are a part, and --pieces 0 gives no block back (refusal 1): \
+             lower --lying to 1 and raise --pieces to 1",
+        ),
+        (
+            "--lost 10 --lying 12 --pieces 1",
+            "--lying 12 is above --lost 10, of which they are a part, and 16 nodes are too few for the rest (refusal 1): \
+             lower --lost to 3 and lower --lying to 3",
         ),
         ("--lost 5 --lying 5 --pieces 1", &format!("{over} --lost 5 --lying 5 --pieces 1 (refusal 20): lower --lying to 2")),
         (
@@ -447,7 +453,8 @@ fn bad_wishes_are_one_line() {
         ),
         (
             "--lost 9 --lying 9 --pieces 18446744073709551615",
-            &format!("{over} --lost 9 --lying 9 --pieces 18446744073709551615 (refusal 20): lower --lost to 3 and lower --lying to 3 and lower --pieces to 7"),
+            &format!("{over} --lost 9 --lying 9 --pieces 18446744073709551615 (refusal 20): \
+                 lower --lost to 3 and lower --lying to 3 and lower --pieces to 7"),
         ),
     ] {
         for verb in ["plan", "new q"] {

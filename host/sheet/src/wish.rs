@@ -183,7 +183,7 @@ fn costs(plan: &Plan) -> String {
     let (block, head, all, times) = (plan.item_size(), heads / usize::from(plan.n), pieces + heads, times(plan));
     format!(
         "a save of a block of {block} bytes takes {pieces} bytes of pieces on all nodes, {times} its size; \
-         with the heads of the records, {head} bytes a node, {all}"
+         with the heads of the records, {head} bytes a node, {all} in all"
     )
 }
 

@@ -368,7 +368,7 @@ fn a_printed_plan_is_a_plan_file() {
         "# The smallest plan for --lost 2 --lying 1 --pieces 3.\n\
          # Survives: any 2 of the 8 nodes lost or silent, even if 1 of these lies; any 3 good pieces of a save give its block back.\n\
          # Costs: a save of a block of 3072 bytes takes 8192 bytes of pieces on all nodes, about 2.67 times its size; with the heads of \
-         the records, 296 bytes a node, 10560.\n\
+         the records, 296 bytes a node, 10560 in all.\n\
          # More: the same nodes allow nothing more; one more node would buy --lying 2 or --pieces 4.\n\
          # F, clients and W have no part in N and Q and may be changed; clients is byzantine where one may lie.\n\
          N 8\nt 2\nb 1\nQ 5\nm 3\nF 1024\nmember repairable\nclients crash\nW 16\n"

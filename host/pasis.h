@@ -187,7 +187,7 @@ static inline size_t pasis_book_size(const uint8_t plan[PASIS_PLAN_SIZE], size_t
  *   counts   2 bytes (PASIS_COUNTS_SIZE), written: N at counts[0], Q at counts[1]
  *   answers 0; or refuses 1, b above t, m 0, or a member byte above 1; 2, counts is not 2 bytes; 20, no N and Q up to 16 are accepted
  *   for this wish; in that order
- * N is the smallest with which the rules above accept any Q, and Q the smallest that they accept with that N. F, clients and W have no
+ * N is the smallest with which the rules above accept some Q, and Q the smallest that they accept with that N. F, clients and W have no
  * part in this and are free in their ranges. More nodes may be had than N: then Q may stay, or rise to the most that the rules allow. */
 uint32_t pasis_smallest_plan(uint8_t member, uint64_t t, uint64_t b, uint64_t m, uint8_t *counts, size_t counts_len);
 

@@ -83,12 +83,12 @@ fn near_wish(random: &mut Random, member: u8) -> Wish {
 
 /// A wish of 64 bits, often one whose sums pass 2^64 and come out small.
 fn wide_wish(random: &mut Random, member: u8) -> Wish {
-    let little = random.below(18) as u64;
+    let (few, little) = (random.below(18) as u64, random.below(18) as u64);
     let t = wide_number(random);
     let b = match random.below(4) {
         0 => t,
         1 => random.number() % t.max(1),
-        2 => little % 3,
+        2 => few,
         _ => wide_number(random),
     };
     let m = match random.below(5) {
@@ -112,5 +112,6 @@ fn wide_number(random: &mut Random) -> u64 {
         6 => u64::MAX / 3 * random.pick(&[1, 2]),
         _ => 0,
     };
-    edge.wrapping_add(random.below(5) as u64).wrapping_sub(2)
+    let away = random.pick(&[2, 16]);
+    edge.wrapping_add(random.within(0, 2 * away) as u64).wrapping_sub(away as u64)
 }

@@ -5,7 +5,8 @@
 #include <stdlib.h>
 
 int LLVMFuzzerTestOneInput(const uint8_t *data, size_t size);
-extern unsigned long fuzz_answers[7][128];
+enum { CALLS = 8 };
+extern unsigned long fuzz_answers[CALLS][128];
 
 static uint8_t input[1 << 16];
 
@@ -18,7 +19,7 @@ int main(int count, char **files) {
     LLVMFuzzerTestOneInput(input, size);
   }
   unsigned long calls = 0, kinds = 0;
-  for (int call = 0; call < 7; call++)
+  for (int call = 0; call < CALLS; call++)
     for (int answer = 0; answer < 128; answer++) {
       calls += fuzz_answers[call][answer];
       kinds += fuzz_answers[call][answer] != 0;

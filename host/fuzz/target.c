@@ -1,7 +1,8 @@
 /* One input of bytes as a sequence of calls of libpasis.a, each held to what every caller may rely on: the answer is one of the call's
  * own; a slice that the call may only read keeps its bytes, and at a refusal every slice does; a frame that was written has its length,
- * and the bytes past it stay; a book changes by a write request alone; item and ending are written at their endings alone; the same call
- * on the same bytes does the same again. Each slice is lent as memory of exactly its length, with a fence on both sides.
+ * and the bytes past it stay; a book changes by a write request alone; item and ending are written at their endings alone; a wish gets
+ * the first N and Q that an opening accepts; the same call on the same bytes does the same again. Each slice is lent as memory of exactly
+ * its length, with a fence on both sides.
  *
  * The first bytes choose a plan, the rest are steps: a call, a change to what will be lent next, or a whole exchange of a client with a
  * node, so that deep states are near. host/try-corpus runs stored inputs; ./fuzz finds new ones. */
@@ -30,6 +31,12 @@ enum { SLICES = 6, NODES = 16, BOOK = 4096 };
 typedef uint8_t *const *Lent;
 typedef const size_t *Lengths;
 
+static uint64_t number(const uint8_t *at, size_t bytes) {
+  uint64_t n = 0;
+  for (size_t i = 0; i < bytes; i++) n = n << 8 | at[i];
+  return n;
+}
+
 static uint32_t call_fresh(Lent p, Lengths n, uint64_t k) { return pasis_fresh_book(p[0], n[0], k, p[1], n[1]); }
 static uint32_t call_node(Lent p, Lengths n, uint64_t k) {
   (void)k;
@@ -46,6 +53,11 @@ static uint32_t call_read_reply(Lent p, Lengths n, uint64_t k) {
   (void)k;
   return pasis_read_reply(p[0], n[0], p[1], n[1], p[2], n[2], p[3], n[3], p[4], n[4], p[5], n[5]);
 }
+/* A wish is lent to no call; as a slice of 25 bytes (member, t, b, m) it goes the way of the others. */
+static uint32_t call_smallest(Lent p, Lengths n, uint64_t k) {
+  (void)k;
+  return pasis_smallest_plan(p[0][0], number(p[0] + 1, 8), number(p[0] + 9, 8), number(p[0] + 17, 8), p[1], n[1]);
+}
 
 struct call {
   const char *name;
@@ -54,7 +66,7 @@ struct call {
   uint8_t answers[20];      /* other than 0 */
 };
 
-enum { FRESH, NODE, OPEN_WRITE, OPEN_READ, OWED, WRITE_REPLY, READ_REPLY, CALLS };
+enum { FRESH, NODE, OPEN_WRITE, OPEN_READ, OWED, WRITE_REPLY, READ_REPLY, SMALLEST, CALLS };
 
 static const struct call calls[CALLS] = {
     {"fresh_book", call_fresh, 2, 1 << 1, {1, 2, 4}},
@@ -64,6 +76,7 @@ static const struct call calls[CALLS] = {
     {"owed", call_owed, 4, 1 << 3, {1, 2, 9, 14, 4, 11}},
     {"write_reply", call_write_reply, 6, 1 << 1 | 1 << 3 | 1 << 5, {1, 2, 9, 14, 4, 10, 11, 101, 105}},
     {"read_reply", call_read_reply, 6, 1 << 1 | 1 << 3 | 1 << 4 | 1 << 5, {1, 2, 9, 14, 4, 10, 11, 5, 6, 12, 101, 102, 103, 104}},
+    {"smallest_plan", call_smallest, 2, 1 << 1, {1, 2, 20}},
 };
 
 /* Each call and answer that was met, for a fuzzer to see. */
@@ -106,12 +119,6 @@ static int fenced(const uint8_t *room, size_t len) {
   return 1;
 }
 
-static size_t number(const uint8_t *at, size_t bytes) {
-  size_t n = 0;
-  for (size_t i = 0; i < bytes; i++) n = n << 8 | at[i];
-  return n;
-}
-
 static int same(const uint8_t *a, const uint8_t *b, size_t from, size_t to) { return from >= to || !memcmp(a + from, b + from, to - from); }
 
 /* The frame that a call wrote into a buffer: its length, and nothing past it. */
@@ -138,6 +145,29 @@ static void accepted(unsigned which, uint32_t answer, uint8_t *const *now, const
     expect(answer == 101 || same(now[4], s[4].bytes, 0, s[4].len), call, answer, "the item was written, and the read is not done");
 }
 
+/* The first N and Q that an opening accepts for this wish with F 1 and W 1, as N times 256 and Q; 0 where there is none. */
+static unsigned first_accepted(const uint8_t *wish) {
+  static uint8_t opened[117];
+  if (number(wish + 1, 8) > 255 || number(wish + 9, 8) > 255 || number(wish + 17, 8) > 255) return 0;
+  for (uint8_t n = 1; n <= NODES; n++)
+    for (uint8_t q = 0; q <= NODES; q++) {
+      const uint8_t tried[] = {n, wish[8], wish[16], q, wish[24], 0, 1, wish[0], 0, 0, 1};
+      if (pasis_open_read(tried, sizeof tried, 0, opened, sizeof opened) == 0) return n << 8 | q;
+    }
+  return 0;
+}
+
+/* The one answer to a wish, and what is written with it. */
+static void wished(uint32_t answer, const uint8_t *counts, const struct slice *s) {
+  const uint8_t *wish = s[0].bytes;
+  unsigned first = first_accepted(wish);
+  uint32_t right = first ? 0 : 20;
+  if (s[1].len != 2) right = 2;
+  if (wish[0] > 1 || number(wish + 9, 8) > number(wish + 1, 8) || number(wish + 17, 8) == 0) right = 1;
+  expect(answer == right, &calls[SMALLEST], answer, "not the answer to this wish");
+  expect(answer || number(counts, 2) == first, &calls[SMALLEST], answer, "not the first N and Q that an opening accepts");
+}
+
 static uint32_t make(unsigned which, struct slice *s, uint64_t k) {
   const struct call *call = &calls[which];
   uint8_t *rooms[2][SLICES], *at[2][SLICES];
@@ -161,6 +191,7 @@ static uint32_t make(unsigned which, struct slice *s, uint64_t k) {
     expect(!stays || same(at[0][i], s[i].bytes, 0, s[i].len), call, answer, "a byte changed that must stay");
   }
   if (answer == 0 || answer > 31) accepted(which, answer, at[0], s);
+  if (which == SMALLEST) wished(answer, at[0][1], s);
   for (unsigned i = 0; i < call->slices; i++) {
     if (s[i].len) memcpy(s[i].bytes, at[0][i], s[i].len);
     free(rooms[0][i]);
@@ -181,6 +212,7 @@ static const uint8_t plans[][11] = {
 };
 
 static uint8_t plan[16], session[128], frame[2048], reply[2048], books[NODES][BOOK], desk[NODES * 1600], item[NODES * 1024], ending[64];
+static uint8_t wish[25], counts[3];
 
 static struct {
   const uint8_t *at;
@@ -266,6 +298,28 @@ static void exchange(struct lent *l, size_t node) {
   if (owed(l, node) == 0 && to_node(l, node) == 0) to_client(l, session[0] ? READ_REPLY : WRITE_REPLY);
 }
 
+/* One number of a wish: the next byte if it is small, or the 8 bytes after it. */
+static void wish_number(uint8_t *at) {
+  uint64_t n = take(1);
+  if (n >= 240) n = take(8);
+  for (unsigned i = 8; i > 0; n >>= 8) at[--i] = (uint8_t)n;
+}
+
+static void make_wish(size_t len) {
+  struct slice s[] = {{wish, sizeof wish}, {counts, len}};
+  memset(counts, 0xc3, sizeof counts);
+  wish[0] = (uint8_t)take(1);
+  for (unsigned i = 0; i < 3; i++) wish_number(wish + 1 + 8 * i);
+  make(SMALLEST, s, 0);
+}
+
+static void fresh_books(struct lent *l) {
+  for (size_t i = 0; i < NODES; i++) {
+    struct slice s[] = {l->plan, l->book[i]};
+    make(FRESH, s, i);
+  }
+}
+
 static void change(struct lent *l, int length) {
   size_t room;
   struct slice *s = chosen(l, take(1), &room);
@@ -292,10 +346,8 @@ static void step(struct lent *l) {
     case 7: change(l, 0); break;
     case 8: change(l, 1); break;
     case 9:
-      for (size_t i = 0; i < NODES; i++) {
-        struct slice s[] = {l->plan, l->book[i]};
-        make(FRESH, s, i);
-      }
+      if (k < 5 || k >= 15) fresh_books(l);
+      else make_wish(k < 12 ? 2 : k == 14 ? 3 : k - 12); /* lent 2 bytes, or 0, 1, 3 */
       break;
     case 10: exchange(l, k); break;
     default:

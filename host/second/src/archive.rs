@@ -49,4 +49,8 @@ impl Library for Archive {
     ) -> u32 {
         pasis_raw::read_reply(plan, session, reply, desk, item, ending)
     }
+
+    fn smallest_plan(&mut self, member: u8, t: u64, b: u64, m: u64, counts: &mut [u8]) -> u32 {
+        pasis_raw::smallest_plan(member, t, b, m, counts)
+    }
 }

@@ -5,9 +5,10 @@
 //! ANSWER A B C D E
 //! ```
 //!
-//! CALL is 01 fresh_book, 02 node, 03 open_write, 04 open_read, 05 owed, 06 write_reply, 07 read_reply; NUMBER the node or ask
-//! number in 8 bytes, zero where the call takes none; PLAN its plan slice; A to E the lent slices in the order of the call (book; request, book, reply;
-//! session; session, desk, request; session, reply, desk, item, ending). ANSWER is the number, decimal; after it each slice as it is after
+//! CALL is 01 fresh_book, 02 node, 03 open_write, 04 open_read, 05 owed, 06 write_reply, 07 read_reply, 08 smallest_plan; NUMBER the node
+//! or ask number in 8 bytes, zero where the call takes none; PLAN its plan slice, of 08 the wish in 25 bytes: member 1, t 8, b 8, m 8; A
+//! to E the lent slices in the order of the call (book; request, book, reply; session; session, desk, request; session, reply, desk, item,
+//! ending; counts). ANSWER is the number, decimal; after it each slice as it is after
 //! the call, or a dot where it is as lent. Bytes are lower-case hex, a minus where there are none; a call that is lent fewer than five
 //! slices has a minus, and after the call a dot, for each of the others. Every line stands by itself.
 
@@ -22,7 +23,7 @@ const SLICES: usize = 5;
 /// short, so that the files stay small. Where half of the calls looked at had no such case, any will do that is not long.
 const LONG: usize = 1400;
 const SHORT: usize = 450;
-/// The calls looked at.
+/// The calls looked at, of histories: wishes come from a generator of their own, so they are not counted.
 const TRIED: usize = 200_000;
 
 /// The cases of one answer of one call.
@@ -45,17 +46,21 @@ impl Maker for Picker<'_> {
         if self.tried == TRIED {
             return Err(Stop::Enough);
         }
-        self.tried += 1;
+        self.tried += usize::from(call.kind != Kind::SmallestPlan);
         let outcome = apart(&mut Second, &call);
         let stored = &mut self.stored[call.kind as usize][outcome.number as usize];
         let lent: usize = call.lent.iter().map(Vec::len).sum();
-        let faults = call.plan.get(1).is_some_and(|t| *t > 0);
+        // of a wish the member, of any other call the plan
+        let (faults, differs) = match call.wish() {
+            Some(wish) => (wish.t > 0, stored.plan.first() != Some(&wish.member)),
+            None => (call.plan.get(1).is_some_and(|t| *t > 0), stored.plan != call.plan),
+        };
         let good = match stored.cases {
             _ if self.tried > TRIED / 2 => lent <= LONG,
             0 => lent <= LONG && faults,
             _ => lent <= SHORT,
         };
-        if stored.cases < self.count && good && stored.plan != call.plan {
+        if stored.cases < self.count && good && differs {
             stored.cases += 1;
             stored.plan = call.plan.clone();
             (self.out)(&call, &outcome);
@@ -105,7 +110,9 @@ pub fn parse(text: &str) -> Option<Call> {
     let number = u64::from_be_bytes(number.as_slice().try_into().ok()?);
     let (lent, rest) = lent.split_at_checked(kind.slices().len())?;
     let shaped = lent.len() + rest.len() == SLICES && rest.iter().all(Vec::is_empty);
-    shaped.then(|| Call { kind, plan: plan.clone(), number, lent: lent.to_vec() })
+    let call = Call { kind, plan: plan.clone(), number, lent: lent.to_vec() };
+    let wished = kind != Kind::SmallestPlan || (call.wish().is_some() && number == 0);
+    (shaped && wished).then_some(call)
 }
 
 fn bytes(field: &str) -> Option<Vec<u8>> {

@@ -2,9 +2,12 @@
 //! The first library is lent each slice apart; the other has all of them in one area, with guard bytes between, at shifting places.
 
 use crate::library::{make, Call, Kind, Library};
+use crate::wish::Wish;
 
-/// The answers counted: 0 to 14 and 101 to 105.
-pub const NUMBERS: [u32; 20] = [0, 1, 2, 3, 4, 5, 6, 7, 8, 9, 10, 11, 12, 13, 14, 101, 102, 103, 104, 105];
+/// The answers counted: 0 to 14, 20 and 101 to 105.
+pub const NUMBERS: [u32; 21] = [0, 1, 2, 3, 4, 5, 6, 7, 8, 9, 10, 11, 12, 13, 14, 20, 101, 102, 103, 104, 105];
+/// The refusals among them.
+const REFUSALS: std::ops::RangeInclusive<u32> = 1..=20;
 /// How often each answer must have been met.
 pub const ENOUGH: u64 = 100;
 const GUARD: u8 = 0xa5;
@@ -72,7 +75,7 @@ pub struct Driver<'a> {
 }
 
 /// What an accepted call may do beside its answer, as its bytes tell.
-const TURNS: [&str; 9] = [
+const TURNS: [&str; 10] = [
     "record stored",
     "held record acknowledged",
     "record below a bound",
@@ -82,6 +85,7 @@ const TURNS: [&str; 9] = [
     "repair round opened",
     "done without repair",
     "done after repair",
+    "smallest plan of 16 nodes",
 ];
 
 /// Which of them this call did.
@@ -100,6 +104,7 @@ fn turn(call: &Call, outcome: &Outcome) -> Option<&'static str> {
         (Kind::ReadReply, 0) if staged => Some("repair round opened"),
         (Kind::ReadReply, 101) if before[1] == 0 => Some("done without repair"),
         (Kind::ReadReply, 101) => Some("done after repair"),
+        (Kind::SmallestPlan, 0) if after[0] == 16 => Some("smallest plan of 16 nodes"),
         _ => None,
     }
 }
@@ -136,7 +141,7 @@ impl<'a> Driver<'a> {
         if !call.kind.answers().contains(&number) {
             return Err(self.wrong(call, &format!("answer {number} is not one of this call")));
         }
-        if (1..=14).contains(&number) && outcome.lent != call.lent {
+        if REFUSALS.contains(&number) && outcome.lent != call.lent {
             return Err(self.wrong(call, &format!("refusal {number} changed a lent byte")));
         }
         let column = NUMBERS.iter().position(|other| *other == number).expect("every answer of a call is counted");
@@ -147,19 +152,20 @@ impl<'a> Driver<'a> {
         Ok(())
     }
 
-    fn met(&self, kind: Kind, number: u32) -> u64 {
+    /// How often this call gave this answer.
+    pub fn met(&self, kind: Kind, number: u32) -> u64 {
         let column = NUMBERS.iter().position(|other| *other == number).expect("an answer");
         self.counts[kind as usize][column]
     }
 
     /// One row for each call, one column for each answer; a dot where the call cannot give that answer.
     pub fn table(&self) -> String {
-        let mut text = format!("{:<12}", "");
+        let mut text = format!("{:<13}", "");
         for number in NUMBERS {
             text += &format!("{number:>7}");
         }
         for kind in Kind::ALL {
-            text += &format!("\n{:<12}", kind.name());
+            text += &format!("\n{:<13}", kind.name());
             for number in NUMBERS {
                 let met = kind.answers().contains(&number).then(|| self.met(kind, number));
                 text += &met.map_or(format!("{:>7}", "."), |met| format!("{met:>7}"));
@@ -187,10 +193,13 @@ impl<'a> Driver<'a> {
     }
 }
 
-/// The two outcomes of one call, and the call itself, in hex.
+/// The two outcomes of one call, and the call itself: a wish in numbers, the rest in hex.
 fn difference(call: &Call, one: &Outcome, two: &Outcome) -> String {
     let mut text = format!("answers {} and {}", one.number, two.number);
-    text += &format!("\n  plan {} number {}", hex(&call.plan), call.number);
+    text += &match call.wish() {
+        Some(Wish { member, t, b, m }) => format!("\n  wish member {member} t {t} b {b} m {m}"),
+        None => format!("\n  plan {} number {}", hex(&call.plan), call.number),
+    };
     for (i, slice) in call.kind.slices().iter().enumerate() {
         text += &format!("\n  {slice:?} {}", hex(&call.lent[i]));
         let (a, b) = (&one.lent[i], &two.lent[i]);

@@ -1,5 +1,5 @@
 //! Whole histories of calls from a seed: saves, opens, partial and poisonous saves, silent nodes, liars, damaged books, repeated and late
-//! frames. Before a call of the history is made, changed copies of it are made too, and their outcomes dropped.
+//! frames. Before a call of the history is made, changed copies of it are made too, and their outcomes dropped. After each come some wishes.
 
 use crate::book::Book;
 use crate::craft::{self, Size};
@@ -11,15 +11,15 @@ use crate::plan::Plan;
 use crate::random::Random;
 use crate::record::{Record, Timestamp};
 use crate::session::{Operation, Session, Stage};
-use crate::wire;
+use crate::{wire, wishes};
 
-/// Makes histories until the maker stops them.
+/// Makes histories until the maker stops them. The wishes between them have a generator of their own, so that no history depends on them.
 pub fn histories(seed: u64, size: Size, maker: &mut dyn Maker) -> Stop {
-    let mut random = Random::new(seed);
+    let (mut random, mut wishing) = (Random::new(seed), Random::new(!seed));
     loop {
         let plan = craft::plan(&mut random, size);
         let mut world = World::new(&mut random, plan, size);
-        if let Err(stop) = world.history(maker) {
+        if let Err(stop) = world.history(maker).and_then(|()| wishes::some(&mut wishing, maker)) {
             return stop;
         }
     }
@@ -110,7 +110,7 @@ impl World<'_> {
         let often = match kind {
             Kind::Node | Kind::Owed => 40,
             Kind::WriteReply | Kind::ReadReply => 65,
-            Kind::FreshBook | Kind::OpenWrite | Kind::OpenRead => 75,
+            _ => 75,
         };
         while self.random.chance(often) {
             let mut other = call.clone();

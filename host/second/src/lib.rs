@@ -1,6 +1,6 @@
-//! A second program for document 01, written from the documents alone: it shares no code, no table and no data layout in memory with
-//! the proved library. Modules in the order of document 01; `wire` is the host interface on bytes; `library`, `craft`, `mutate`,
-//! `gen`, `driver` and `cases` make and compare calls.
+//! A second program for document 01 and Q-1 of document 02, written from the documents alone: it shares no code, no table and no data
+//! layout in memory with the proved library. The modules follow the documents; `wire` is the host interface on bytes; `library`, `craft`,
+//! `mutate`, `gen`, `wishes`, `driver` and `cases` make and compare calls.
 
 pub mod book;
 pub mod cases;
@@ -21,6 +21,8 @@ pub mod refusal;
 pub mod session;
 pub mod sha256;
 pub mod wire;
+pub mod wish;
+pub mod wishes;
 pub mod writer;
 
 #[cfg(feature = "archive")]

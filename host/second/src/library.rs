@@ -1,6 +1,7 @@
-//! What is compared: the seven calls of the host interface, as a trait, and a call as a value.
+//! What is compared: the eight calls of the host interface, as a trait, and a call as a value.
 
 use crate::wire;
+use crate::wish::Wish;
 
 /// The host interface. Our own program is one, the proved library's archive another.
 pub trait Library {
@@ -27,6 +28,7 @@ pub trait Library {
         item: &mut [u8],
         ending: &mut [u8],
     ) -> u32;
+    fn smallest_plan(&mut self, member: u8, t: u64, b: u64, m: u64, counts: &mut [u8]) -> u32;
 }
 
 /// Our own program.
@@ -76,6 +78,10 @@ impl Library for Second {
     ) -> u32 {
         wire::read_reply(plan, session, reply, desk, item, ending)
     }
+
+    fn smallest_plan(&mut self, member: u8, t: u64, b: u64, m: u64, counts: &mut [u8]) -> u32 {
+        wire::smallest_plan(member, t, b, m, counts)
+    }
 }
 
 #[derive(Clone, Copy, Debug, PartialEq, Eq)]
@@ -87,6 +93,7 @@ pub enum Kind {
     Owed,
     WriteReply,
     ReadReply,
+    SmallestPlan,
 }
 
 /// What lies in a lent slice; `Out` is a buffer that a frame or an ending is written into.
@@ -98,12 +105,21 @@ pub enum Slice {
     Session,
     Desk,
     Item,
+    Counts,
     Out,
 }
 
 impl Kind {
-    pub const ALL: [Kind; 7] =
-        [Kind::FreshBook, Kind::Node, Kind::OpenWrite, Kind::OpenRead, Kind::Owed, Kind::WriteReply, Kind::ReadReply];
+    pub const ALL: [Kind; 8] = [
+        Kind::FreshBook,
+        Kind::Node,
+        Kind::OpenWrite,
+        Kind::OpenRead,
+        Kind::Owed,
+        Kind::WriteReply,
+        Kind::ReadReply,
+        Kind::SmallestPlan,
+    ];
 
     pub fn name(self) -> &'static str {
         match self {
@@ -114,10 +130,11 @@ impl Kind {
             Kind::Owed => "owed",
             Kind::WriteReply => "write_reply",
             Kind::ReadReply => "read_reply",
+            Kind::SmallestPlan => "smallest_plan",
         }
     }
 
-    /// Every answer that document 01 allows to this call, refusals in their order.
+    /// Every answer that the documents allow to this call, refusals in their order.
     pub fn answers(self) -> &'static [u32] {
         match self {
             Kind::FreshBook => &[0, 1, 2, 4],
@@ -126,15 +143,16 @@ impl Kind {
             Kind::Owed => &[0, 1, 2, 9, 14, 4, 11],
             Kind::WriteReply => &[0, 1, 2, 9, 14, 4, 10, 11, 101, 105],
             Kind::ReadReply => &[0, 1, 2, 9, 14, 4, 10, 11, 5, 6, 12, 101, 102, 103, 104],
+            Kind::SmallestPlan => &[0, 1, 2, 20],
         }
     }
 
     /// Whether the call takes a node or ask number.
     pub fn numbered(self) -> bool {
-        !matches!(self, Kind::Node | Kind::WriteReply | Kind::ReadReply)
+        matches!(self, Kind::FreshBook | Kind::OpenWrite | Kind::OpenRead | Kind::Owed)
     }
 
-    /// The lent slices after the plan, in the order of the call.
+    /// The lent slices after the plan or the wish, in the order of the call.
     pub fn slices(self) -> &'static [Slice] {
         match self {
             Kind::FreshBook => &[Slice::Book],
@@ -142,11 +160,13 @@ impl Kind {
             Kind::OpenWrite | Kind::OpenRead => &[Slice::Session],
             Kind::Owed => &[Slice::Session, Slice::Desk, Slice::Out],
             Kind::WriteReply | Kind::ReadReply => &[Slice::Session, Slice::Reply, Slice::Desk, Slice::Item, Slice::Out],
+            Kind::SmallestPlan => &[Slice::Counts],
         }
     }
 }
 
-/// One call: bytes in, and after it bytes out. `number` is the node or the ask number, 0 where the call takes none.
+/// One call: bytes in, and after it bytes out. `plan` is the plan's slice, or the wish in its 25 bytes; `number` is the node or the ask
+/// number, 0 where the call takes none.
 #[derive(Clone, Debug, PartialEq, Eq)]
 pub struct Call {
     pub kind: Kind,
@@ -160,6 +180,27 @@ impl Call {
     pub fn place(&self, slice: Slice) -> Option<usize> {
         self.kind.slices().iter().position(|other| *other == slice)
     }
+
+    /// A call for the smallest plan.
+    pub fn of_wish(wish: Wish, counts: Vec<u8>) -> Call {
+        let Wish { member, t, b, m } = wish;
+        let plan = [&[member][..], &t.to_be_bytes(), &b.to_be_bytes(), &m.to_be_bytes()].concat();
+        Call { kind: Kind::SmallestPlan, plan, number: 0, lent: vec![counts] }
+    }
+
+    /// The wish of a call for the smallest plan.
+    pub fn wish(&self) -> Option<Wish> {
+        wish_from(&self.plan).filter(|_| self.kind == Kind::SmallestPlan)
+    }
+}
+
+/// The wish of 25 bytes: member, then t, b and m in 8 each. The host interface takes it as four numbers; these bytes are how a call and
+/// a stored case hold it.
+pub fn wish_from(bytes: &[u8]) -> Option<Wish> {
+    let (&member, numbers) = bytes.split_first()?;
+    let ([t, b, m], []) = numbers.as_chunks() else { return None };
+    let [t, b, m] = [t, b, m].map(|number| u64::from_be_bytes(*number));
+    Some(Wish { member, t, b, m })
 }
 
 /// Makes a call on slices, wherever they lie.
@@ -175,6 +216,10 @@ pub fn make(library: &mut dyn Library, kind: Kind, plan: &[u8], number: u64, len
         }
         (Kind::ReadReply, [session, reply, desk, item, ending]) => {
             library.read_reply(plan, session, reply, desk, item, ending)
+        }
+        (Kind::SmallestPlan, [counts]) => {
+            let Wish { member, t, b, m } = wish_from(plan).expect("a wish");
+            library.smallest_plan(member, t, b, m, counts)
         }
         (kind, lent) => panic!("{} is not lent {} slices", kind.name(), lent.len()),
     }

@@ -1,4 +1,5 @@
 //! second run SEED COUNT            random histories, COUNT calls, compared; exit 1 if they differ or an answer was met too seldom
+//! second wishes SEED               every small wish and 10,000 of 64 bits, compared; exit 1 if they differ or an answer was met too seldom
 //! second emit SEED COUNT stdin     stored calls on standard output, up to COUNT of each answer of each call (their form: cases.rs)
 //! second emit SEED COUNT stdout    the outcomes of the same calls, by the second program
 //! second replay                    makes the stored calls on standard input again, and writes their outcomes
@@ -13,6 +14,7 @@ use second::craft::Size;
 use second::driver::{Driver, Outcome, Stop, ENOUGH};
 use second::gen::histories;
 use second::library::{Call, Second};
+use second::wishes;
 
 #[cfg(feature = "archive")]
 use second::archive::Archive as Other;
@@ -26,17 +28,21 @@ const COMPARED: &str =
     "the second program against ITSELF, its slices laid out otherwise: no archive is linked, so this run counts \
                         what the generator meets and says nothing of the proved library";
 
+const USAGE: &str =
+    "usage: second run SEED COUNT | second wishes SEED | second emit SEED COUNT stdin|stdout | second replay";
+
 fn main() -> ExitCode {
     let words: Vec<String> = std::env::args().skip(1).collect();
     let words: Vec<&str> = words.iter().map(String::as_str).collect();
     let outcome = match words[..] {
         ["run", seed, count] => numbers(seed, count).and_then(|(seed, count)| run(seed, count)),
+        ["wishes", seed] => seed.parse().map_err(|_| "SEED is a number".into()).and_then(wishes),
         ["emit", seed, count, "stdin"] => {
             numbers(seed, count).and_then(|(seed, count)| emit(seed, count, |call, _| asked(call)))
         }
         ["emit", seed, count, "stdout"] => numbers(seed, count).and_then(|(seed, count)| emit(seed, count, answered)),
         ["replay"] => replay(),
-        _ => Err("usage: second run SEED COUNT | second emit SEED COUNT stdin|stdout | second replay".into()),
+        _ => Err(USAGE.into()),
     };
     match outcome {
         Ok(()) => ExitCode::SUCCESS,
@@ -71,6 +77,11 @@ fn run(seed: u64, count: u64) -> Result<(), String> {
         "{} calls: every answer and every lent byte equal, each answer of each call met {ENOUGH} times or more",
         driver.made
     );
+    Ok(())
+}
+
+fn wishes(seed: u64) -> Result<(), String> {
+    println!("{COMPARED}: wishes, {}", wishes::compare(&mut Second, &mut Other, seed)?);
     Ok(())
 }
 

@@ -37,18 +37,28 @@ pub enum Class {
     Unclassifiable,
 }
 
+/// The greatest N.
+pub const NODES: u8 = 16;
+
+/// Whether N, t, b, Q and m meet their ranges and Table 2. It is written with sums alone, so that nothing is taken from a smaller number;
+/// the numbers may have 64 bits, and the sums here have 128.
+pub fn fits(member: Member, [n, t, b, q, m]: [u128; 5]) -> bool {
+    let ranges = (1..=NODES.into()).contains(&n) && b <= t;
+    let table = t + b < q
+        && 1 <= m
+        && match member {
+            Member::Repairable => q + t + b <= n && m + t <= q,
+            Member::NonRepair => q + 2 * t + 2 * b <= n && m <= q + b,
+        };
+    ranges && table
+}
+
 impl Plan {
-    /// Refusal 1. Table 2 is written with sums alone, so that nothing is taken from a smaller number.
+    /// Refusal 1.
     pub fn accepted(&self) -> Result<(), Refusal> {
         let Plan { n, t, b, q, m, f, w, .. } = *self;
-        let ranges = (1..=16).contains(&n) && b <= t && (1..=1024).contains(&f) && (1..=65_535).contains(&w);
-        let table = t + b < q
-            && 1 <= m
-            && match self.member {
-                Member::Repairable => q + t + b <= n && m + t <= q,
-                Member::NonRepair => q + 2 * t + 2 * b <= n && m <= q + b,
-            };
-        require(ranges && table, Refusal::Plan)
+        let ranges = (1..=1024).contains(&f) && (1..=65_535).contains(&w);
+        require(ranges && fits(self.member, [n, t, b, q, m].map(|number| number as u128)), Refusal::Plan)
     }
 
     /// The replies that end a round.

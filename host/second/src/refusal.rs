@@ -1,4 +1,4 @@
-//! The refusal numbers (document 01, "Refusal numbers").
+//! The refusal numbers (document 01, "Refusal numbers"; document 02, Q-1).
 
 #[derive(Clone, Copy, Debug, PartialEq, Eq)]
 pub enum Refusal {
@@ -16,6 +16,7 @@ pub enum Refusal {
     Bound = 12,
     Opening = 13,
     Ended = 14,
+    Wish = 20,
 }
 
 /// One step of a call's order of refusals: go on if `met`, else refuse with this number.

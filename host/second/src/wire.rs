@@ -1,11 +1,12 @@
-//! The host interface: each call on bytes, with one number as its answer. 0 is accepted and open (or served, or opened), 1 to 14 are
-//! the refusals, 101 to 105 the endings.
+//! The host interface: each call on bytes, with one number as its answer. 0 is accepted and open (or served, or opened), 1 to 14 and 20
+//! are the refusals, 101 to 105 the endings.
 //!
 //! Plan, 11 bytes: N, t, b, Q, m, F (2), member (0 repairable, 1 non-repair), clients (0 crash, 1 Byzantine), W (2).
 //! Session, 117 bytes: operation (0 write, 1 read), stage (0 asking, 1 storing, 2 ended), round (2), bound (0 and forty zeros, or 1
 //! and the timestamp), opening ask number (8), greatest time (8), timestamp being written (40), 16 marks (0 unheard, 1 first triple,
 //! 2 record). Ending, 42 bytes, written at an ending only: timestamp (zero where it has none), rounds (2, zero for a write).
-//! A plan slice of another length is refusal 1, a session or ending slice of another length 2, bytes that code no session 9.
+//! Counts, 2 bytes: N and Q. A plan slice of another length is refusal 1, a session, ending or counts slice of another length 2, bytes
+//! that code no session 9.
 
 use crate::frame::Ask;
 use crate::node;
@@ -14,11 +15,13 @@ use crate::reader;
 use crate::record::Timestamp;
 use crate::refusal::{require, Refusal};
 use crate::session::{self, Answer, Mark, Operation, Session, Stage};
+use crate::wish::Wish;
 use crate::writer;
 
 pub const PLAN: usize = 11;
 pub const SESSION: usize = 117;
 pub const ENDING: usize = 42;
+pub const COUNTS: usize = 2;
 
 /// None where the bytes are no plan; whether it is within its rules is not asked here.
 pub fn plan_from(bytes: &[u8]) -> Option<Plan> {
@@ -114,6 +117,19 @@ fn accepted(plan: &[u8]) -> Result<Plan, Refusal> {
     let plan = plan_from(plan).ok_or(Refusal::Plan)?;
     plan.accepted()?;
     Ok(plan)
+}
+
+pub fn smallest_plan(member: u8, t: u64, b: u64, m: u64, counts: &mut [u8]) -> u32 {
+    number(smallest(&Wish { member, t, b, m }, counts))
+}
+
+/// Order of refusals: 1, 2, 20 (document 02, Q-1).
+fn smallest(wish: &Wish, counts: &mut [u8]) -> Result<u32, Refusal> {
+    let member = wish.member()?;
+    require(counts.len() == COUNTS, Refusal::Length)?;
+    let (n, q) = wish.smallest(member)?;
+    counts.copy_from_slice(&[n, q]);
+    Ok(0)
 }
 
 pub fn fresh_book(plan: &[u8], node: u64, book: &mut [u8]) -> u32 {

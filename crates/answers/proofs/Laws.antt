@@ -1,7 +1,7 @@
--- The bytes of an ending. Assumes nothing.
-use Prim.Native.Nat.{ℕ}
+-- The bytes of an ending, and of N and Q. Assumes nothing.
+use Prim.Native.Nat.{ℕ, _+_}
 use mathlib.Core.Path.{_≡_, sym, ap, _∙_}
-use mathlib.Core.List.{List}
+use mathlib.Core.List.{List, _++_}
 use native.Mathlib.Omega.{arith}
 use lib.ListN.{length, length-append}
 use Rattle.octets.specs.Bytes.{put, be}
@@ -12,13 +12,27 @@ use Rattle.terms.specs.declared.Timestamp.{Timestamp}
 use Rattle.terms.proofs.Stamps.{zero-number}
 use Rattle.session.specs.declared.Answer.{Answer}
 use Rattle.session.specs.Session.{saidOf}
-use Rattle.answers.specs.Answers.{endingBytes, endingAfter}
+use Rattle.wish.specs.declared.Smallest.{Smallest}
+use Rattle.wish.specs.Wish.{saidSmallest}
+use Rattle.answers.specs.Answers.{countsBytes, countsAfter, endingBytes, endingAfter}
+
+-- two numbers one after the other, which fill a slice
+pub two-put : (x x₁ x₂ : List ℕ) (m n j k : ℕ) → length x ≡ m + n → x₁ ≡ put x 0 (be m j) → x₂ ≡ put x₁ m (be n k) → x₂ ≡ be m j ++ be n k
+two-put x x₁ x₂ m n j k l f g =
+    g ∙ ap (λ (w : List ℕ). put w m (be n k)) f ∙ put-then x 0 m (be m j) (be n k) (let h = length-be m j in omega arith) (omega arith)
+    ∙ put-whole x _ (l ∙ sym (length-append (be m j) (be n k) ∙ (λ i. length-be m j i + length-be n k i)))
 
 pub ending-put : (e e₁ e₂ : List ℕ) (t n : ℕ) → length e ≡ 42 → e₁ ≡ put e 0 (be 40 t) → e₂ ≡ put e₁ 40 (be 2 n) → e₂ ≡ endingBytes t n
 unfolding endingBytes
-ending-put e e₁ e₂ t n l f g =
-    g ∙ ap (λ (w : List ℕ). put w 40 (be 2 n)) f ∙ put-then e 0 40 (be 40 t) (be 2 n) (simp length-be) (omega arith)
-    ∙ put-whole e _ (l ∙ sym (simp (length-append, length-be)))
+ending-put e e₁ e₂ t n = two-put e e₁ e₂ 40 2 t n
+
+pub counts-put : (y y₁ y₂ : List ℕ) (n q : ℕ) → length y ≡ 2 → y₁ ≡ put y 0 (be 1 n) → y₂ ≡ put y₁ 1 (be 1 q) → y₂ ≡ countsBytes n q
+unfolding countsBytes
+counts-put y y₁ y₂ n q = two-put y y₁ y₂ 1 1 n q
+
+-- a wish's answer that a match told
+pub counts-told : (a b : Smallest) (y y₂ : List ℕ) → a ≡ b → y₂ ≡ countsAfter (saidSmallest b) y → y₂ ≡ countsAfter (saidSmallest a) y
+counts-told a b y y₂ f g = g ∙ ap (λ (w : Smallest). countsAfter (saidSmallest w) y) (sym f)
 
 -- an answer that a match told
 pub ending-told : (a b : Answer) (e e₂ : List ℕ) → a ≡ b → e₂ ≡ endingAfter (saidOf b) e → e₂ ≡ endingAfter (saidOf a) e

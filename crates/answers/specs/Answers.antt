@@ -1,23 +1,21 @@
 -- What a call answers, as a host is told it. Each call answers a number: 0 where it was served, opened, written, or accepted and the
--- operation is open; 1 to 14 the refusals of document 01, "Refusal numbers" (15 to 31 are kept free); 101 done, 102 never written, 103 aborted, 104 rounds spent, 105
+-- operation is open; 1 to 31 the refusals of the documents, "Refusal numbers" (15 to 19 and 21 to 31 are kept free); 101 done, 102 never written, 103 aborted, 104 rounds spent, 105
 -- clock spent. An ending is 42 bytes: timestamp 40, rounds 2.
 --   madeNumber servedNumber dueNumber answerNumber   an answer as a number
+--   smallestNumber countsBytes countsAfter   the answer of a wish; N and Q in a byte each, written where it is not refused
 --   endingBytes endingAfter   the ending bytes; written at an ending only
---   refusals refusalAt endingOf answerOf   the answer that a number and ending bytes are
+--   endingOf answerOf         the answer that a number and ending bytes are
 --   bothFit lentLadder        1 and 2 of the lengths, before the call's own order
 -- Assumes nothing.
-use Prim.Native.Nat.{ℕ, _-_}
+use Prim.Native.Nat.{ℕ}
 use mathlib.Core.Bool.{Bool, cond, not}
 use mathlib.Core.List.{List, [], _∷_, _++_}
 use lib.Dec.{leb, eqb}
-use lib.ListN.{getD}
 use Rattle.octets.specs.Bytes.{part, num, be}
 use Rattle.terms.specs.Ladder.{Rung, on, _and_}
 use Rattle.terms.specs.Stamp.{stampNumber, stampAt}
-use Rattle.terms.specs.Terms.{planOk}
+use Rattle.terms.specs.Terms.{planOk, refusalAt}
 use Rattle.terms.specs.declared.Plan.{Plan}
-use Rattle.terms.specs.declared.Refusal.{Refusal}
-use Rattle.terms.specs.declared.Refusal.the-variants.{OutsidePlan, WrongLength, WrongBook, WrongFrame, TimeZero, HashFails, OtherBytes, NoRoom, OutOfRange, NotAwaited, AlreadyHeard, NotBelow, AskTooHigh, HasEnded}
 use Rattle.terms.specs.declared.Timestamp.{Timestamp}
 use Rattle.node.specs.Fresh as fresh
 use Rattle.node.specs.Fresh.{SaidMade}
@@ -28,6 +26,8 @@ use Rattle.session.specs.Session.{Said, refused, stillOpen, done, neverWritten,
 use Rattle.session.specs.Owed as owed
 use Rattle.packing.specs.SessionBytes.{sessionLength}
 use Rattle.session.specs.Owed.{Due}
+use Rattle.wish.specs.Wish as wish
+use Rattle.wish.specs.Wish.{SaidSmallest}
 
 -- ---- answers
 abbrev pub madeNumber : SaidMade → ℕ
@@ -51,6 +51,17 @@ answerNumber (aborted n) = 103
 answerNumber (roundsSpent n) = 104
 answerNumber clockSpent = 105
 
+abbrev pub smallestNumber : SaidSmallest → ℕ
+smallestNumber (wish.refused k) = k
+smallestNumber (wish.counts n q) = 0
+
+unfoldable pub countsBytes : ℕ → ℕ → List ℕ
+countsBytes n q = be 1 n ++ be 1 q
+
+unfoldable pub countsAfter : SaidSmallest → List ℕ → List ℕ
+countsAfter (wish.refused k) old = old
+countsAfter (wish.counts n q) old = countsBytes n q
+
 -- ---- endings
 -- timestamp and rounds: zero where an ending has none
 unfoldable pub endingBytes : ℕ → ℕ → List ℕ
@@ -66,14 +77,6 @@ endingAfter (roundsSpent n) old = endingBytes 0 n
 endingAfter clockSpent old = endingBytes 0 0
 
 -- ---- read back
--- in the order of their numbers
-abbrev pub refusals : List Refusal
-refusals =
-    OutsidePlan ∷ WrongLength ∷ WrongBook ∷ WrongFrame ∷ TimeZero ∷ HashFails ∷ OtherBytes ∷ NoRoom ∷ OutOfRange ∷ NotAwaited ∷ AlreadyHeard ∷ NotBelow ∷ AskTooHigh ∷ HasEnded ∷ []
-
-abbrev pub refusalAt : ℕ → Refusal
-refusalAt k = getD refusals (k - 1) HasEnded
-
 abbrev pub endingOf : ℕ → Timestamp → ℕ → Answer
 endingOf k t n = cond (eqb k 101) (Done t n) (cond (eqb k 102) (NeverWritten n) (cond (eqb k 103) (Aborted n) (cond (eqb k 104) (RoundsSpent n) ClockSpent)))
 

@@ -1,10 +1,11 @@
 // What a call answers, as a host is told it: a number for each answer, and the 42 bytes of an ending. 0 is served, opened, or accepted and
-// open; 1 to 14 are document 01's refusals, and 15 to 31 are kept free; 101 to 105 the endings. Before the call come 1 and 2 of what a host lends.
+// open; 1 to 31 the documents' refusals, of which 15 to 19 and 21 to 31 are kept free; 101 to 105 the endings. Before the call come 1 and 2 of what a host lends.
 use node::Made;
 use session::Answer;
 use session::owed::Owed;
 use terms::Plan;
 use terms::Timestamp;
+use wish::Smallest;
 ghost use mathlib.Core.Path.{_≡_};
 ghost use lib.ListN.{length};
 ghost use Rattle.terms.specs.Ladder.{first};
@@ -13,7 +14,8 @@ ghost use Rattle.node.specs.Node.{saidServed};
 ghost use Rattle.node.specs.Fresh.{saidMade};
 ghost use Rattle.session.specs.Session.{saidOf, isRefused};
 ghost use Rattle.session.specs.Owed.{dueOf};
-ghost use Rattle.answers.specs.Answers.{bothFit, lentLadder, madeNumber, servedNumber, dueNumber, answerNumber, endingBytes, endingAfter};
+ghost use Rattle.wish.specs.Wish.{saidSmallest};
+ghost use Rattle.answers.specs.Answers.{bothFit, lentLadder, madeNumber, servedNumber, dueNumber, answerNumber, smallestNumber, countsBytes, countsAfter, endingBytes, endingAfter};
 
 pub fn made_number(m: Made) -> u32
     ensures { λ r. ⌜ r ≡ madeNumber (saidMade m) ⌝ }
@@ -53,6 +55,35 @@ pub fn answer_number(a: Answer) -> u32
         Answer::Aborted(_) => 103,
         Answer::RoundsSpent(_) => 104,
         Answer::ClockSpent => 105,
+    }
+}
+
+pub fn smallest_number(a: Smallest) -> u32
+    ensures { λ r. ⌜ r ≡ smallestNumber (saidSmallest a) ⌝ }
+{
+    match a {
+        Smallest::Refused(r) => r.number(),
+        Smallest::Counts(_, _) => 0,
+    }
+}
+
+// Writes N and Q.
+fn write_counts(n: u64, q: u64, counts: &mut [u8])
+    requires { ⌜ length (now counts) ≡ 2 ⌝ }
+    ensures { λ _. ⌜ now (counts .exit) ≡ countsBytes n q ⌝ }
+{
+    octets::put_num(counts, 0, 1, n);
+    octets::put_num(counts, 1, 1, q);
+}
+
+// Writes the counts that an answer tells, if it tells any.
+pub fn put_counts(a: Smallest, counts: &mut [u8])
+    requires { ⌜ length (now counts) ≡ 2 ⌝ }
+    ensures { λ _. ⌜ now (counts .exit) ≡ countsAfter (saidSmallest a) (now (counts .entry)) ⌝ }
+{
+    match a {
+        Smallest::Refused(_) => {}
+        Smallest::Counts(n, q) => write_counts(n, q, counts),
     }
 }
 

@@ -19,7 +19,7 @@ use Rattle.terms.specs.declared.Refusal.{Refusal}
 use Rattle.terms.specs.declared.Refusal.the-variants.{OutsidePlan}
 use Rattle.terms.specs.declared.Timestamp.{Timestamp}
 use Rattle.terms.specs.Ladder.{Given}
-use Rattle.terms.proofs.Rungs.{refusal-one}
+use Rattle.terms.proofs.Rungs.{refusal-one, refusal-low}
 use Rattle.rounds.specs.declared.Bound.the-variants.{Free}
 use Rattle.session.specs.declared.Session.{Session}
 use Rattle.standing.specs.declared.Operation.{Operation}
@@ -38,7 +38,6 @@ use Rattle.session.specs.Reader.{ReadReplyCall, Outcome}
 use Rattle.session.specs.Writer.{WriteReplyCall, Leaves}
 use Rattle.session.proofs.Openings.{opening-one}
 use Rattle.session.proofs.Oweds.{due-one}
-use Rattle.session.proofs.Checks.{refusal-low}
 use Rattle.client.specs.Endings.{readLadder, writeLadder, ReadGives, WriteGives}
 use Rattle.terms.proofs.Ladders as ladders
 use Rattle.client.proofs.Reading as reading

@@ -1,19 +1,17 @@
--- Every case of the table of edges holds. Assumes nothing.
+-- Every case of the two tables of edges holds. Assumes nothing.
 use Prim.{tt}
 use Prim.Native.Nat.{ℕ}
-use mathlib.Core.Path.{_≡_, refl, sym, _∙_}
+use mathlib.Core.Path.{_≡_, refl, _∙_}
 use mathlib.Core.Bool.{Bool, true, false}
-use mathlib.Core.List.{List, _∷_}
+use mathlib.Core.List.{List, [], _∷_}
 use lib.Dec.{leb}
-use borrow.Author.Tests.{le-leb}
 use Rattle.fragments.proofs.Examples.{product-57-83, product-57-13, column-00-80, column-57-57}
 use Rattle.terms.specs.Ladder.{first, all}
-use Rattle.terms.specs.Terms.{planOk, countsOk, limitsOk, columnOf, COMPLETE, INCOMPLETE, classOf, decided}
+use Rattle.terms.specs.Terms.{planOk, countsOk, columnOf, COMPLETE, INCOMPLETE, classOf, decided}
 use Rattle.terms.specs.declared.Plan.{Plan}
 use Rattle.terms.specs.declared.Member.{Member}
 use Rattle.terms.specs.declared.Member.the-variants.{Repairable, NonRepair}
 use Rattle.terms.specs.declared.Class.the-variants.{Unclassifiable}
-use Rattle.terms.proofs.Picks.{itself}
 use Rattle.terms.proofs.Facts.{none-unclassifiable}
 use Rattle.node.specs.Node.{served}
 use Rattle.node.specs.Fresh.{freshened}
@@ -21,19 +19,11 @@ use Rattle.session.specs.Opening.{openWith}
 use Rattle.session.specs.Owed.{owedTo}
 use Rattle.session.specs.Writer.{writeReply}
 use Rattle.session.specs.Reader.{readReply}
-use Rattle.demands.specs.Edges.{Counts, countsOf, planWith, Every, RefusedOne, CasesHold, firstPlan, secondPlan, table}
-
--- the rules of a plan that F and W have no part in
-abbrev rulesOk : Counts → Bool
-rulesOk s = countsOk (s .member) (s .n) (s .t) (s .b) (s .q) (s .m)
-
--- with F and W in range, they decide
-in-range : (s : Counts) → Every s (λ (p : Plan). planOk p ≡ rulesOk s)
-unfolding planOk limitsOk all
-in-range s F W c f₁ f₂ w₁ w₂ = rw (le-leb 1 F f₁, le-leb F 1024 f₂, le-leb 1 W w₁, le-leb W 65535 w₂) (sym (itself (rulesOk s)))
-
-accepts : (s : Counts) → rulesOk s ≡ true → Every s (λ (p : Plan). planOk p ≡ true)
-accepts s e F W c f₁ f₂ w₁ w₂ = in-range s F W c f₁ f₂ w₁ w₂ ∙ e
+use Rattle.wish.specs.Wish.{Counts, countsOf, planWith, Every, SaidSmallest}
+use Rattle.wish.specs.Closed.{larger, answerFor}
+use Rattle.wish.proofs.Laws.{rulesOk, in-range, accepts}
+use Rattle.wish.proofs.Calls.{answer-is}
+use Rattle.demands.specs.Edges.{RefusedOne, CasesHold, firstPlan, secondPlan, table, WishCase, WishesHold, wishTable}
 
 refused-one : (p : Plan) → planOk p ≡ false → RefusedOne p
 unfolding served freshened openWith owedTo writeReply readReply first
@@ -135,3 +125,24 @@ edges = (
     ),
   ),
 )
+
+-- ---- wishes: every answer is that of the closed forms
+abbrev answersOf : List WishCase → List SaidSmallest
+answersOf [] = []
+answersOf (c ∷ cs) = c .answer ∷ answersOf cs
+
+abbrev formsOf : List WishCase → List SaidSmallest
+formsOf [] = []
+formsOf (c ∷ cs) = answerFor (c .wish) ∷ formsOf cs
+
+by-forms : (cs : List WishCase) → formsOf cs ≡ answersOf cs → WishesHold cs
+by-forms [] e = tt
+by-forms (c ∷ cs) e =
+    let h : answerFor (c .wish) ≡ c .answer = cc in
+    let l : formsOf cs ≡ answersOf cs = cc in
+    ((λ a d. answer-is (c .wish) a d ∙ h), by-forms cs l)
+
+-- EVERY EDGE OF Q-1 HOLDS
+pub wish-edges : WishesHold wishTable
+unfolding larger answerFor
+wish-edges = by-forms wishTable refl

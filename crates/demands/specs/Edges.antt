@@ -1,12 +1,13 @@
--- Document 01, "Both sides of each edge": the cases marked *, as one table. The one theorem over it is `edges` of proofs/Edges.antt.
---   Counts, planWith     a plan without F, W and its clients; its plan with these three
+-- Document 01, "Both sides of each edge": the cases marked *, as one table; and the edges of document 02, Q-1, as a second. The theorems over
+-- them are `edges` and `wish-edges` of proofs/Edges.antt. Counts and Every are those of `wish`: a plan without F, W and its clients, and its
+-- plans for every F and W in their ranges and both client models.
 --   RefusedOne          refused 1, by every call
---   Every               its plans for every F and W in their ranges, and both client models
 --   Case, table         the document's cases and what it says of each, in its order
 --   CaseHolds CasesHold          that what is said of a case is so, and of each case of a list
+--   WishCase wishTable WishesHold   wishes and their answers; that each is so
 -- Assumes nothing.
 use Prim.{Unit}
-use Prim.Native.Nat.{ℕ, _≤_}
+use Prim.Native.Nat.{ℕ}
 use mathlib.Core.Path.{_≡_}
 use mathlib.Core.Bool.{true, false}
 use mathlib.Core.List.{List, [], _∷_}
@@ -16,10 +17,14 @@ use Rattle.terms.specs.Terms.{planOk, COMPLETE, INCOMPLETE, classOf, decided}
 use Rattle.terms.specs.declared.Plan.{Plan}
 use Rattle.terms.specs.declared.Member.{Member}
 use Rattle.terms.specs.declared.Member.the-variants.{Repairable, NonRepair}
-use Rattle.terms.specs.declared.Clients.{Clients}
 use Rattle.terms.specs.declared.Class.the-variants.{Unclassifiable}
 use Rattle.terms.specs.declared.Verdict.{Verdict}
 use Rattle.terms.specs.declared.Verdict.the-variants.{Complete, Repair, Aborted, Incomplete}
+use Rattle.terms.specs.Stamp.{top}
+use Rattle.wish.specs.declared.Wish.{Wish}
+use Rattle.wish.specs.declared.Smallest.{Smallest}
+use Rattle.wish.specs.Wish.{Counts, countsOf, Every, SaidSmallest, counts, saidSmallest, SmallestCall}
+use Rattle.wish.specs.Wish as wish
 use Rattle.node.specs.Node.{served, servedOutcome, refused}
 use Rattle.node.specs.Fresh.{freshened, freshOutcome}
 use Rattle.node.specs.Fresh as fresh
@@ -34,23 +39,6 @@ use Rattle.session.specs.Owed.{dues, owedTo}
 use Rattle.session.specs.Writer.{leaves, writeReply}
 use Rattle.session.specs.Reader as reader
 use Rattle.session.specs.Reader.{readReply}
-
-pub record Counts : Type 0 where
-  pub member : Member
-  pub n : ℕ
-  pub t : ℕ
-  pub b : ℕ
-  pub q : ℕ
-  pub m : ℕ
-
-abbrev pub countsOf : Member → (n t b q m : ℕ) → Counts
-countsOf k n t b q m = record { member = k; n = n; t = t; b = b; q = q; m = m }
-
-abbrev pub planWith : Counts → (F W : ℕ) → Clients → Plan
-planWith s F W c = record { n = s .n; t = s .t; b = s .b; q = s .q; m = s .m; f = F; member = s .member; clients = c; w = W }
-
-abbrev pub Every : Counts → (Plan → Type 0) → Type 0
-Every s P = (F W : ℕ) (c : Clients) → 1 ≤ F → F ≤ 1024 → 1 ≤ W → W ≤ 65535 → P (planWith s F W c)
 
 -- refused 1: outside the plan's rules, and every call answers 1 whatever it is lent, and leaves it
 pub record RefusedOne (p : Plan) : Type 0 where
@@ -130,3 +118,59 @@ CaseHolds (constant x y byte) = All (λ (k : ℕ). fragment 2 1 (x ∷ y ∷ [])
 abbrev pub CasesHold : List Case → Type 0
 CasesHold [] = Unit {0}
 CasesHold (c ∷ cs) = CaseHolds c × CasesHold cs
+
+-- ---- document 02, Q-1
+abbrev pub wishOf : Member → (t b m : ℕ) → Wish
+wishOf k t b m = record { member = k; t = t; b = b; m = m }
+
+-- a wish, and what it is answered: its smallest N and Q, or a refusal
+pub record WishCase : Type 0 where
+  pub wish : Wish
+  pub answer : SaidSmallest
+
+abbrev pub grant : Wish → (n q : ℕ) → WishCase
+grant w n q = record { wish = w; answer = counts n q }
+
+abbrev pub deny : Wish → ℕ → WishCase
+deny w k = record { wish = w; answer = wish.refused k }
+
+abbrev pub wishTable : List WishCase
+wishTable =
+    -- document 01's two plans, and the smallest of all
+    grant (wishOf Repairable 1 1 2) 5 3 ∷
+    grant (wishOf NonRepair 1 1 4) 7 3 ∷
+    grant (wishOf Repairable 0 0 1) 1 1 ∷
+    grant (wishOf NonRepair 0 0 1) 1 1 ∷
+    -- t5 b5; the last b with t5, and the last m with both; one more of each
+    deny (wishOf Repairable 5 5 1) 20 ∷
+    deny (wishOf Repairable 5 3 1) 20 ∷
+    deny (wishOf Repairable 5 2 5) 20 ∷
+    grant (wishOf Repairable 5 2 4) 16 9 ∷
+    deny (wishOf NonRepair 5 5 1) 20 ∷
+    deny (wishOf NonRepair 5 1 1) 20 ∷
+    deny (wishOf NonRepair 5 0 7) 20 ∷
+    grant (wishOf NonRepair 5 0 6) 16 6 ∷
+    -- the last t, and the last m, of all
+    grant (wishOf Repairable 7 0 2) 16 9 ∷
+    deny (wishOf Repairable 8 0 1) 20 ∷
+    deny (wishOf NonRepair 6 0 1) 20 ∷
+    grant (wishOf Repairable 0 0 16) 16 16 ∷
+    grant (wishOf NonRepair 0 0 16) 16 16 ∷
+    deny (wishOf Repairable 0 0 17) 20 ∷
+    deny (wishOf NonRepair 0 0 17) 20 ∷
+    -- b above t; m 0; both before 20
+    deny (wishOf Repairable 1 2 1) 1 ∷
+    deny (wishOf NonRepair 0 0 0) 1 ∷
+    deny (wishOf NonRepair 20 21 1) 1 ∷
+    deny (wishOf Repairable 20 20 0) 1 ∷
+    -- values of 2^64-1
+    deny (wishOf Repairable top top top) 20 ∷
+    deny (wishOf NonRepair top top top) 20 ∷
+    deny (wishOf Repairable top 0 1) 20 ∷
+    deny (wishOf NonRepair 0 0 top) 20 ∷
+    deny (wishOf Repairable 0 top 1) 1 ∷ []
+
+-- whatever answer the contract of the call allows, it is this
+abbrev pub WishesHold : List WishCase → Type 0
+WishesHold [] = Unit {0}
+WishesHold (c ∷ cs) = ((a : Smallest) → SmallestCall (c .wish) a → saidSmallest a ≡ c .answer) × WishesHold cs

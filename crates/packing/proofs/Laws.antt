@@ -23,7 +23,9 @@ use Rattle.rounds.specs.declared.Bound.the-variants.{Free, Under}
 use Rattle.standing.specs.declared.Round.{Round}
 use Rattle.session.specs.declared.Session.{Session}
 use Rattle.standing.proofs.Rules.{or-holds, or-last, and-fails, and-last}
-use Rattle.packing.specs.PlanBytes.{field, planShaped}
+use Rattle.terms.specs.declared.Member.{Member}
+use Rattle.wish.specs.declared.Wish.{Wish}
+use Rattle.packing.specs.PlanBytes.{field, memberOf, planShaped}
 use Rattle.packing.specs.SessionBytes.{sessionLength, operationByte, stageByte, markByte, boundBytes, markBytes, roundBytes, askBytes, heardBytes, sessionBytes, heardOf, boundShaped, marksShaped, marksOf, sessionShaped}
 
 -- ---- a case by its number
@@ -180,3 +182,7 @@ session-put s x x₁ x₂ k l e1 e2 =
     let whole : askBytes s ++ heardBytes s ≡ sessionBytes s = unfold sessionBytes in refl in
     e2 ∙ ap (λ (y : List ℕ). put y 53 (heardBytes s)) e1 ∙ put-then x 0 53 (askBytes s) (heardBytes s) (simp length-ask) (omega arith)
     ∙ ap (put x 0) whole ∙ over-start x (sessionBytes s) ∙ over-whole (sessionBytes s) x (l ∙ sym (length-session s k))
+
+-- ---- a wish
+pub wish-by : (k : Member) (j t b m : ℕ) → k ≡ memberOf j → _≡_ {A = Wish} (record { member = k; t = t; b = b; m = m }) (record { member = memberOf j; t = t; b = b; m = m })
+wish-by k j t b m e = λ i. record { member = e i; t = t; b = b; m = m }

@@ -5,6 +5,7 @@
 --   planBytes              a plan laid out
 --   planShaped planAt      whether some bytes code a plan, and the plan that they code
 --   noPlan planOf          any bytes as a plan: those that code none give one outside its rules, so that every call refuses it 1
+--   noWish wishOf          a member byte, t, b and m as a wish; a byte that codes no member likewise gives one that the call refuses 1
 -- Assumes nothing.
 use Prim.Native.Nat.{ℕ}
 use mathlib.Core.Bool.{Bool, cond}
@@ -18,6 +19,7 @@ use Rattle.terms.specs.declared.Member.{Member}
 use Rattle.terms.specs.declared.Member.the-variants.{Repairable, NonRepair}
 use Rattle.terms.specs.declared.Clients.{Clients}
 use Rattle.terms.specs.declared.Clients.the-variants.{Crash, Byzantine}
+use Rattle.wish.specs.declared.Wish.{Wish}
 
 abbrev pub field : List ℕ → ℕ → ℕ → ℕ
 field x at n = num (part x at n)
@@ -65,3 +67,10 @@ noPlan = record { n = 0; t = 0; b = 0; q = 0; m = 0; f = 0; member = Repairable;
 
 unfoldable pub planOf : List ℕ → Plan
 planOf x = cond (planShaped x) (planAt x) noPlan
+
+-- m is 0
+abbrev pub noWish : Wish
+noWish = record { member = Repairable; t = 0; b = 0; m = 0 }
+
+unfoldable pub wishOf : (k t b m : ℕ) → Wish
+wishOf k t b m = cond (leb k 1) (record { member = memberOf k; t = t; b = b; m = m }) noWish

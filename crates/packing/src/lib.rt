@@ -13,13 +13,14 @@ use terms::Member;
 use terms::Plan;
 use terms::Time;
 use terms::Timestamp;
+use wish::Wish;
 ghost use mathlib.Core.Path.{_≡_};
 ghost use mathlib.Core.List.{_++_};
 ghost use Prim.Native.Nat.{_≤_};
 ghost use lib.ListN.{length};
 ghost use Rattle.octets.specs.Bytes.{put, be};
 ghost use Rattle.terms.specs.Stamp.{stampNumber, stampAt};
-ghost use Rattle.packing.specs.PlanBytes.{field, memberOf, clientsOf, planShaped, planAt, noPlan, planOf};
+ghost use Rattle.packing.specs.PlanBytes.{field, memberOf, clientsOf, planShaped, planAt, noPlan, planOf, wishOf};
 ghost use Rattle.packing.specs.SessionBytes.{sessionLength, operationByte, stageByte, markByte, boundBytes, markBytes, roundBytes, askBytes, heardBytes, sessionBytes, operationOf, stageOf, heardOf, boundShaped, boundOf, marksShaped, marksOf, sessionShaped, roundAt, sessionAt, sessionOf};
 
 // The bytes of a session.
@@ -41,6 +42,28 @@ fn clients_of(k: u64) -> Clients
         return Clients::Crash;
     }
     Clients::Byzantine
+}
+
+// A wish of a member byte, t, b and m.
+pub fn wish_of(member: u8, t: u64, b: u64, m: u64) -> Wish
+    ensures { λ r. ⌜ r ≡ wishOf member t b m ⌝ }
+{
+    if member > 1 {
+        let none = Member::Repairable;
+        return Wish {
+            member: none,
+            t: 0,
+            b: 0,
+            m: 0,
+        };
+    }
+    let known = member_of(member as u64);
+    Wish {
+        member: known,
+        t: t,
+        b: b,
+        m: m,
+    }
 }
 
 // Whether some bytes code a plan.

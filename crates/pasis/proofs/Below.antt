@@ -15,7 +15,7 @@ use lib.ListN.{length}
 use Rattle.octets.specs.Bytes.{Octets}
 use Rattle.octets.proofs.Meaning.{octets-all}
 use Rattle.terms.specs.Ladder.{Rung, first, rung, None}
-use Rattle.terms.specs.Terms.{planOk, openingOk}
+use Rattle.terms.specs.Terms.{planOk, openingOk, refusalAt}
 use Rattle.terms.proofs.Down.{clear}
 use Rattle.terms.proofs.Ladders.{by-ladder, is-passed}
 use Rattle.terms.proofs.Picks.{either}
@@ -37,7 +37,7 @@ use Rattle.packing.specs.PlanBytes.{planOf}
 use Rattle.packing.specs.SessionBytes.{sessionLength, sessionBytes, sessionOf}
 use Rattle.packing.proofs.Inverse.{session-back}
 use Rattle.packing.proofs.Laws.{length-session}
-use Rattle.answers.specs.Answers.{bothFit, lentLadder, dueNumber, answerNumber, endingAfter, refusalAt, answerOf}
+use Rattle.answers.specs.Answers.{bothFit, lentLadder, dueNumber, answerNumber, endingAfter, answerOf}
 use Rattle.pasis.specs.Client.{sessionFits, sessionAfter, OpenedBytes, openedBytes, openedAs, openBytes, OpenServes, Asked, asked, askedAs, owedBytes, OwedServes, TookBytes, tookBytes, tookAs, withItem, readBytes, writeBytes, WriteServes, ReadServes}
 use Rattle.pasis.proofs.Carried.{Lasts, Carried, opened-lasts, read-carried, write-carried, given-refusal, answer-back}
 use Rattle.pasis.proofs.Nine.{lent-none}

@@ -19,7 +19,7 @@ use Rattle.octets.proofs.Meaning.{octets-be, octets-append, octets-drop, octets
 use Rattle.sha256.proofs.Laws.{octets-sha256}
 use Rattle.sha256.specs.Sha256.{sha256}
 use Rattle.terms.specs.Ladder.{Rung, rung, Given, None, _and_}
-use Rattle.terms.specs.Terms.{planOk, openingOk, recordLength, slotsOf, slotAt, thresholdsOf, refusalNumber}
+use Rattle.terms.specs.Terms.{planOk, openingOk, recordLength, slotsOf, slotAt, thresholdsOf, refusalNumber, refusalAt}
 use Rattle.terms.specs.Stamp.{stampAt, stampNumber, zeroStamp, time, top}
 use Rattle.terms.specs.declared.Plan.{Plan}
 use Rattle.terms.specs.declared.Refusal.{Refusal}
@@ -56,7 +56,7 @@ use Rattle.session.specs.Writer.{Leaves, leaves, timedOf, newTime, timeEnd, tim
 use Rattle.session.proofs.ReadKept.{asking}
 use Rattle.packing.specs.PlanBytes.{field}
 use Rattle.packing.proofs.Inverse.{Wide, Fits, wide-at, field-small, cut, cut-stamp}
-use Rattle.answers.specs.Answers.{refusalAt, answerNumber, endingBytes, endingAfter, answerOf}
+use Rattle.answers.specs.Answers.{answerNumber, endingBytes, endingAfter, answerOf}
 use Rattle.pasis.specs.Client.{withItem}
 use Rattle.pasis.proofs.Laws.{numbers, of-given}
 

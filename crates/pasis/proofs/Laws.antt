@@ -11,7 +11,7 @@ use Rattle.terms.specs.Ladder.{Rung, on, first, Given, _and_}
 use Rattle.terms.specs.Terms.{refusalNumber}
 use Rattle.terms.specs.declared.Plan.{Plan}
 use Rattle.terms.specs.declared.Refusal.{Refusal}
-use Rattle.terms.proofs.Rungs.{both}
+use Rattle.terms.proofs.Rungs.{both, refusal-low}
 use Rattle.rounds.specs.declared.Bound.the-variants.{Free}
 use Rattle.node.specs.declared.Answer as nodes
 use Rattle.node.specs.declared.Made.{Made}
@@ -29,7 +29,7 @@ use Rattle.session.specs.Opening.{Opens, openingNumber, openWith, OpenCall}
 use Rattle.session.specs.Owed.{dueOf, owedTo, OwedCall}
 use Rattle.session.specs.Writer.{Leaves, writeReply, WriteReplyCall}
 use Rattle.session.specs.Reader.{Outcome, readReply, ReadReplyCall}
-use Rattle.session.proofs.Checks.{none-applies, goes-on, stops, refusal-low}
+use Rattle.session.proofs.Checks.{none-applies, goes-on, stops}
 use Rattle.packing.specs.PlanBytes.{planOf}
 use Rattle.packing.specs.SessionBytes.{sessionLength, sessionBytes, sessionOf}
 use Rattle.answers.specs.Answers.{answerNumber, bothFit, dueNumber, endingAfter, lentLadder, madeNumber, servedNumber}

@@ -4,11 +4,13 @@
 //     CALL NUMBER PLAN A B C D E     in: which call, its node or ask number in 8 bytes, its plan slice, its other slices in their order
 //     ANSWER A B C D E               out: the number answered, and each slice after the call, or a dot where it is as lent
 //
-// CALL is 01 fresh_book, 02 node, 03 open_write, 04 open_read, 05 owed, 06 write_reply, 07 read_reply. Bytes are in hexadecimal, a minus
-// where there are none; a call that is lent fewer than five slices has a minus for each of the others.
+// CALL is 01 fresh_book, 02 node, 03 open_write, 04 open_read, 05 owed, 06 write_reply, 07 read_reply, 08 smallest_plan, whose plan slice is
+// the wish: member 1, t 8, b 8, m 8. Bytes are in hexadecimal, a minus where there are none; a call that is lent fewer than five slices has a
+// minus for each of the others.
 use libc::STDIN_FILENO;
 use libc::STDOUT_FILENO;
 use pasis::client;
+use pasis::plans;
 use pasis::store;
 ghost use Prim.Native.Nat.{_*_, _≤_, _<_};
 ghost use mathlib.Core.Path.{_≡_};
@@ -114,6 +116,17 @@ fn tell(text: &[u8], at: usize, after: &[u8]) -> usize {
 
 // ---- a call
 
+// The smallest plan of a wish in 25 bytes.
+fn smallest(wish: &[u8], counts: &mut [u8]) -> u32 {
+    if wish.len() != 25 {
+        return 0;
+    }
+    let t = octets::get(wish, 1, 8);
+    let b = octets::get(wish, 9, 8);
+    let m = octets::get(wish, 17, 8);
+    plans::pasis_smallest_plan(wish[0], t, b, m, counts)
+}
+
 // Makes the call of this number on its slices.
 fn make(
     call: u8,
@@ -133,6 +146,7 @@ fn make(
         5 => client::pasis_owed(plan, a, number, b, c),
         6 => client::pasis_write_reply(plan, a, b, c, d, e),
         7 => client::pasis_read_reply(plan, a, b, c, d, e),
+        8 => smallest(plan, a),
         _ => 0,
     }
 }

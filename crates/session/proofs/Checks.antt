@@ -10,8 +10,7 @@ use lib.Dec.{leb}
 use Rattle.terms.specs.Ladder.{Rung, first, _and_, None}
 use Rattle.terms.specs.Terms.{refusalNumber}
 use Rattle.terms.specs.declared.Refusal.{Refusal}
-use Rattle.terms.specs.declared.Refusal.the-variants.{OutsidePlan, WrongLength, WrongBook, WrongFrame, TimeZero, HashFails, OtherBytes, NoRoom, OutOfRange, NotAwaited, AlreadyHeard, NotBelow, AskTooHigh, HasEnded}
-use Rattle.terms.proofs.Rungs.{both}
+use Rattle.terms.proofs.Rungs.{both, refusal-low}
 use Rattle.terms.proofs.Ladders.{by-ladder, is-passed, is-given}
 
 -- no refusal of a ladder has the number 0
@@ -57,25 +56,6 @@ module _ {A : Type 0} (refuse : ℕ → A) (pass : A) where
           → refuse k ≡ cond c (refuse (x .number)) (first xs refuse pass)
       go true g ih = ap refuse (sym g)
       go false g ih = ih g
-
-low : (r : Refusal) → leb 1 (refusalNumber r) ≡ true
-low OutsidePlan = refl
-low WrongLength = refl
-low WrongBook = refl
-low WrongFrame = refl
-low TimeZero = refl
-low HashFails = refl
-low OtherBytes = refl
-low NoRoom = refl
-low OutOfRange = refl
-low NotAwaited = refl
-low AlreadyHeard = refl
-low NotBelow = refl
-low AskTooHigh = refl
-low HasEnded = refl
-
-pub refusal-low : (r : Refusal) → 1 ≤ refusalNumber r
-refusal-low r = leb-true 1 (refusalNumber r) (low r)
 
 -- the two arms of a match on what a ladder came to, by its number
 module _ (l : List Rung) (x : ℕ) (e : x ≡ first l (λ (k : ℕ). k) 0) where

@@ -11,7 +11,7 @@ use Rattle.terms.specs.Terms.{planOk, openingOk, slotsOf}
 use Rattle.terms.specs.declared.Ask.{Ask}
 use Rattle.terms.specs.declared.Plan.{Plan}
 use Rattle.terms.proofs.Plans.{plan-is}
-use Rattle.terms.proofs.Rungs.{refusal-one}
+use Rattle.terms.proofs.Rungs.{refusal-one, refusal-low}
 use Rattle.terms.proofs.Down.{clear}
 use Rattle.terms.specs.Stamp.{top}
 use Rattle.rounds.specs.declared.Bound.the-variants.{Free}
@@ -24,7 +24,7 @@ use Rattle.rounds.specs.Rounds.{unheards, noneFirst}
 use Rattle.standing.specs.Standing.{isRead, roundRules}
 use Rattle.session.specs.Ranges.{standingRules, inRange}
 use Rattle.session.specs.Opening.{openingLadder, freshOf, openingNumber, opens, Opens, noSession, openWith, OpenCall}
-use Rattle.session.proofs.Checks.{first-map, none-applies, goes-on, refusal-low}
+use Rattle.session.proofs.Checks.{first-map, none-applies, goes-on}
 use Rattle.session.proofs.Made.{rest-unheards, none-unheards, few-unheards, slots-unheards, open-in-range}
 
 -- the number tells the answer

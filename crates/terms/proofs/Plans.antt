@@ -150,7 +150,7 @@ leb-same a b c d f g = go (leb c d) refl
     go true e = le-leb a b (g (leb-true c d e))
     go false e = sym (not-ok (leb a b) (λ k. clash (sym (le-leb c d (f (leb-true a b k))) ∙ e)))
 
-column-common : (k : Member) (n t b q m : ℕ) → Column k n t b q m → (t + b + 1 ≤ q) × (1 ≤ m)
+pub column-common : (k : Member) (n t b q m : ℕ) → Column k n t b q m → (t + b + 1 ≤ q) × (1 ≤ m)
 column-common Repairable n t b q m c = (c .0, c .2)
 column-common NonRepair n t b q m c = (c .0, c .2)
 

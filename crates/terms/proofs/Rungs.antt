@@ -2,14 +2,15 @@
 use mathlib.Core.Path.{_≡_, refl, sym, ap, _∙_}
 use mathlib.Core.Bool.{Bool, true, false, cond}
 use mathlib.Core.List.{List, [], _∷_}
-use Prim.Native.Nat.{ℕ}
+use Prim.Native.Nat.{ℕ, _≤_}
 use Prim.{tt}
 use native.Mathlib.Omega.{arith}
 use lib.Dec.{eqb}
+use borrow.Author.Tests.{eqb-true, eqb-false}
 use Rattle.terms.specs.Ladder.{Rung, on, first, None}
-use Rattle.terms.specs.Terms.{refusalNumber}
+use Rattle.terms.specs.Terms.{refusalNumber, refusalAt}
 use Rattle.terms.specs.declared.Refusal.{Refusal}
-use Rattle.terms.specs.declared.Refusal.the-variants.{OutsidePlan, WrongLength, WrongBook, WrongFrame, TimeZero, HashFails, OtherBytes, NoRoom, OutOfRange, NotAwaited, AlreadyHeard, NotBelow, AskTooHigh, HasEnded}
+use Rattle.terms.specs.declared.Refusal.the-variants.{OutsidePlan, WrongLength, WrongBook, WrongFrame, TimeZero, HashFails, OtherBytes, NoRoom, OutOfRange, NotAwaited, AlreadyHeard, NotBelow, AskTooHigh, HasEnded, NoPlan}
 
 pub clash : true ≡ false → ⊥
 clash e = let z : _≡_ {A = ℕ} 0 1 = cc in omega arith
@@ -67,14 +68,7 @@ passes-is (x ∷ xs) e = go (x .applies) refl e (passes-is xs)
     go false f g ih = (f, ih g)
 
 -- ---- the numbers are one-to-one
-refusalOf : ℕ → Refusal
-refusalOf k =
-    cond (eqb k 1) OutsidePlan (cond (eqb k 2) WrongLength (cond (eqb k 3) WrongBook (cond (eqb k 4) WrongFrame (cond (eqb k 5) TimeZero
-    (cond (eqb k 6) HashFails (cond (eqb k 7) OtherBytes (cond (eqb k 8) NoRoom (cond (eqb k 9) OutOfRange (cond (eqb k 10) NotAwaited
-    (cond (eqb k 11) AlreadyHeard (cond (eqb k 12) NotBelow (cond (eqb k 13) AskTooHigh HasEnded))))))))))))
-
-refusal-back : (r : Refusal) → refusalOf (refusalNumber r) ≡ r
-unfolding refusalOf
+refusal-back : (r : Refusal) → refusalAt (refusalNumber r) ≡ r
 refusal-back OutsidePlan = refl
 refusal-back WrongLength = refl
 refusal-back WrongBook = refl
@@ -89,6 +83,15 @@ refusal-back AlreadyHeard = refl
 refusal-back NotBelow = refl
 refusal-back AskTooHigh = refl
 refusal-back HasEnded = refl
+refusal-back NoPlan = refl
 
 pub refusal-one : (r s : Refusal) → refusalNumber r ≡ refusalNumber s → r ≡ s
-refusal-one r s e = sym (refusal-back r) ∙ ap refusalOf e ∙ refusal-back s
+refusal-one r s e = sym (refusal-back r) ∙ ap refusalAt e ∙ refusal-back s
+
+-- and none is 0
+pub refusal-low : (r : Refusal) → 1 ≤ refusalNumber r
+refusal-low r = go (eqb (refusalNumber r) 0) refl
+  where
+    go : (t : Bool) → eqb (refusalNumber r) 0 ≡ t → 1 ≤ refusalNumber r
+    go true e = let h : refusalNumber r ≡ 1 = ap refusalNumber (sym (refusal-back r) ∙ ap refusalAt (eqb-true (refusalNumber r) 0 e)) in omega arith
+    go false e = let h = eqb-false (refusalNumber r) 0 e in omega arith

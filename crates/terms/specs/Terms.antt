@@ -7,12 +7,13 @@
 --   COMPLETE INCOMPLETE thresholdsOf   the two thresholds of a plan
 --   classOf                   the class of a candidate set of a size, by two thresholds
 --   unsure verdictOf decided  what a read decides by: the class and the member
---   refusalNumber             the document's number of a refusal
+--   refusalNumber             the documents' number of a refusal
+--   refusals refusalAt        every refusal; the one of a number
 -- Assumes nothing.
 use Prim.Native.Nat.{ℕ, _+_, _-_, _*_}
 use mathlib.Core.Bool.{Bool, cond}
 use mathlib.Core.List.{List, [], _∷_}
-use lib.Dec.{ltb, leb}
+use lib.Dec.{ltb, leb, eqb}
 use Rattle.terms.specs.Ladder.{all, _and_}
 use Rattle.terms.specs.Stamp.{top}
 use Rattle.terms.specs.declared.Plan.{Plan}
@@ -25,7 +26,7 @@ use Rattle.terms.specs.declared.Class.the-variants as class
 use Rattle.terms.specs.declared.Verdict.{Verdict}
 use Rattle.terms.specs.declared.Verdict.the-variants as verdict
 use Rattle.terms.specs.declared.Refusal.{Refusal}
-use Rattle.terms.specs.declared.Refusal.the-variants.{OutsidePlan, WrongLength, WrongBook, WrongFrame, TimeZero, HashFails, OtherBytes, NoRoom, OutOfRange, NotAwaited, AlreadyHeard, NotBelow, AskTooHigh, HasEnded}
+use Rattle.terms.specs.declared.Refusal.the-variants.{OutsidePlan, WrongLength, WrongBook, WrongFrame, TimeZero, HashFails, OtherBytes, NoRoom, OutOfRange, NotAwaited, AlreadyHeard, NotBelow, AskTooHigh, HasEnded, NoPlan}
 
 -- Table 2, the column of a member: t+b+1 ≤ Q ≤ N-t-b and 1 ≤ m ≤ Q-t, or t+b+1 ≤ Q ≤ N-2t-2b and 1 ≤ m ≤ Q+b
 unfoldable pub columnOf : Member → (n t b q m : ℕ) → List Bool
@@ -94,7 +95,7 @@ verdictOf member class.Incomplete = verdict.Incomplete
 unfoldable pub decided : Member → (high low size : ℕ) → Verdict
 decided member high low size = verdictOf member (classOf high low size)
 
--- "Refusal numbers"
+-- "Refusal numbers", and those of document 02
 abbrev pub refusalNumber : Refusal → ℕ
 refusalNumber OutsidePlan = 1
 refusalNumber WrongLength = 2
@@ -110,3 +111,16 @@ refusalNumber AlreadyHeard = 11
 refusalNumber NotBelow = 12
 refusalNumber AskTooHigh = 13
 refusalNumber HasEnded = 14
+refusalNumber NoPlan = 20
+
+abbrev pub refusals : List Refusal
+refusals =
+    OutsidePlan ∷ WrongLength ∷ WrongBook ∷ WrongFrame ∷ TimeZero ∷ HashFails ∷ OtherBytes ∷ NoRoom ∷ OutOfRange ∷ NotAwaited ∷ AlreadyHeard ∷ NotBelow ∷ AskTooHigh ∷ HasEnded ∷ NoPlan ∷ []
+
+-- a number that no refusal has gives the first
+abbrev pub refusalIn : List Refusal → ℕ → Refusal
+refusalIn [] k = OutsidePlan
+refusalIn (r ∷ rs) k = cond (eqb (refusalNumber r) k) r (refusalIn rs k)
+
+abbrev pub refusalAt : ℕ → Refusal
+refusalAt k = refusalIn refusals k

@@ -3,7 +3,7 @@
 -- One theorem a call, for whatever it was lent: it is refused k, where k is the first refusal of the call's order that applies, and
 -- everything is as it came; or no refusal applies, and it is answered as document 01 says. That a call ends at all is part of its being
 -- proved. Demand 2's "Each refusal is given exactly when document 01 says" stands in Refusals. Assumes nothing.
---   node-ends fresh-ends opening-ends owed-ends write-ends read-ends
+--   node-ends fresh-ends opening-ends owed-ends write-ends read-ends wish-ends
 use Prim.Native.Nat.{ℕ}
 use mathlib.Core.Path.{_≡_, refl, sym, ap, _∙_, subst}
 use mathlib.Core.Bool.{false}
@@ -44,7 +44,11 @@ use Rattle.terms.proofs.Picks.{either}
 use Rattle.client.proofs.Reading as reading
 use Rattle.client.proofs.Writing as writing
 use Rattle.client.proofs.Round.Reply.{settled-taken}
-use Rattle.demands.specs.Ends.{Ends, refuses, accepts}
+use Rattle.wish.specs.declared.Wish.{Wish}
+use Rattle.wish.specs.declared.Smallest.{Smallest}
+use Rattle.wish.specs.Wish as wish
+use Rattle.wish.specs.Wish.{SaidSmallest, saidSmallest, wishLadder, Says, SmallestCall}
+use Rattle.demands.specs.Ends.{Ends, refuses, accepts, Granted}
 
 -- ---- the node: order 1 to 8; a reply frame of some length, or nothing but the refusal
 pub node-ends : (p : Plan) (f b y : List ℕ) (a : Answer) (b₂ y₂ : List ℕ) → NodeCall p f b y a b₂ y₂
@@ -154,3 +158,12 @@ read-ends p s f d i t d₂ i₂ c =
     (ap (λ (o : Outcome). o .said) h, ap (λ (o : Outcome). o .session) h, ap (λ (o : Outcome). o .desk) h, ap (λ (o : Outcome). o .item) h))
     (λ m h. accepts m (ap (λ (o : Outcome). isRefused (o .said)) h ∙ accepted-taken p s f d i, h))
     (c .is ∙ reading.one-ladder p s f d i)
+
+-- ---- the smallest plan for a wish: order 1, 20; nothing is lent
+pub wish-ends : (w : Wish) (a : Smallest) → SmallestCall w a
+    → Ends (wishLadder w) (λ (k : ℕ). saidSmallest a ≡ wish.refused k) (Granted w (saidSmallest a))
+wish-ends w a c = go (saidSmallest a) (c .is)
+  where
+    go : (x : SaidSmallest) → Says w x → Ends (wishLadder w) (λ (k : ℕ). x ≡ wish.refused k) (Granted w x)
+    go (wish.refused k) g = refuses k g refl
+    go (wish.counts n q) g = accepts (g .0) (record { n = n; q = q; is = refl; smallest = g .1 })

@@ -1,18 +1,23 @@
 -- The calls for a host, on numbers and bytes. Assumes nothing.
 -- Two outcomes that one contract allows are equal: the number answered and every byte of every lent slice, session bytes too, at every
--- input: host-fresh-unique host-node-unique host-open-unique host-owed-unique host-write-unique host-read-unique.
+-- input: host-fresh-unique host-node-unique host-open-unique host-owed-unique host-write-unique host-read-unique host-wish-unique.
 -- DEMAND 1 of them: a refused call changes no byte: host-fresh-stays host-node-stays host-open-stays host-owed-stays host-write-stays
--- host-read-stays. Refused is a number that is neither 0 nor, of a reply, 101 or more.
+-- host-read-stays host-wish-stays. Refused is a number that is neither 0 nor, of a reply, 101 or more. Where a wish is not refused, the two bytes are its
+-- smallest N and Q: host-wish-granted.
 use Prim.Native.Nat.{ℕ, _≤_, _<_}
 use mathlib.Core.Path.{_≡_, refl, sym, ap, _∙_, subst}
-use mathlib.Core.Bool.{Bool, false, cond}
-use mathlib.Core.List.{List}
+use mathlib.Core.Bool.{Bool, true, false, cond}
+use mathlib.Core.List.{List, [], _∷_, _++_}
 use native.Mathlib.Omega.{arith}
-use borrow.Author.Tests.{ne-eqb}
+use native.Mathlib.Nat.{mod-eq-of-lt}
+use borrow.Author.Tests.{ne-eqb, leb-true}
+use lib.Dec.{leb}
 use lib.ListN.{length}
-use Rattle.terms.specs.Ladder.{first}
+use Rattle.octets.specs.Bytes.{be, beOnto}
+use Rattle.terms.specs.Ladder.{Rung, first, Given}
 use Rattle.terms.specs.declared.Plan.{Plan}
 use Rattle.terms.proofs.Rungs.{clash}
+use Rattle.terms.proofs.Ladders.{by-ladder}
 use Rattle.rounds.specs.declared.Bound.the-variants.{Free}
 use Rattle.node.specs.Fresh.{FreshOutcome, freshLadder, freshened}
 use Rattle.node.specs.Node as node
@@ -29,11 +34,20 @@ use Rattle.session.specs.Reader.{Outcome, outcome, readReply}
 use Rattle.session.proofs.Checks.{outcome-all}
 use Rattle.client.specs.Endings.{readLadder}
 use Rattle.client.proofs.Reading as reading
-use Rattle.packing.specs.PlanBytes.{planOf}
+use Rattle.packing.specs.PlanBytes.{planOf, wishOf}
 use Rattle.packing.specs.SessionBytes.{sessionBytes, sessionOf}
-use Rattle.answers.specs.Answers.{lentLadder, bothFit, madeNumber, servedNumber, dueNumber, answerNumber, endingAfter}
+use Rattle.answers.specs.Answers.{lentLadder, bothFit, madeNumber, servedNumber, dueNumber, answerNumber, endingAfter, smallestNumber, countsBytes, countsAfter}
 use Rattle.pasis.specs.Store.{FreshBook, NodeServes}
 use Rattle.pasis.specs.Client.{sessionFits, sessionAfter, OpenedBytes, openedBytes, openBytes, OpenServes, Asked, asked, owedBytes, OwedServes, TookBytes, tookBytes, withItem, tookAs, writeBytes, readBytes, WriteServes, ReadServes}
+use Rattle.wish.specs.declared.Wish.{Wish}
+use Rattle.wish.specs.declared.Smallest.{Smallest}
+use Rattle.wish.specs.Wish as wish
+use Rattle.wish.specs.Wish.{SaidSmallest, saidSmallest, wishLadder, Says}
+use Rattle.wish.proofs.Laws.{small-counts}
+use Rattle.wish.proofs.Calls.{call-one}
+use Rattle.pasis.proofs.Laws.{numbers, of-given}
+use Rattle.pasis.specs.Plans.{countsLent, CountsTold, countsTold, smallestBytes, SmallestServes}
+use Rattle.demands.specs.Ends.{HostGranted}
 use Rattle.demands.proofs.Demand1.{accepted-taken, write-taken}
 
 pub host-fresh-unique : (x : List ℕ) (n : ℕ) (b : List ℕ) (r r′ : ℕ) (b₂ b₂′ : List ℕ) → FreshBook x n b r b₂ → FreshBook x n b r′ b₂′
@@ -168,3 +182,50 @@ host-write-stays x s f d i e r s₂ d₂ e₂ c l u =
     called =
         outcome-all (λ (o : Leaves). Stays s d i e (tookAs (withItem o i) s e)) (replyLadder Write p w f d (length i)) (λ (k : ℕ). leaves (refused k) w d) _
         (λ k. refused-stays s d i e k w) (λ n. taken-stays s d i e _ (write-taken p w f d i))
+
+-- ---- the smallest plan for a wish
+pub host-wish-unique : (k t b m : ℕ) (y : List ℕ) (r r′ : ℕ) (y₂ y₂′ : List ℕ) → SmallestServes k t b m y r y₂ → SmallestServes k t b m y r′ y₂′
+    → (r ≡ r′) × (y₂ ≡ y₂′)
+host-wish-unique k t b m y r r′ y₂ y₂′ c c′ =
+    let a = call-one (wishOf k t b m) (c .answer) (c′ .answer) (c .call) (c′ .call) in
+    let e = c .is ∙ ap (λ (z : Smallest). smallestBytes (wishOf k t b m) (saidSmallest z) y) a ∙ sym (c′ .is) in
+    (ap (λ (o : CountsTold). o .number) e, ap (λ (o : CountsTold). o .counts) e)
+
+-- a number below 256 is its byte
+one-byte : (n : ℕ) → n ≤ 16 → be 1 n ≡ n ∷ []
+unfolding be beOnto
+one-byte n h = ap (λ (x : ℕ). x ∷ []) (mod-eq-of-lt (omega arith))
+
+module _ (k t b m : ℕ) (y : List ℕ) (r : ℕ) (y₂ : List ℕ) (c : SmallestServes k t b m y r y₂) where
+  abbrev asks : Wish
+  asks = wishOf k t b m
+
+  -- what holds of 1 and 2, and of the answer, holds of what the host is told
+  of-told : (P : CountsTold → Type 0) → ((j : ℕ) → Given (countsLent asks (length y)) j → P (countsTold j y))
+      → ((a : SaidSmallest) → Says asks a → P (countsTold (smallestNumber a) (countsAfter a y))) → P (countsTold r y₂)
+  unfolding smallestBytes
+  of-told P refuses answers =
+      subst P (sym (c .is))
+      (by-ladder P (countsLent asks (length y)) (λ (j : ℕ). countsTold j y) _ refuses (λ n. answers (saidSmallest (c .answer)) (c .call .is)))
+
+  pub host-wish-stays : (r ≡ 0 → ⊥) → y₂ ≡ y
+  unfolding countsAfter
+  host-wish-stays = of-told (λ (z : CountsTold). (z .number ≡ 0 → ⊥) → z .counts ≡ y) (λ j g h. refl) answered
+    where
+      answered : (a : SaidSmallest) → Says asks a → (smallestNumber a ≡ 0 → ⊥) → countsAfter a y ≡ y
+      answered (wish.refused j) g h = refl
+      answered (wish.counts n q) g h = absurd (h refl)
+
+  pub host-wish-granted : r ≡ 0 → HostGranted asks y₂
+  unfolding countsAfter countsBytes
+  host-wish-granted =
+      of-told (λ (z : CountsTold). z .number ≡ 0 → HostGranted asks (z .counts)) (λ j g e. absurd (no-zero (countsLent asks (length y)) refl j g e)) answered
+    where
+      no-zero : (l : List Rung) → numbers (leb 1) l ≡ true → (j : ℕ) → Given l j → j ≡ 0 → ⊥
+      no-zero l n j g e = let h = leb-true 1 j (of-given (leb 1) l n j g) in omega arith
+
+      answered : (a : SaidSmallest) → Says asks a → smallestNumber a ≡ 0 → HostGranted asks (countsAfter a y)
+      answered (wish.refused j) g e = absurd (no-zero (wishLadder asks) refl j g e)
+      answered (wish.counts n q) g e =
+          let s = small-counts asks n q (g .1) in
+          record { n = n; q = q; is = ap (λ (l : List ℕ). l ++ be 1 q) (one-byte n (s .0)) ∙ ap (λ (l : List ℕ). n ∷ l) (one-byte q (s .1)); smallest = g .1 }

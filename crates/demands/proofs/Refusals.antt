@@ -1,9 +1,10 @@
 -- DEMAND 2: "each refusal is given exactly when document 01 says". One theorem a call, for whatever it was lent, in one form: the call answers k
 -- exactly if k is the first refusal of its order that applies (Given). Refusals are numbered from 1 on. Assumes nothing.
---   node-exactly fresh-exactly opening-exactly owed-exactly write-exactly read-exactly
+--   node-exactly fresh-exactly opening-exactly owed-exactly write-exactly read-exactly wish-exactly
+--   wish-20   20 in document 02's words: no N and Q up to 16 are accepted
 -- The same of the calls for a host, whose number is a refusal's below 101; and the numbers that each of them can answer.
---   host-node-exactly host-fresh-exactly host-open-exactly host-owed-exactly host-write-exactly host-read-exactly
---   host-node-numbers host-fresh-numbers host-open-numbers host-owed-numbers host-write-numbers host-read-numbers
+--   host-node-exactly host-fresh-exactly host-open-exactly host-owed-exactly host-write-exactly host-read-exactly host-wish-exactly
+--   host-node-numbers host-fresh-numbers host-open-numbers host-owed-numbers host-write-numbers host-read-numbers host-wish-numbers
 use Prim.Native.Nat.{ℕ, _≤_, _<_}
 use native.Mathlib.Omega.{arith}
 use mathlib.Core.Path.{_≡_, refl, sym, ap, subst, _∙_}
@@ -39,12 +40,19 @@ use Rattle.session.specs.Writer.{WriteReplyCall, Leaves, leaves, acceptedWrite,
 use Rattle.client.specs.Endings.{readLadder, writeLadder, ReadGives, WriteGives, Exactly}
 use Rattle.client.proofs.Reading as reading
 use Rattle.client.proofs.Writing as writing
-use Rattle.packing.specs.PlanBytes.{planOf}
+use Rattle.packing.specs.PlanBytes.{planOf, wishOf}
 use Rattle.packing.specs.SessionBytes.{sessionOf}
 use Rattle.answers.specs.Answers.{lentLadder, bothFit, madeNumber, servedNumber, dueNumber, answerNumber}
 use Rattle.pasis.specs.Store.{FreshBook, NodeServes}
 use Rattle.pasis.proofs.Laws.{numbers, of-given}
 use Rattle.pasis.specs.Client.{sessionFits, OpenedBytes, openedBytes, openBytes, OpenServes, Asked, asked, owedBytes, OwedServes, TookBytes, tookBytes, writeBytes, readBytes, WriteServes, ReadServes}
+use Rattle.wish.specs.declared.Wish.{Wish}
+use Rattle.wish.specs.declared.Smallest.{Smallest}
+use Rattle.wish.specs.Wish as wish
+use Rattle.wish.specs.Wish.{saidSmallest, outside, wishLadder, Rejected, Says, SmallestCall}
+use Rattle.wish.proofs.Calls.{said-one, exactly-20}
+use Rattle.pasis.specs.Plans.{countsLent, CountsTold, countsTold, smallestBytes, SmallestServes}
+use Rattle.pasis.proofs.Wishes.{number-is}
 use Rattle.demands.proofs.Demand1.{accepted-taken, write-taken}
 use Rattle.demands.proofs.Hosts.{not-between}
 
@@ -111,6 +119,15 @@ pub read-exactly : (p : Plan) (s : Session) (f d i : List ℕ) (t : Took) (d₂ 
 read-exactly p s f d i t d₂ i₂ c k l =
     exactly (λ (o : Outcome). o .said) refused _ (λ (j : ℕ). outcome (refused j) s d i) (accepted p s f d i) _ k
     (λ j. refl) (refused-one k) (not-refused _ k (accepted-taken p s f d i)) (c .is ∙ reading.one-ladder p s f d i)
+
+-- ---- the smallest plan for a wish, 1, 20
+pub wish-exactly : (w : Wish) (a : Smallest) → SmallestCall w a → (k : ℕ) → Exactly (saidSmallest a ≡ wish.refused k) (Given (wishLadder w) k)
+wish-exactly w a c k = ((λ e. subst (Says w) e (c .is)), (λ g. said-one w (saidSmallest a) (wish.refused k) (c .is) g))
+
+-- "then 20 exactly when no N and Q up to 16 are accepted": then no N and Q at all are, whatever F, W and the clients
+pub wish-20 : (w : Wish) (a : Smallest) → SmallestCall w a
+    → Exactly (saidSmallest a ≡ wish.refused 20) ((outside w ≡ false) × ((n q : ℕ) → n ≤ 16 → q ≤ 16 → Rejected w n q))
+wish-20 w a c = let h = exactly-20 w a c in ((λ e. (h .0 e .0, (λ n q l u. h .0 e .1 n q))), h .1)
 
 -- ---- the calls for a host: the number of an outcome by a ladder, and by two that follow each other
 number : {A : Type 0} (f : A → ℕ) (l : List Rung) (refuse : ℕ → A) (pass : A) → ((k : ℕ) → f (refuse k) ≡ k)
@@ -297,3 +314,23 @@ module _ (x s f d i e : List ℕ) (r : ℕ) (s₂ d₂ i₂ e₂ : List ℕ) (c 
   host-read-numbers =
       ap (λ (z : ℕ). oneOf z readSet) read-lent
       ∙ number-within readSet readLent _ refl (read-within (readReply (planOf x) (sessionOf s) f d i .said) (reading.gives (planOf x) (sessionOf s) f d i))
+
+-- ---- the smallest plan: 1 of the wish and 2 of the bytes lent come before 20
+module _ (k t b m : ℕ) (y : List ℕ) (r : ℕ) (y₂ : List ℕ) (c : SmallestServes k t b m y r y₂) where
+  abbrev wishOrder : List Rung
+  wishOrder = countsLent (wishOf k t b m) (length y) ++ wishLadder (wishOf k t b m)
+
+  wish-number : r ≡ first wishOrder (λ (j : ℕ). j) 0
+  unfolding smallestBytes
+  wish-number =
+      ap (λ (o : CountsTold). o .number) (c .is)
+      ∙ number (λ (o : CountsTold). o .number) (countsLent (wishOf k t b m) (length y)) (λ (j : ℕ). countsTold j y) _ (λ j. refl)
+      ∙ ap (first (countsLent (wishOf k t b m) (length y)) (λ (j : ℕ). j)) (number-is (wishOf k t b m) (c .answer) (c .call))
+      ∙ one-after (countsLent (wishOf k t b m) (length y)) (wishLadder (wishOf k t b m)) 0
+
+  pub host-wish-exactly : (j : ℕ) → 1 ≤ j → j < 101 → Exactly (r ≡ j) (Given wishOrder j)
+  host-wish-exactly j = by-number _ 0 r j wish-number (λ l e. omega arith)
+
+  pub host-wish-numbers : oneOf r (0 ∷ 1 ∷ 2 ∷ 20 ∷ []) ≡ true
+  unfolding oneOf
+  host-wish-numbers = ap (λ (z : ℕ). oneOf z (0 ∷ 1 ∷ 2 ∷ 20 ∷ [])) wish-number ∙ number-within (0 ∷ 1 ∷ 2 ∷ 20 ∷ []) wishOrder 0 refl refl

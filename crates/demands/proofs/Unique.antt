@@ -3,6 +3,7 @@
 --   node-unique fresh-unique                         the node's two calls
 --   opening-unique owed-unique                       an opening, a request owed
 --   write-reply-unique read-reply-unique             a reply to a writer, to a reader
+--   wish-unique                                      the smallest plan for a wish
 use Prim.Native.Nat.{ℕ}
 use mathlib.Core.Path.{_≡_, sym, ap, _∙_}
 use mathlib.Core.List.{List}
@@ -24,6 +25,10 @@ use Rattle.session.specs.Reader.{ReadReplyCall, Outcome}
 use Rattle.session.specs.Writer.{WriteReplyCall, Leaves}
 use Rattle.session.proofs.Openings.{opening-one}
 use Rattle.session.proofs.Oweds.{due-one}
+use Rattle.wish.specs.declared.Wish.{Wish}
+use Rattle.wish.specs.declared.Smallest.{Smallest}
+use Rattle.wish.specs.Wish.{SmallestCall}
+use Rattle.wish.proofs.Calls.{call-one}
 use Rattle.store.proofs.Node as nodes
 use Rattle.client.proofs.Client as client
 
@@ -76,3 +81,8 @@ read-reply-unique p s f d i t₁ t₂ d₁ d₂ i₁ i₂ c e =
     let x = client.said-one (t₁ .answer) (t₂ .answer) (ap (λ (o : Outcome). o .said) h) in
     let y = ap (λ (o : Outcome). o .session) h in
     ((λ i. record { session = y i; answer = x i }), ap (λ (o : Outcome). o .desk) h, ap (λ (o : Outcome). o .item) h)
+
+-- ---- the smallest plan
+-- Any two answers that its contract allows at the same wish are equal: the refusal, or N and Q.
+pub wish-unique : (w : Wish) (a₁ a₂ : Smallest) → SmallestCall w a₁ → SmallestCall w a₂ → a₁ ≡ a₂
+wish-unique w a₁ a₂ c d = call-one w a₁ a₂ c d

@@ -45,6 +45,12 @@ accepted w n q = rulesOk (countsFor w n q)
 accepted-is : (w : Wish) (n q : ℕ) → Accepted w n q → accepted w n q ≡ true
 accepted-is w n q a = sym (in-range (countsFor w n q) 1 1 Crash (omega arith) (omega arith) (omega arith) (omega arith)) ∙ a 1 1 Crash (omega arith) (omega arith) (omega arith) (omega arith)
 
+-- both are numbers of a plan
+pub small-counts : (w : Wish) (n q : ℕ) → SmallestFor w n q → (n ≤ 16) × (q ≤ 16)
+small-counts w n q s =
+    let c = counts-are (w .member) n (w .t) (w .b) q (w .m) (accepted-is w n q (s .accepted)) in
+    (c .n-high, counts-small (w .member) n (w .t) (w .b) q (w .m) (c .n-high) (c .column) .q-small)
+
 -- ---- the larger of two
 pub larger-left : (a b : ℕ) → a ≤ larger a b
 unfolding larger

@@ -1,5 +1,6 @@
 pub mod Edges
 pub mod Unique
+pub mod Wishes
 pub mod Hosts
 pub mod Demand1
 pub mod Refusals

@@ -25,6 +25,7 @@ fn numbers_of_the_theorems() {
         (Kind::Owed, "host-owed-numbers : oneOf r ("),
         (Kind::WriteReply, "writeSet = "),
         (Kind::ReadReply, "readSet = "),
+        (Kind::SmallestPlan, "host-wish-numbers : oneOf r ("),
     ] {
         let table: BTreeSet<u32> = kind.answers().iter().copied().collect();
         assert_eq!(table, list(&text, words), "{}", kind.name());

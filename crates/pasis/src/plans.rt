@@ -1,5 +1,4 @@
 // The smallest plan for a wish, for site staff before any book is made.
-ghost use mathlib.Core.Path.{_≡_};
 ghost use Rattle.pasis.specs.Plans.{SmallestServes};
 
 // The smallest N, and with it the smallest Q, that document 01 accepts for t, b, m and a member: one byte each. Order 1, 2, 20.

@@ -1,7 +1,7 @@
 -- The smallest N and Q of a wish: that the closed forms are accepted and nothing smaller is; when no N and Q are; that they are unique.
 --   accepts rejects      the rules on the counts decide for every F and W in range and both client models
 --   fits least           the closed forms are accepted; what is accepted is not below them
---   met unmet-when none-met   "no N and Q up to 16 are accepted", by the closed form of N, and of all N and Q
+--   met unmet-when unmet-by-nodes none-met   "no N and Q up to 16 are accepted", by the closed form of N, and of all N and Q
 --   smallest closed-forms   the closed forms are the smallest, and the smallest are the closed forms
 -- Assumes nothing.
 use mathlib.Core.Path.{_≡_, refl, sym, ap, subst, _∙_}
@@ -9,7 +9,7 @@ use mathlib.Core.Bool.{Bool, true, false, cond, not}
 use Prim.Native.Nat.{ℕ, zero, suc, _+_, _-_, _*_, _≤_, _<_}
 use native.Mathlib.Omega.{arith}
 use lib.Dec.{leb, ltb, eqb}
-use borrow.Author.Tests.{le-leb, leb-true, leb-false, ltb-true, ltb-false, eqb-true, eqb-false, lt-leb}
+use borrow.Author.Tests.{le-leb, leb-true, leb-false, ltb-true, ltb-false, eqb-true, eqb-false}
 use Rattle.terms.specs.Ladder.{all}
 use Rattle.terms.specs.Terms.{planOk, countsOk, limitsOk}
 use Rattle.terms.specs.declared.Plan.{Plan}
@@ -19,7 +19,7 @@ use Rattle.terms.specs.declared.Clients.{Clients}
 use Rattle.terms.specs.declared.Clients.the-variants.{Crash}
 use Rattle.terms.proofs.Rungs.{clash}
 use Rattle.terms.proofs.Picks.{either, itself}
-use Rattle.terms.proofs.Plans.{CountsAre, counts-are, counts-back, SmallCounts, counts-small, column-common, not-ok}
+use Rattle.terms.proofs.Plans.{CountsAre, counts-are, counts-back, counts-small, column-common, not-ok}
 use Rattle.wish.specs.declared.Wish.{Wish}
 use Rattle.wish.specs.Wish.{Counts, planWith, Every, countsFor, Accepted, Rejected, SmallestFor, outside, unmet, someUpTo}
 use Rattle.wish.specs.Closed.{larger, nodesBy, quorumBy, nodesFor, quorumFor}
@@ -183,6 +183,19 @@ within w n q e =
     let k = c .b-t in
     let t = s .t-small in
     record { t-small = t; b-small = omega arith; m-small = s .m-small; nodes = omega arith }
+
+pub unmet-if : (w : Wish) → (Within w → ⊥) → true ≡ unmet w
+unmet-if w h = sym (unmet-when w (λ n q a. h (within w n q a)))
+
+-- 20 by the closed form of N
+pub unmet-by-nodes : (w : Wish) → outside w ≡ false → ltb 16 (nodesFor w) ≡ unmet w
+unmet-by-nodes w e = go (ltb 16 (nodesFor w)) refl
+  where
+    go : (c : Bool) → ltb 16 (nodesFor w) ≡ c → c ≡ unmet w
+    go true z = unmet-if w (λ h. let l = ltb-true 16 (nodesFor w) z in let g = h .nodes in omega arith)
+    go false z =
+        let s = sensible w e in
+        sym (met w (nodesFor w) (quorumFor w) (fits (w .member) (w .t) (w .b) (w .m) (s .b-t) (s .one) (ltb-false 16 (nodesFor w) z)))
 
 pub met-within : (w : Wish) → unmet w ≡ false → Within w
 unfolding unmet

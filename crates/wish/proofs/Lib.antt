@@ -1,3 +1,3 @@
 pub mod Laws
-pub mod Turns
 pub mod Calls
+pub mod Turns

@@ -4,19 +4,17 @@ use mathlib.Core.Bool.{Bool, true, false}
 use Prim.Native.Nat.{ℕ, _+_, _-_, _*_, _≤_, _<_}
 use native.Mathlib.Omega.{arith}
 use lib.Dec.{leb, ltb, eqb}
-use borrow.Author.Tests.{le-leb, lt-leb, lt-ltb, le-ltb, leb-true, leb-false, ltb-true, ltb-false}
-use Rattle.terms.specs.Ladder.{first}
-use Rattle.terms.specs.declared.Member.{Member}
+use borrow.Author.Tests.{le-leb, lt-leb, lt-ltb, le-ltb, leb-true, leb-false}
 use Rattle.terms.specs.declared.Member.the-variants.{Repairable, NonRepair}
 use Rattle.terms.specs.declared.Refusal.the-variants.{OutsidePlan, NoPlan}
 use Rattle.terms.proofs.Rungs.{stop, go-on, passed}
-use Rattle.terms.proofs.Ladders.{by-ladder}
 use Rattle.wish.specs.declared.Wish.{Wish}
 use Rattle.wish.specs.declared.Smallest.the-variants as answer
 use Rattle.wish.specs.declared.Smallest.{Smallest}
-use Rattle.wish.specs.Wish.{outside, unmet, wishLadder, SaidSmallest, refused, counts, saidSmallest, Says, SmallestCall}
+use Rattle.wish.specs.Wish.{outside, unmet, refused, counts, saidSmallest, Says, SmallestCall}
 use Rattle.wish.specs.Closed.{larger, nodesFor, quorumFor}
-use Rattle.wish.proofs.Laws.{larger-left, sensible, fits, met, unmet-when, Within, within, met-within, smallest}
+use Rattle.wish.proofs.Laws.{larger-left, sensible, unmet-by-nodes, met-within}
+use Rattle.wish.proofs.Calls.{came, came-says}
 
 -- ---- the larger of two
 pub larger-yes : (a b : ℕ) → a ≤ b → b ≡ larger a b
@@ -64,20 +62,8 @@ module _ (w : Wish) where
   outside-m h = rw (le-ltb (w .t) (w .b) h)
 
   -- ---- 20, no N and Q up to 16
-  pub unmet-if : (Within w → ⊥) → true ≡ unmet w
-  unmet-if h = sym (unmet-when w (λ n q a. h (within w n q a)))
-
-  pub unmet-by-nodes : outside w ≡ false → ltb 16 (nodesFor w) ≡ unmet w
-  unmet-by-nodes e = go (ltb 16 (nodesFor w)) refl
-    where
-      go : (c : Bool) → ltb 16 (nodesFor w) ≡ c → c ≡ unmet w
-      go true z = unmet-if (λ h. let l = ltb-true 16 (nodesFor w) z in let g = h .nodes in omega arith)
-      go false z =
-          let s = sensible w e in
-          sym (met w (nodesFor w) (quorumFor w) (fits (w .member) (w .t) (w .b) (w .m) (s .b-t) (s .one) (ltb-false 16 (nodesFor w) z)))
-
   pub unmet-nodes : (n : ℕ) → n ≡ nodesFor w → outside w ≡ false → ltb 16 n ≡ unmet w
-  unmet-nodes n h e = ap (λ (x : ℕ). ltb 16 x) h ∙ unmet-by-nodes e
+  unmet-nodes n h e = ap (λ (x : ℕ). ltb 16 x) h ∙ unmet-by-nodes w e
 
   pub small : outside w ≡ false → w .t ≤ 16 → w .m ≤ 16 → (w .t ≤ 16) × (w .b ≤ 16) × (w .m ≤ 16)
   small e t m = let s = sensible w e .b-t in (t, omega arith, m)
@@ -86,16 +72,8 @@ module _ (w : Wish) where
   met-small x e f = let h = met-within w (sym e ∙ f) in (h .t-small, h .b-small, h .m-small)
 
   -- ---- the answers
-  abbrev came : SaidSmallest
-  came = first (wishLadder w) refused (counts (nodesFor w) (quorumFor w))
-
-  came-says : Says w came
-  came-says =
-      by-ladder (Says w) (wishLadder w) refused (counts (nodesFor w) (quorumFor w)) (λ k g. g)
-      (λ n. (n, smallest w (n .0) (met-within w (n .1 .0) .nodes)))
-
-  answers : (a : Smallest) → saidSmallest a ≡ came → SmallestCall w a
-  answers a e = record { is = subst (Says w) (sym e) came-says }
+  answers : (a : Smallest) → saidSmallest a ≡ came w → SmallestCall w a
+  answers a e = record { is = subst (Says w) (sym e) (came-says w) }
 
   pub says-outside : (x : Bool) → x ≡ outside w → x ≡ true → SmallestCall w (answer.Refused OutsidePlan)
   says-outside x e t = answers (answer.Refused OutsidePlan) (stop 1 _ refused _ (sym e ∙ t) refl)

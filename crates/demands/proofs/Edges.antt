@@ -20,7 +20,7 @@ use Rattle.session.specs.Owed.{owedTo}
 use Rattle.session.specs.Writer.{writeReply}
 use Rattle.session.specs.Reader.{readReply}
 use Rattle.wish.specs.Wish.{Counts, countsOf, planWith, Every, SaidSmallest}
-use Rattle.wish.specs.Closed.{larger, answerFor}
+use Rattle.wish.specs.Closed.{answerFor}
 use Rattle.wish.proofs.Laws.{rulesOk, in-range, accepts}
 use Rattle.wish.proofs.Calls.{answer-is}
 use Rattle.demands.specs.Edges.{RefusedOne, CasesHold, firstPlan, secondPlan, table, WishCase, WishesHold, wishTable}
@@ -144,5 +144,5 @@ by-forms (c ∷ cs) e =
 
 -- EVERY EDGE OF Q-1 HOLDS
 pub wish-edges : WishesHold wishTable
-unfolding larger answerFor
+unfolding answerFor
 wish-edges = by-forms wishTable refl

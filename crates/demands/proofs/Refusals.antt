@@ -49,7 +49,7 @@ use Rattle.pasis.specs.Client.{sessionFits, OpenedBytes, openedBytes, openBytes
 use Rattle.wish.specs.declared.Wish.{Wish}
 use Rattle.wish.specs.declared.Smallest.{Smallest}
 use Rattle.wish.specs.Wish as wish
-use Rattle.wish.specs.Wish.{saidSmallest, outside, wishLadder, Rejected, Says, SmallestCall}
+use Rattle.wish.specs.Wish.{saidSmallest, outside, wishLadder, RejectedFor, Says, SmallestCall}
 use Rattle.wish.proofs.Calls.{said-one, exactly-20}
 use Rattle.pasis.specs.Plans.{countsLent, CountsTold, countsTold, smallestBytes, SmallestServes}
 use Rattle.pasis.proofs.Wishes.{number-is}
@@ -126,7 +126,7 @@ wish-exactly w a c k = ((λ e. subst (Says w) e (c .is)), (λ g. said-one w (sai
 
 -- "then 20 exactly when no N and Q up to 16 are accepted": then no N and Q at all are, whatever F, W and the clients
 pub wish-20 : (w : Wish) (a : Smallest) → SmallestCall w a
-    → Exactly (saidSmallest a ≡ wish.refused 20) ((outside w ≡ false) × ((n q : ℕ) → n ≤ 16 → q ≤ 16 → Rejected w n q))
+    → Exactly (saidSmallest a ≡ wish.refused 20) ((outside w ≡ false) × ((n q : ℕ) → n ≤ 16 → q ≤ 16 → RejectedFor w n q))
 wish-20 w a c = let h = exactly-20 w a c in ((λ e. (h .0 e .0, (λ n q l u. h .0 e .1 n q))), h .1)
 
 -- ---- the calls for a host: the number of an outcome by a ladder, and by two that follow each other

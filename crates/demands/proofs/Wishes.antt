@@ -10,23 +10,23 @@ use Rattle.terms.specs.declared.Member.the-variants.{Repairable, NonRepair}
 use Rattle.wish.specs.declared.Wish.{Wish}
 use Rattle.wish.specs.declared.Smallest.{Smallest}
 use Rattle.wish.specs.Wish.{SmallestFor, saidSmallest, SmallestCall}
-use Rattle.wish.specs.Closed.{larger, answerFor}
+use Rattle.terms.specs.Terms.{larger}
+use Rattle.wish.specs.Closed.{answerFor}
 use Rattle.wish.proofs.Laws.{smallest, closed-forms}
 use Rattle.wish.proofs.Calls.{answer-is}
-use Rattle.demands.specs.Edges.{wishOf}
+use Rattle.demands.specs.Edges.{wishFor}
 
-pub repairable-forms : (t b m n q : ℕ) → SmallestFor (wishOf Repairable t b m) n q
+pub repairable-forms : (t b m n q : ℕ) → SmallestFor (wishFor Repairable t b m) n q
     → (n ≡ larger (2 * t + 2 * b + 1) (m + 2 * t + b)) × (q ≡ larger (t + b + 1) (m + t))
-repairable-forms t b m n q s = closed-forms (wishOf Repairable t b m) n q s
+repairable-forms t b m n q s = closed-forms (wishFor Repairable t b m) n q s
 
-pub non-repair-forms : (t b m n q : ℕ) → SmallestFor (wishOf NonRepair t b m) n q
+pub non-repair-forms : (t b m n q : ℕ) → SmallestFor (wishFor NonRepair t b m) n q
     → (n ≡ larger (3 * t + 3 * b + 1) (m + 2 * t + b)) × (q ≡ larger (t + b + 1) (m - b))
-non-repair-forms t b m n q s = closed-forms (wishOf NonRepair t b m) n q s
+non-repair-forms t b m n q s = closed-forms (wishFor NonRepair t b m) n q s
 
 pub every-answer : (w : Wish) (a : Smallest) → SmallestCall w a → saidSmallest a ≡ answerFor w
 every-answer w a c = answer-is w a c
 
 -- ---- the hypothesis can be met
-pub document-plan : SmallestFor (wishOf Repairable 1 1 2) 5 3
-unfolding larger
-document-plan = smallest (wishOf Repairable 1 1 2) refl (omega arith)
+pub document-plan : SmallestFor (wishFor Repairable 1 1 2) 5 3
+document-plan = smallest (wishFor Repairable 1 1 2) refl (omega arith)

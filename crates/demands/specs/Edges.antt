@@ -120,8 +120,8 @@ CasesHold [] = Unit {0}
 CasesHold (c ∷ cs) = CaseHolds c × CasesHold cs
 
 -- ---- document 02, Q-1
-abbrev pub wishOf : Member → (t b m : ℕ) → Wish
-wishOf k t b m = record { member = k; t = t; b = b; m = m }
+abbrev pub wishFor : Member → (t b m : ℕ) → Wish
+wishFor k t b m = record { member = k; t = t; b = b; m = m }
 
 -- a wish, and what it is answered: its smallest N and Q, or a refusal
 pub record WishCase : Type 0 where
@@ -137,38 +137,38 @@ deny w k = record { wish = w; answer = wish.refused k }
 abbrev pub wishTable : List WishCase
 wishTable =
     -- document 01's two plans, and the smallest of all
-    grant (wishOf Repairable 1 1 2) 5 3 ∷
-    grant (wishOf NonRepair 1 1 4) 7 3 ∷
-    grant (wishOf Repairable 0 0 1) 1 1 ∷
-    grant (wishOf NonRepair 0 0 1) 1 1 ∷
+    grant (wishFor Repairable 1 1 2) 5 3 ∷
+    grant (wishFor NonRepair 1 1 4) 7 3 ∷
+    grant (wishFor Repairable 0 0 1) 1 1 ∷
+    grant (wishFor NonRepair 0 0 1) 1 1 ∷
     -- t5 b5; the last b with t5, and the last m with both; one more of each
-    deny (wishOf Repairable 5 5 1) 20 ∷
-    deny (wishOf Repairable 5 3 1) 20 ∷
-    deny (wishOf Repairable 5 2 5) 20 ∷
-    grant (wishOf Repairable 5 2 4) 16 9 ∷
-    deny (wishOf NonRepair 5 5 1) 20 ∷
-    deny (wishOf NonRepair 5 1 1) 20 ∷
-    deny (wishOf NonRepair 5 0 7) 20 ∷
-    grant (wishOf NonRepair 5 0 6) 16 6 ∷
+    deny (wishFor Repairable 5 5 1) 20 ∷
+    deny (wishFor Repairable 5 3 1) 20 ∷
+    deny (wishFor Repairable 5 2 5) 20 ∷
+    grant (wishFor Repairable 5 2 4) 16 9 ∷
+    deny (wishFor NonRepair 5 5 1) 20 ∷
+    deny (wishFor NonRepair 5 1 1) 20 ∷
+    deny (wishFor NonRepair 5 0 7) 20 ∷
+    grant (wishFor NonRepair 5 0 6) 16 6 ∷
     -- the last t, and the last m, of all
-    grant (wishOf Repairable 7 0 2) 16 9 ∷
-    deny (wishOf Repairable 8 0 1) 20 ∷
-    deny (wishOf NonRepair 6 0 1) 20 ∷
-    grant (wishOf Repairable 0 0 16) 16 16 ∷
-    grant (wishOf NonRepair 0 0 16) 16 16 ∷
-    deny (wishOf Repairable 0 0 17) 20 ∷
-    deny (wishOf NonRepair 0 0 17) 20 ∷
+    grant (wishFor Repairable 7 0 2) 16 9 ∷
+    deny (wishFor Repairable 8 0 1) 20 ∷
+    deny (wishFor NonRepair 6 0 1) 20 ∷
+    grant (wishFor Repairable 0 0 16) 16 16 ∷
+    grant (wishFor NonRepair 0 0 16) 16 16 ∷
+    deny (wishFor Repairable 0 0 17) 20 ∷
+    deny (wishFor NonRepair 0 0 17) 20 ∷
     -- b above t; m 0; both before 20
-    deny (wishOf Repairable 1 2 1) 1 ∷
-    deny (wishOf NonRepair 0 0 0) 1 ∷
-    deny (wishOf NonRepair 20 21 1) 1 ∷
-    deny (wishOf Repairable 20 20 0) 1 ∷
+    deny (wishFor Repairable 1 2 1) 1 ∷
+    deny (wishFor NonRepair 0 0 0) 1 ∷
+    deny (wishFor NonRepair 20 21 1) 1 ∷
+    deny (wishFor Repairable 20 20 0) 1 ∷
     -- values of 2^64-1
-    deny (wishOf Repairable top top top) 20 ∷
-    deny (wishOf NonRepair top top top) 20 ∷
-    deny (wishOf Repairable top 0 1) 20 ∷
-    deny (wishOf NonRepair 0 0 top) 20 ∷
-    deny (wishOf Repairable 0 top 1) 1 ∷ []
+    deny (wishFor Repairable top top top) 20 ∷
+    deny (wishFor NonRepair top top top) 20 ∷
+    deny (wishFor Repairable top 0 1) 20 ∷
+    deny (wishFor NonRepair 0 0 top) 20 ∷
+    deny (wishFor Repairable 0 top 1) 1 ∷ []
 
 -- whatever answer the contract of the call allows, it is this
 abbrev pub WishesHold : List WishCase → Type 0

@@ -5,21 +5,16 @@ use mathlib.Core.Bool.{Bool, true, false, cond}
 use mathlib.Core.List.{List, [], _∷_, _++_}
 use mathlib.Core.Logic.{_⊎_, inl, inr}
 use native.Mathlib.Omega.{arith}
-use borrow.Author.Tests.{ltb-true, ltb-false, leb-true, leb-false}
-use lib.Dec.{ltb, leb}
+use borrow.Author.Tests.{leb-true, leb-false}
+use lib.Dec.{leb}
 use lib.ListN.{length, take, length-append}
 use lib.Seq.{take-append-le, take-all}
+use Rattle.terms.specs.Terms.{larger}
+use Rattle.terms.proofs.Small.{larger-is}
 use Rattle.record.specs.Desk.{row}
-use Rattle.report.specs.Triple.{suchThat, each, In, Same, larger, MAX, upTo, strung}
+use Rattle.report.specs.Triple.{suchThat, each, In, Same, MAX, upTo, strung}
 
 -- ---- the greatest
-pub larger-is : (a b : ℕ) → larger a b ≡ a + (b - a)
-larger-is a b = go (ltb a b) refl
-  where
-    go : (t : Bool) → ltb a b ≡ t → cond t b a ≡ a + (b - a)
-    go true e = let h = ltb-true a b e in omega arith
-    go false e = let h = ltb-false a b e in omega arith
-
 pub larger-low : (a b : ℕ) → b ≤ a → larger a b ≡ a
 larger-low a b h = larger-is a b ∙ omega arith
 

@@ -16,7 +16,7 @@ use Rattle.octets.proofs.Laws.{part-part, slot-room}
 use Rattle.octets.proofs.Meaning.{part-add, be-part, is-alike, not-alike}
 use Rattle.terms.proofs.Rungs.{clash}
 use Rattle.terms.specs.Stamp.{stamp}
-use Rattle.terms.specs.Terms.{recordLength, slotsOf}
+use Rattle.terms.specs.Terms.{larger, recordLength, slotsOf}
 use Rattle.terms.specs.declared.Plan.{Plan}
 use Rattle.record.specs.Record.{crossOf}
 use Rattle.record.specs.Desk.{slotOf}
@@ -28,7 +28,7 @@ use Rattle.rounds.specs.declared.Mark.{Mark}
 use Rattle.rounds.specs.declared.Lead.{Lead}
 use Rattle.rounds.specs.declared.Lead.the-variants.{Nobody, Node}
 use Rattle.rounds.specs.Rounds.{bitOf, heardCount, markOf, slotStamp, aheadOf, stepOf, leadOf, joinsOf, setOf, every, isUnheard}
-use Rattle.report.specs.Triple.{Message, suchThat, each, larger, MAX, In}
+use Rattle.report.specs.Triple.{Message, suchThat, each, MAX, In}
 use Rattle.report.specs.Figure3.{of-first-triple}
 use Rattle.report.specs.Ours.{bearing, responseOf, responses}
 use Rattle.report.proofs.Lists.{larger-low, larger-high, max-snoc, those-append, each-append, in-append}

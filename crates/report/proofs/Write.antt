@@ -19,7 +19,7 @@ use Rattle.terms.specs.Ladder.{Rung, _and_, rung}
 use Rattle.terms.specs.Stamp.{stamp, time, stampNumber, top}
 use Rattle.terms.specs.declared.Plan.{Plan}
 use Rattle.terms.specs.declared.Ask.{Ask}
-use Rattle.terms.specs.Terms.{planOk, slotsOf}
+use Rattle.terms.specs.Terms.{larger, planOk, slotsOf}
 use Rattle.terms.proofs.Down.{Down, stop}
 use Rattle.terms.proofs.Ladders.{by-ladder, is-passed}
 use Rattle.terms.proofs.Rungs.{both, clash}
@@ -54,7 +54,7 @@ use Rattle.session.proofs.Made.{in-range-facts, few-unheards}
 use Rattle.standing.proofs.Rules.{Lengths, lengths-are}
 use Rattle.session.proofs.Openings.{accepted-session}
 use Rattle.recover.proofs.Records.{record-is}
-use Rattle.report.specs.Triple.{Triple, Message, each, larger, MAX}
+use Rattle.report.specs.Triple.{Triple, Message, each, MAX}
 use Rattle.report.specs.Figure2.{in-set, GATHERED, Clock, clocks, Times, acknowledged, READ-TIMESTAMP, MAKE-CROSS-CHECKSUM, MAKE-TIMESTAMP, DO-WRITE, ts-written, WRITE}
 use Rattle.report.specs.Ours.{family, stampedAs, bearing, sending}
 use Rattle.client.specs.Turns as turns

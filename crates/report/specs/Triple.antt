@@ -13,7 +13,7 @@ use mathlib.Core.Path.{_≡_}
 use mathlib.Core.Logic.{_⊎_}
 use mathlib.Core.Bool.{Bool, cond}
 use mathlib.Core.List.{List, [], _∷_, _++_}
-use lib.Dec.{ltb}
+use Rattle.terms.specs.Terms.{larger}
 
 -- Figure 1: "Each member of the history is a ⟨logical time, data value, cross checksum⟩ triple". Section 3.3: "the hash of the cross
 -- checksum is placed in the low order bits of the logical timestamp", so timestamps are compared as numbers.
@@ -45,9 +45,6 @@ In X (Y ∷ set) = (X ≡ Y) ⊎ In X set
 
 abbrev pub Same : {A : Type 0} → List A → List A → Type 0
 Same {A} set other = (X : A) → (In X set → In X other) × (In X other → In X set)
-
-abbrev pub larger : ℕ → ℕ → ℕ
-larger a b = cond (ltb a b) b a
 
 -- 0 of the empty set
 unfoldable pub MAX : List ℕ → ℕ

@@ -1,6 +1,6 @@
--- Numbers and bytes that stand in many arguments: strictly below, and a list that a computed test shows to be bytes. Assumes nothing.
+-- Numbers and bytes that stand in many arguments: strictly below, the larger of two, and a list that a computed test shows to be bytes. Assumes nothing.
 use Prim.{tt}
-use Prim.Native.Nat.{ℕ, zero, suc, _≤_, _<_}
+use Prim.Native.Nat.{ℕ, zero, suc, _+_, _-_, _≤_, _<_}
 use mathlib.Core.Path.{_≡_, refl}
 use mathlib.Core.Bool.{Bool, true, false, cond}
 use mathlib.Core.List.{List, [], _∷_}
@@ -8,6 +8,7 @@ use native.Mathlib.Omega.{arith}
 use lib.Dec.{ltb, lit<}
 use borrow.Author.Tests.{ltb-true, ltb-false}
 use Rattle.octets.specs.Bytes.{Octets}
+use Rattle.terms.specs.Terms.{larger}
 use Rattle.terms.proofs.Rungs.{both}
 
 pub strict : (a b : ℕ) → a ≤ b → (a ≡ b → ⊥) → a < b
@@ -16,6 +17,13 @@ strict a b h k = go (ltb a b) refl
     go : (t : Bool) → ltb a b ≡ t → a < b
     go true e = ltb-true a b e
     go false e = absurd (k (let m : b ≤ a = ltb-false a b e in omega arith))
+
+pub larger-is : (a b : ℕ) → larger a b ≡ a + (b - a)
+larger-is a b = go (ltb a b) refl
+  where
+    go : (t : Bool) → ltb a b ≡ t → cond t b a ≡ a + (b - a)
+    go true e = let h = ltb-true a b e in omega arith
+    go false e = let h = ltb-false a b e in omega arith
 
 unfoldable pub small : List ℕ → Bool
 small [] = true

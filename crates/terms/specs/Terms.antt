@@ -1,4 +1,5 @@
 -- The plan, its two thresholds and what they decide. Document 01, "The plan", "Reading", "Refusal numbers"; the report's Table 2.
+--   larger                    the larger of two numbers
 --   columnOf countsOk         the rules on N, t, b, Q, m and the member: the column of the member in the table, and N's range
 --   limitsOk planOk           those on F and W; and all the rules of a plan
 --   recordLength slotsOf runsOf   R; the slots of a desk; those of an item
@@ -27,6 +28,9 @@ use Rattle.terms.specs.declared.Verdict.{Verdict}
 use Rattle.terms.specs.declared.Verdict.the-variants as verdict
 use Rattle.terms.specs.declared.Refusal.{Refusal}
 use Rattle.terms.specs.declared.Refusal.the-variants.{OutsidePlan, WrongLength, WrongBook, WrongFrame, TimeZero, HashFails, OtherBytes, NoRoom, OutOfRange, NotAwaited, AlreadyHeard, NotBelow, AskTooHigh, HasEnded, NoPlan}
+
+abbrev pub larger : ℕ → ℕ → ℕ
+larger a b = cond (ltb a b) b a
 
 -- Table 2, the column of a member: t+b+1 ≤ Q ≤ N-t-b and 1 ≤ m ≤ Q-t, or t+b+1 ≤ Q ≤ N-2t-2b and 1 ≤ m ≤ Q+b
 unfoldable pub columnOf : Member → (n t b q m : ℕ) → List Bool

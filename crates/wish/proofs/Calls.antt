@@ -13,7 +13,7 @@ use Rattle.terms.proofs.Rungs.{refusal-one, stop, go-on}
 use Rattle.wish.specs.declared.Wish.{Wish}
 use Rattle.wish.specs.declared.Smallest.{Smallest}
 use Rattle.wish.specs.declared.Smallest.the-variants as answer
-use Rattle.wish.specs.Wish.{Rejected, outside, unmet, wishLadder, SaidSmallest, refused, counts, saidSmallest, Says, SmallestCall}
+use Rattle.wish.specs.Wish.{RejectedFor, outside, unmet, wishLadder, SaidSmallest, refused, counts, saidSmallest, Says, SmallestCall}
 use Rattle.wish.specs.Closed.{nodesFor, quorumFor, answerFor}
 use Rattle.wish.proofs.Laws.{unmet-by-nodes, met-within, none-met, none-met-back, smallest, closed-forms}
 
@@ -61,18 +61,18 @@ answer-is w a c = said-is w (saidSmallest a) (c .is) ∙ go (outside w) refl
     go false e = ap (λ (u : Bool). cond u (refused 20) (counts (nodesFor w) (quorumFor w))) (sym (unmet-by-nodes w e))
 
 -- ---- 20, in document 02's words
-of-20 : (w : Wish) → Says w (refused 20) → (outside w ≡ false) × ((n q : ℕ) → Rejected w n q)
+of-20 : (w : Wish) → Says w (refused 20) → (outside w ≡ false) × ((n q : ℕ) → RejectedFor w n q)
 unfolding first
 of-20 w g = go (outside w) (unmet w) refl refl (is-given (wishLadder w) (λ (j : ℕ). j) 0 20 g)
   where
-    go : (o u : Bool) → outside w ≡ o → unmet w ≡ u → _≡_ {A = ℕ} (cond o 1 (cond u 20 0)) 20 → (outside w ≡ false) × ((n q : ℕ) → Rejected w n q)
+    go : (o u : Bool) → outside w ≡ o → unmet w ≡ u → _≡_ {A = ℕ} (cond o 1 (cond u 20 0)) 20 → (outside w ≡ false) × ((n q : ℕ) → RejectedFor w n q)
     go true u e f h = absurd (omega arith)
     go false true e f h = (e, none-met w f)
     go false false e f h = absurd (omega arith)
 
 pub exactly-20 : (w : Wish) (a : Smallest) → SmallestCall w a
-    → (saidSmallest a ≡ refused 20 → (outside w ≡ false) × ((n q : ℕ) → Rejected w n q))
-    × ((outside w ≡ false) × ((n q : ℕ) → n ≤ 16 → q ≤ 16 → Rejected w n q) → saidSmallest a ≡ refused 20)
+    → (saidSmallest a ≡ refused 20 → (outside w ≡ false) × ((n q : ℕ) → RejectedFor w n q))
+    × ((outside w ≡ false) × ((n q : ℕ) → n ≤ 16 → q ≤ 16 → RejectedFor w n q) → saidSmallest a ≡ refused 20)
 exactly-20 w a c = (
   (λ e. of-20 w (subst (Says w) e (c .is))),
   (λ h. said-is w (saidSmallest a) (c .is) ∙ sym (go-on 1 _ refused _ (h .0) (stop 20 _ refused _ (none-met-back w (h .1)) refl))),

@@ -8,8 +8,8 @@ use mathlib.Core.Path.{_≡_, refl, sym, ap, subst, _∙_}
 use mathlib.Core.Bool.{Bool, true, false, cond, not}
 use Prim.Native.Nat.{ℕ, zero, suc, _+_, _-_, _*_, _≤_, _<_}
 use native.Mathlib.Omega.{arith}
-use lib.Dec.{leb, ltb, eqb}
-use borrow.Author.Tests.{le-leb, leb-true, leb-false, ltb-true, ltb-false, eqb-true, eqb-false}
+use lib.Dec.{ltb, eqb}
+use borrow.Author.Tests.{le-leb, ltb-true, ltb-false, eqb-true, eqb-false}
 use Rattle.terms.specs.Ladder.{all}
 use Rattle.terms.specs.Terms.{planOk, countsOk, limitsOk}
 use Rattle.terms.specs.declared.Plan.{Plan}
@@ -18,11 +18,12 @@ use Rattle.terms.specs.declared.Member.the-variants.{Repairable, NonRepair}
 use Rattle.terms.specs.declared.Clients.{Clients}
 use Rattle.terms.specs.declared.Clients.the-variants.{Crash}
 use Rattle.terms.proofs.Rungs.{clash}
-use Rattle.terms.proofs.Picks.{either, itself}
+use Rattle.terms.proofs.Picks.{itself}
+use Rattle.terms.proofs.Small.{larger-is}
 use Rattle.terms.proofs.Plans.{CountsAre, counts-are, counts-back, counts-small, column-common, not-ok}
 use Rattle.wish.specs.declared.Wish.{Wish}
-use Rattle.wish.specs.Wish.{Counts, planWith, Every, countsFor, Accepted, Rejected, SmallestFor, outside, unmet, someUpTo}
-use Rattle.wish.specs.Closed.{larger, nodesBy, quorumBy, nodesFor, quorumFor}
+use Rattle.wish.specs.Wish.{Counts, planWith, Every, countsFor, AcceptedFor, RejectedFor, SmallestFor, outside, unmet, someUpTo}
+use Rattle.wish.specs.Closed.{nodesBy, quorumBy, nodesFor, quorumFor}
 
 -- ---- F, W and the clients are free
 abbrev pub rulesOk : Counts → Bool
@@ -42,7 +43,7 @@ rejects s h F W c = rw (sym (not-ok (rulesOk s) h))
 abbrev accepted : Wish → (n q : ℕ) → Bool
 accepted w n q = rulesOk (countsFor w n q)
 
-accepted-is : (w : Wish) (n q : ℕ) → Accepted w n q → accepted w n q ≡ true
+accepted-is : (w : Wish) (n q : ℕ) → AcceptedFor w n q → accepted w n q ≡ true
 accepted-is w n q a = sym (in-range (countsFor w n q) 1 1 Crash (omega arith) (omega arith) (omega arith) (omega arith)) ∙ a 1 1 Crash (omega arith) (omega arith) (omega arith) (omega arith)
 
 -- both are numbers of a plan
@@ -51,52 +52,28 @@ small-counts w n q s =
     let c = counts-are (w .member) n (w .t) (w .b) q (w .m) (accepted-is w n q (s .accepted)) in
     (c .n-high, counts-small (w .member) n (w .t) (w .b) q (w .m) (c .n-high) (c .column) .q-small)
 
--- ---- the larger of two
-pub larger-left : (a b : ℕ) → a ≤ larger a b
-unfolding larger
-larger-left a b = go (leb a b) refl
-  where
-    go : (t : Bool) → leb a b ≡ t → a ≤ cond t b a
-    go true e = leb-true a b e
-    go false e = omega arith
-
-larger-right : (a b : ℕ) → b ≤ larger a b
-unfolding larger
-larger-right a b = go (leb a b) refl
-  where
-    go : (t : Bool) → leb a b ≡ t → b ≤ cond t b a
-    go true e = omega arith
-    go false e = let l = leb-false a b e in omega arith
-
-larger-least : (a b c : ℕ) → a ≤ c → b ≤ c → larger a b ≤ c
-unfolding larger
-larger-least a b c h k = either (λ (x : ℕ). x ≤ c) (leb a b) k h
-
 -- ---- the closed forms are accepted, and nothing below them
 pub fits : (k : Member) (t b m : ℕ) → b ≤ t → 1 ≤ m → nodesBy k t b m ≤ 16 → countsOk k (nodesBy k t b m) t b (quorumBy k t b m) m ≡ true
 fits Repairable t b m s one high =
-    let n = larger (2 * t + 2 * b + 1) (m + 2 * t + b) in
-    let l = larger-left (2 * t + 2 * b + 1) (m + 2 * t + b) in
-    let r = larger-right (2 * t + 2 * b + 1) (m + 2 * t + b) in
-    let q = larger-least (t + b + 1) (m + t) (n - (t + b)) (omega arith) (omega arith) in
-    counts-back Repairable n t b (larger (t + b + 1) (m + t)) m
-    (record { n-low = omega arith; n-high = high; b-t = s; column = (larger-left (t + b + 1) (m + t), omega arith, one, larger-right (t + b + 1) (m + t)) })
+    let n = larger-is (2 * t + 2 * b + 1) (m + 2 * t + b) in
+    let q = larger-is (t + b + 1) (m + t) in
+    counts-back Repairable _ t b _ m (record { n-low = omega arith; n-high = high; b-t = s; column = (omega arith, omega arith, one, omega arith) })
 fits NonRepair t b m s one high =
-    let n = larger (3 * t + 3 * b + 1) (m + 2 * t + b) in
-    let l = larger-left (3 * t + 3 * b + 1) (m + 2 * t + b) in
-    let r = larger-right (3 * t + 3 * b + 1) (m + 2 * t + b) in
-    let q = larger-least (t + b + 1) (m - b) (n - (2 * t + 2 * b)) (omega arith) (omega arith) in
-    let g = larger-right (t + b + 1) (m - b) in
-    counts-back NonRepair n t b (larger (t + b + 1) (m - b)) m
-    (record { n-low = omega arith; n-high = high; b-t = s; column = (larger-left (t + b + 1) (m - b), omega arith, one, omega arith) })
+    let n = larger-is (3 * t + 3 * b + 1) (m + 2 * t + b) in
+    let q = larger-is (t + b + 1) (m - b) in
+    counts-back NonRepair _ t b _ m (record { n-low = omega arith; n-high = high; b-t = s; column = (omega arith, omega arith, one, omega arith) })
 
 pub least : (k : Member) (n t b q m : ℕ) → countsOk k n t b q m ≡ true → (nodesBy k t b m ≤ n) × (quorumBy k t b m ≤ q)
 least Repairable n t b q m e =
     let c = counts-are Repairable n t b q m e .column in
-    (larger-least (2 * t + 2 * b + 1) (m + 2 * t + b) n (omega arith) (omega arith), larger-least (t + b + 1) (m + t) q (omega arith) (omega arith))
+    let f = larger-is (2 * t + 2 * b + 1) (m + 2 * t + b) in
+    let g = larger-is (t + b + 1) (m + t) in
+    (omega arith, omega arith)
 least NonRepair n t b q m e =
     let c = counts-are NonRepair n t b q m e .column in
-    (larger-least (3 * t + 3 * b + 1) (m + 2 * t + b) n (omega arith) (omega arith), larger-least (t + b + 1) (m - b) q (omega arith) (omega arith))
+    let f = larger-is (3 * t + 3 * b + 1) (m + 2 * t + b) in
+    let g = larger-is (t + b + 1) (m - b) in
+    (omega arith, omega arith)
 
 -- ---- "no N and Q up to 16 are accepted"
 some-of : (k : ℕ) (f : ℕ → Bool) (i : ℕ) → i ≤ k → f i ≡ true → someUpTo k f ≡ true
@@ -157,10 +134,10 @@ met w n q e =
     ap not (some-of 16 (some-quorum w) n (c .n-high) (some-of 16 (accepted w n) q (s .q-small) e))
 
 -- 20, of all N and Q
-pub none-met : (w : Wish) → unmet w ≡ true → (n q : ℕ) → Rejected w n q
+pub none-met : (w : Wish) → unmet w ≡ true → (n q : ℕ) → RejectedFor w n q
 none-met w e n q = rejects (countsFor w n q) (λ a. clash (sym e ∙ met w n q a))
 
-pub none-met-back : (w : Wish) → ((n q : ℕ) → n ≤ 16 → q ≤ 16 → Rejected w n q) → unmet w ≡ true
+pub none-met-back : (w : Wish) → ((n q : ℕ) → n ≤ 16 → q ≤ 16 → RejectedFor w n q) → unmet w ≡ true
 none-met-back w h =
     unmet-when w (λ n q a.
     let c = counts-are (w .member) n (w .t) (w .b) q (w .m) a in
@@ -219,7 +196,7 @@ smallest w e high =
     }
 
 -- THE SMALLEST N AND Q ARE THE CLOSED FORMS
-both-ways : (w : Wish) (n q : ℕ) → accepted w n q ≡ true → Rejected w n q → ⊥
+both-ways : (w : Wish) (n q : ℕ) → accepted w n q ≡ true → RejectedFor w n q → ⊥
 both-ways w n q a r = clash (sym (accepts (countsFor w n q) a 1 1 Crash (omega arith) (omega arith) (omega arith) (omega arith)) ∙ r 1 1 Crash)
 
 not-above : (a b : ℕ) → a ≤ b → (a < b → ⊥) → b ≡ a

@@ -3,42 +3,28 @@ use mathlib.Core.Path.{_≡_, refl, sym, ap, subst, _∙_}
 use mathlib.Core.Bool.{Bool, true, false}
 use Prim.Native.Nat.{ℕ, _+_, _-_, _*_, _≤_, _<_}
 use native.Mathlib.Omega.{arith}
-use lib.Dec.{leb, ltb, eqb}
-use borrow.Author.Tests.{le-leb, lt-leb, lt-ltb, le-ltb, leb-true, leb-false}
+use lib.Dec.{ltb, eqb}
+use borrow.Author.Tests.{lt-ltb, le-ltb}
 use Rattle.terms.specs.declared.Member.the-variants.{Repairable, NonRepair}
 use Rattle.terms.specs.declared.Refusal.the-variants.{OutsidePlan, NoPlan}
+use Rattle.terms.specs.Terms.{larger}
 use Rattle.terms.proofs.Rungs.{stop, go-on, passed}
+use Rattle.terms.proofs.Small.{larger-is}
 use Rattle.wish.specs.declared.Wish.{Wish}
 use Rattle.wish.specs.declared.Smallest.the-variants as answer
 use Rattle.wish.specs.declared.Smallest.{Smallest}
 use Rattle.wish.specs.Wish.{outside, unmet, refused, counts, saidSmallest, Says, SmallestCall}
-use Rattle.wish.specs.Closed.{larger, nodesFor, quorumFor}
-use Rattle.wish.proofs.Laws.{larger-left, sensible, unmet-by-nodes, met-within}
+use Rattle.wish.specs.Closed.{nodesFor, quorumFor}
+use Rattle.wish.proofs.Laws.{sensible, unmet-by-nodes, met-within}
 use Rattle.wish.proofs.Calls.{came, came-says}
 
 -- ---- the larger of two
-pub larger-yes : (a b : ℕ) → a ≤ b → b ≡ larger a b
-unfolding larger
-larger-yes a b h = rw (le-leb a b h)
-
-pub larger-no : (a b : ℕ) → b < a → a ≡ larger a b
-unfolding larger
-larger-no a b h = rw (lt-leb a b h)
-
 -- less b of each, less b of the larger
-pub larger-less : (t b m : ℕ) → larger (t + 2 * b + 1) m - b ≡ larger (t + b + 1) (m - b)
-larger-less t b m = go (leb (t + 2 * b + 1) m) refl
-  where
-    go : (c : Bool) → leb (t + 2 * b + 1) m ≡ c → larger (t + 2 * b + 1) m - b ≡ larger (t + b + 1) (m - b)
-    go true e =
-        let l = leb-true (t + 2 * b + 1) m e in
-        ap (λ (x : ℕ). x - b) (sym (larger-yes (t + 2 * b + 1) m l)) ∙ larger-yes (t + b + 1) (m - b) (omega arith)
-    go false e =
-        let l = leb-false (t + 2 * b + 1) m e in
-        ap (λ (x : ℕ). x - b) (sym (larger-no (t + 2 * b + 1) m l)) ∙ (omega arith ∙ larger-no (t + b + 1) (m - b) (omega arith))
+larger-less : (t b m : ℕ) → larger (t + 2 * b + 1) m - b ≡ larger (t + b + 1) (m - b)
+larger-less t b m = let e = larger-is (t + 2 * b + 1) m in let f = larger-is (t + b + 1) (m - b) in omega arith
 
 pub sub-larger : (t b m x : ℕ) → x ≡ larger (t + 2 * b + 1) m → b ≤ x
-sub-larger t b m x e = let l = larger-left (t + 2 * b + 1) m in omega arith
+sub-larger t b m x e = let l = larger-is (t + 2 * b + 1) m in omega arith
 
 -- ---- the closed forms
 module _ (w : Wish) where

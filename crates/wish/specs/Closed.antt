@@ -1,19 +1,16 @@
 -- The smallest N and Q by closed forms: what the code computes, and theorems say that they are the smallest (closed-forms, answer-is). No contract
 -- of a public call names them. Document 02, Q-1: "For repairable members that N is the larger of 2t+2b+1 and m+2t+b."
---   larger                  of two
 --   nodesBy quorumBy        the four closed forms; nodesFor quorumFor, of a wish
 --   answerFor               the answer of every wish
 -- Assumes nothing.
 use Prim.Native.Nat.{ℕ, _+_, _-_, _*_}
 use mathlib.Core.Bool.{cond}
-use lib.Dec.{leb, ltb}
+use lib.Dec.{ltb}
+use Rattle.terms.specs.Terms.{larger}
 use Rattle.terms.specs.declared.Member.{Member}
 use Rattle.terms.specs.declared.Member.the-variants.{Repairable, NonRepair}
 use Rattle.wish.specs.declared.Wish.{Wish}
 use Rattle.wish.specs.Wish.{outside, SaidSmallest, refused, counts}
-
-unfoldable pub larger : ℕ → ℕ → ℕ
-larger a b = cond (leb a b) b a
 
 abbrev pub nodesBy : Member → (t b m : ℕ) → ℕ
 nodesBy Repairable t b m = larger (2 * t + 2 * b + 1) (m + 2 * t + b)

@@ -3,7 +3,7 @@
 --   Counts countsOf      the counts of a plan: N, t, b, Q, m and the member
 --   planWith Every       their plan with F, W and the clients; what holds of it for every F and W in range and both client models
 --   countsFor            those of a wish, with N and Q
---   Accepted Rejected    document 01 accepts N and Q for a wish, whatever F and W in range and the clients are; it does so with none
+--   AcceptedFor RejectedFor    document 01 accepts N and Q for a wish, whatever F and W in range and the clients are; it does so with none
 --   SmallestFor          N is the smallest that is accepted, and Q the smallest with it
 --   outside unmet        the conditions of the refusals; wishLadder, their order: 1, 20
 --   SaidSmallest Says    an answer, and when it is the one; SmallestCall, the contract of the call
@@ -44,17 +44,17 @@ Every s P = (F W : ℕ) (c : Clients) → 1 ≤ F → F ≤ 1024 → 1 ≤ W →
 abbrev pub countsFor : Wish → (n q : ℕ) → Counts
 countsFor w n q = countsOf (w .member) n (w .t) (w .b) q (w .m)
 
-abbrev pub Accepted : Wish → (n q : ℕ) → Type 0
-Accepted w n q = Every (countsFor w n q) (λ (p : Plan). planOk p ≡ true)
+abbrev pub AcceptedFor : Wish → (n q : ℕ) → Type 0
+AcceptedFor w n q = Every (countsFor w n q) (λ (p : Plan). planOk p ≡ true)
 
-abbrev pub Rejected : Wish → (n q : ℕ) → Type 0
-Rejected w n q = (F W : ℕ) (c : Clients) → planOk (planWith (countsFor w n q) F W c) ≡ false
+abbrev pub RejectedFor : Wish → (n q : ℕ) → Type 0
+RejectedFor w n q = (F W : ℕ) (c : Clients) → planOk (planWith (countsFor w n q) F W c) ≡ false
 
 -- "the smallest N, and with it the smallest Q": no smaller N is accepted with any Q, and no smaller Q with this N
 pub record SmallestFor (w : Wish) (n q : ℕ) : Type 0 where
-  pub accepted : Accepted w n q
-  pub nodes : (n₂ q₂ : ℕ) → n₂ < n → Rejected w n₂ q₂
-  pub quorum : (q₂ : ℕ) → q₂ < q → Rejected w n q₂
+  pub accepted : AcceptedFor w n q
+  pub nodes : (n₂ q₂ : ℕ) → n₂ < n → RejectedFor w n₂ q₂
+  pub quorum : (q₂ : ℕ) → q₂ < q → RejectedFor w n q₂
 
 -- ---- the refusals
 -- "1 when b is above t or m is 0"

@@ -6,7 +6,8 @@ ghost use mathlib.Core.Path.{_≡_};
 ghost use mathlib.Core.Bool.{false};
 ghost use Prim.Native.Nat.{_≤_};
 ghost use Rattle.wish.specs.Wish.{outside, unmet, SmallestCall};
-ghost use Rattle.wish.specs.Closed.{larger, nodesFor, quorumFor};
+ghost use Rattle.terms.specs.Terms.{larger};
+ghost use Rattle.wish.specs.Closed.{nodesFor, quorumFor};
 
 // What site staff know: t nodes may be silent or worse, b of them may lie, and m fragments give the block.
 pub struct Wish {
@@ -25,7 +26,7 @@ pub enum Smallest {
 fn larger(a: u64, b: u64) -> u64
     ensures { λ r. ⌜ r ≡ larger a b ⌝ }
 {
-    if a <= b {
+    if a < b {
         return b;
     }
     a

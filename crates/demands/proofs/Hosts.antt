@@ -192,9 +192,9 @@ host-wish-unique k t b m y r r′ y₂ y₂′ c c′ =
     (ap (λ (o : CountsTold). o .number) e, ap (λ (o : CountsTold). o .counts) e)
 
 -- a number below 256 is its byte
-one-byte : (n : ℕ) → n ≤ 16 → be 1 n ≡ n ∷ []
+one-byte : (n : ℕ) → n < 256 → be 1 n ≡ n ∷ []
 unfolding be beOnto
-one-byte n h = ap (λ (x : ℕ). x ∷ []) (mod-eq-of-lt (omega arith))
+one-byte n h = ap (λ (x : ℕ). x ∷ []) (mod-eq-of-lt h)
 
 module _ (k t b m : ℕ) (y : List ℕ) (r : ℕ) (y₂ : List ℕ) (c : SmallestServes k t b m y r y₂) where
   abbrev asks : Wish
@@ -228,4 +228,4 @@ module _ (k t b m : ℕ) (y : List ℕ) (r : ℕ) (y₂ : List ℕ) (c : Smalles
       answered (wish.refused j) g e = absurd (no-zero (wishLadder asks) refl j g e)
       answered (wish.counts n q) g e =
           let s = small-counts asks n q (g .1) in
-          record { n = n; q = q; is = ap (λ (l : List ℕ). l ++ be 1 q) (one-byte n (s .0)) ∙ ap (λ (l : List ℕ). n ∷ l) (one-byte q (s .1)); smallest = g .1 }
+          record { n = n; q = q; is = ap (λ (l : List ℕ). l ++ be 1 q) (one-byte n (omega arith)) ∙ ap (λ (l : List ℕ). n ∷ l) (one-byte q (omega arith)); smallest = g .1 }

@@ -5,8 +5,10 @@
 -- The same of the calls for a host, whose number is a refusal's below 101; and the numbers that each of them can answer.
 --   host-node-exactly host-fresh-exactly host-open-exactly host-owed-exactly host-write-exactly host-read-exactly host-wish-exactly
 --   host-node-numbers host-fresh-numbers host-open-numbers host-owed-numbers host-write-numbers host-read-numbers host-wish-numbers
+--   host-wish-member   a byte above 1 is no member, and is refused 1
 use Prim.Native.Nat.{ℕ, _≤_, _<_}
 use native.Mathlib.Omega.{arith}
+use borrow.Author.Tests.{lt-leb}
 use mathlib.Core.Path.{_≡_, refl, sym, ap, subst, _∙_}
 use mathlib.Core.Bool.{Bool, true, false, cond}
 use mathlib.Core.List.{List, [], _∷_, _++_}
@@ -330,6 +332,11 @@ module _ (k t b m : ℕ) (y : List ℕ) (r : ℕ) (y₂ : List ℕ) (c : Smalles
 
   pub host-wish-exactly : (j : ℕ) → 1 ≤ j → j < 101 → Exactly (r ≡ j) (Given wishOrder j)
   host-wish-exactly j = by-number _ 0 r j wish-number (λ l e. omega arith)
+
+  -- a byte that codes no member is refused 1, whatever else is asked and lent
+  pub host-wish-member : 1 < k → r ≡ 1
+  unfolding wishOf first
+  host-wish-member h = wish-number ∙ rw (lt-leb k 1 h)
 
   pub host-wish-numbers : oneOf r (0 ∷ 1 ∷ 2 ∷ 20 ∷ []) ≡ true
   unfolding oneOf

@@ -20,7 +20,7 @@ use Rattle.terms.specs.declared.Clients.the-variants.{Crash}
 use Rattle.terms.proofs.Rungs.{clash}
 use Rattle.terms.proofs.Picks.{itself}
 use Rattle.terms.proofs.Small.{larger-is}
-use Rattle.terms.proofs.Plans.{CountsAre, counts-are, counts-back, counts-small, column-common, not-ok}
+use Rattle.terms.proofs.Plans.{CountsAre, counts-are, counts-back, SmallCounts, counts-small, column-common, not-ok}
 use Rattle.wish.specs.declared.Wish.{Wish}
 use Rattle.wish.specs.Wish.{Counts, planWith, Every, countsFor, AcceptedFor, RejectedFor, SmallestFor, outside, unmet, someUpTo}
 use Rattle.wish.specs.Closed.{nodesBy, quorumBy, nodesFor, quorumFor}
@@ -43,14 +43,27 @@ rejects s h F W c = rw (sym (not-ok (rulesOk s) h))
 abbrev accepted : Wish → (n q : ℕ) → Bool
 accepted w n q = rulesOk (countsFor w n q)
 
-accepted-is : (w : Wish) (n q : ℕ) → AcceptedFor w n q → accepted w n q ≡ true
-accepted-is w n q a = sym (in-range (countsFor w n q) 1 1 Crash (omega arith) (omega arith) (omega arith) (omega arith)) ∙ a 1 1 Crash (omega arith) (omega arith) (omega arith) (omega arith)
+-- so a plan with F 1, W 1 and crash clients decides
+at-one : (w : Wish) (n q : ℕ) → planOk (planWith (countsFor w n q) 1 1 Crash) ≡ accepted w n q
+at-one w n q = in-range (countsFor w n q) 1 1 Crash (omega arith) (omega arith) (omega arith) (omega arith)
 
--- both are numbers of a plan
+accepted-is : (w : Wish) (n q : ℕ) → AcceptedFor w n q → accepted w n q ≡ true
+accepted-is w n q a = sym (at-one w n q) ∙ a 1 1 Crash (omega arith) (omega arith) (omega arith) (omega arith)
+
+-- accepted and rejected exclude each other
+both-ways : (w : Wish) (n q : ℕ) → accepted w n q ≡ true → RejectedFor w n q → ⊥
+both-ways w n q a r = clash (sym (at-one w n q ∙ a) ∙ r 1 1 Crash)
+
+-- what is accepted has the document's facts, and small numbers
+module _ (w : Wish) (n q : ℕ) (e : accepted w n q ≡ true) where
+  counts-of : CountsAre (w .member) n (w .t) (w .b) q (w .m)
+  counts-of = counts-are (w .member) n (w .t) (w .b) q (w .m) e
+
+  small-of : SmallCounts (w .t) q (w .m)
+  small-of = counts-small (w .member) n (w .t) (w .b) q (w .m) (counts-of .n-high) (counts-of .column)
+
 pub small-counts : (w : Wish) (n q : ℕ) → SmallestFor w n q → (n ≤ 16) × (q ≤ 16)
-small-counts w n q s =
-    let c = counts-are (w .member) n (w .t) (w .b) q (w .m) (accepted-is w n q (s .accepted)) in
-    (c .n-high, counts-small (w .member) n (w .t) (w .b) q (w .m) (c .n-high) (c .column) .q-small)
+small-counts w n q s = let e = accepted-is w n q (s .accepted) in (counts-of w n q e .n-high, small-of w n q e .q-small)
 
 -- ---- the closed forms are accepted, and nothing below them
 pub fits : (k : Member) (t b m : ℕ) → b ≤ t → 1 ≤ m → nodesBy k t b m ≤ 16 → countsOk k (nodesBy k t b m) t b (quorumBy k t b m) m ≡ true
@@ -128,21 +141,14 @@ unmet-when w h =
 
 pub met : (w : Wish) (n q : ℕ) → accepted w n q ≡ true → unmet w ≡ false
 unfolding unmet
-met w n q e =
-    let c = counts-are (w .member) n (w .t) (w .b) q (w .m) e in
-    let s = counts-small (w .member) n (w .t) (w .b) q (w .m) (c .n-high) (c .column) in
-    ap not (some-of 16 (some-quorum w) n (c .n-high) (some-of 16 (accepted w n) q (s .q-small) e))
+met w n q e = ap not (some-of 16 (some-quorum w) n (counts-of w n q e .n-high) (some-of 16 (accepted w n) q (small-of w n q e .q-small) e))
 
 -- 20, of all N and Q
 pub none-met : (w : Wish) → unmet w ≡ true → (n q : ℕ) → RejectedFor w n q
 none-met w e n q = rejects (countsFor w n q) (λ a. clash (sym e ∙ met w n q a))
 
 pub none-met-back : (w : Wish) → ((n q : ℕ) → n ≤ 16 → q ≤ 16 → RejectedFor w n q) → unmet w ≡ true
-none-met-back w h =
-    unmet-when w (λ n q a.
-    let c = counts-are (w .member) n (w .t) (w .b) q (w .m) a in
-    let s = counts-small (w .member) n (w .t) (w .b) q (w .m) (c .n-high) (c .column) in
-    clash (sym (accepts (countsFor w n q) a 1 1 Crash (omega arith) (omega arith) (omega arith) (omega arith)) ∙ h n q (c .n-high) (s .q-small) 1 1 Crash))
+none-met-back w h = unmet-when w (λ n q a. both-ways w n q a (h n q (counts-of w n q a .n-high) (small-of w n q a .q-small)))
 
 -- what is accepted: its numbers are small, and the closed form of N is not above 16
 pub record Within (w : Wish) : Type 0 where
@@ -153,13 +159,11 @@ pub record Within (w : Wish) : Type 0 where
 
 pub within : (w : Wish) (n q : ℕ) → accepted w n q ≡ true → Within w
 within w n q e =
-    let c = counts-are (w .member) n (w .t) (w .b) q (w .m) e in
-    let s = counts-small (w .member) n (w .t) (w .b) q (w .m) (c .n-high) (c .column) in
     let l = least (w .member) n (w .t) (w .b) q (w .m) e in
-    let h = c .n-high in
-    let k = c .b-t in
-    let t = s .t-small in
-    record { t-small = t; b-small = omega arith; m-small = s .m-small; nodes = omega arith }
+    let h = counts-of w n q e .n-high in
+    let k = counts-of w n q e .b-t in
+    let t = small-of w n q e .t-small in
+    record { t-small = t; b-small = omega arith; m-small = small-of w n q e .m-small; nodes = omega arith }
 
 pub unmet-if : (w : Wish) → (Within w → ⊥) → true ≡ unmet w
 unmet-if w h = sym (unmet-when w (λ n q a. h (within w n q a)))
@@ -195,10 +199,6 @@ smallest w e high =
       quorum = λ q l. rejects (countsFor w (nodesFor w) q) (λ a. let h = least (w .member) (nodesFor w) (w .t) (w .b) q (w .m) a .1 in omega arith);
     }
 
--- THE SMALLEST N AND Q ARE THE CLOSED FORMS
-both-ways : (w : Wish) (n q : ℕ) → accepted w n q ≡ true → RejectedFor w n q → ⊥
-both-ways w n q a r = clash (sym (accepts (countsFor w n q) a 1 1 Crash (omega arith) (omega arith) (omega arith) (omega arith)) ∙ r 1 1 Crash)
-
 not-above : (a b : ℕ) → a ≤ b → (a < b → ⊥) → b ≡ a
 not-above a b l h = go (ltb a b) refl
   where
@@ -206,6 +206,7 @@ not-above a b l h = go (ltb a b) refl
     go true e = absurd (h (ltb-true a b e))
     go false e = let g = ltb-false a b e in omega arith
 
+-- THE SMALLEST N AND Q ARE THE CLOSED FORMS
 pub closed-forms : (w : Wish) (n q : ℕ) → SmallestFor w n q → (n ≡ nodesFor w) × (q ≡ quorumFor w)
 closed-forms w n q s = (nodes, quorum)
   where
@@ -213,7 +214,7 @@ closed-forms w n q s = (nodes, quorum)
     e = accepted-is w n q (s .accepted)
 
     c : CountsAre (w .member) n (w .t) (w .b) q (w .m)
-    c = counts-are (w .member) n (w .t) (w .b) q (w .m) e
+    c = counts-of w n q e
 
     l : (nodesFor w ≤ n) × (quorumFor w ≤ q)
     l = least (w .member) n (w .t) (w .b) q (w .m) e

@@ -1,12 +1,12 @@
 -- Every session that opening and writing make is in its ranges with the desk handed back: an accepted opening's (opened-kept), and what a
 -- reply to a writer leaves of one that was (write-kept). ReadKept.antt has the replies to a reader. Assumes nothing.
-use Prim.Native.Nat.{ℕ, _*_, _^_, _≤_, _<_}
+use Prim.Native.Nat.{ℕ, _+_, _*_, _^_, _≤_, _<_}
 use mathlib.Core.Path.{_≡_, refl, sym, _∙_, subst}
 use mathlib.Core.Bool.{Bool, true, false, cond}
 use mathlib.Core.List.{List}
 use native.Mathlib.Omega.{arith}
 use borrow.Author.Tests.{eqb-false, not-true}
-use lib.Dec.{ltb, eqb}
+use lib.Dec.{eqb}
 use lib.ListN.{length, set}
 use Rattle.octets.specs.Bytes.{part, num, Octets}
 use Rattle.octets.proofs.Laws.{length-part}
@@ -20,6 +20,7 @@ use Rattle.terms.specs.declared.Time.{Time}
 use Rattle.frame.specs.Frame.{frameNode, bodyOf, framed, versionOf, headBytes}
 use Rattle.frame.proofs.Frames.{body-part}
 use Rattle.record.proofs.Desks.{time-made}
+use Rattle.clock.proofs.Wide.{WideTimes, wide-zeros, wide-set, kth-wide}
 use Rattle.rounds.specs.declared.Heard.{Heard}
 use Rattle.rounds.specs.declared.Heard.the-variants.{Record}
 use Rattle.session.specs.declared.Session.{Session}
@@ -30,11 +31,11 @@ use Rattle.session.specs.declared.opening.Opening.the-variants.{Accepted
 use Rattle.session.specs.Opening.{OpenCall}
 use Rattle.standing.specs.declared.Operation.the-variants.{Write}
 use Rattle.standing.specs.Standing.{isStoring, isRead}
-use Rattle.session.specs.Session.{readRound, withGreatest, withMarks, markedOf, endedOf, storingOf, refused, stillOpen, done, clockSpent, roundOpen}
+use Rattle.session.specs.Session.{readRound, withTimes, withMarks, markedOf, endedOf, storingOf, refused, stillOpen, done, clockSpent, roundOpen}
 use Rattle.session.specs.Ranges.{inRange}
 use Rattle.session.specs.Reply.{replyLadder}
 use Rattle.recover.specs.Records.{crossFor, stampFor, recordsFor}
-use Rattle.session.specs.Writer.{laterOf, timedOf, newTime, leaves, Leaves, timeEnd, timeTurn, writeTurn, acceptedWrite, writeReply, WriteReplyCall}
+use Rattle.session.specs.Writer.{timedOf, kthReply, newTime, leaves, Leaves, timeEnd, timeTurn, writeTurn, acceptedWrite, writeReply, WriteReplyCall}
 use Rattle.session.proofs.Checks.{outcome-all}
 use Rattle.session.proofs.Made.{OpenIs, ended-in-range, open-in-range, end-stands, storing-in-range, rest-set, none-set}
 use Rattle.session.proofs.Openings.{accepted-session, accepted-in-range}
@@ -43,17 +44,17 @@ use Rattle.session.proofs.Writers.{time-there}
 use Rattle.session.proofs.Known.{Known, known-reply, same, item-is, reply}
 use Rattle.session.proofs.Rules.{StandingIs}
 
--- a session in its ranges with its desk, which is N·R bytes; its greatest time has 8 bytes
+-- a session in its ranges with its desk, which is N·R bytes; its times have 8 bytes each
 pub record Kept (p : Plan) (s : Session) (d : List ℕ) : Type 0 where
   pub range : inRange p s d ≡ true
   pub desk-is : length d ≡ p .n * recordLength p
-  pub clock : s .greatest .0 < 256 ^ 8
+  pub clock : WideTimes (s .times)
 
 -- so is an accepted opening's, with any desk of that length
 pub opened-kept : (op : Operation) (p : Plan) (a : Ask) (r : Opened) → OpenCall op p a r → r .answer ≡ Accepted → (d : List ℕ)
     → length d ≡ p .n * recordLength p → Kept p (r .session) d
 opened-kept op p a r call e d l =
-    record { range = accepted-in-range op p a r call e d; desk-is = l; clock = rw (accepted-session op p a r call e) (omega arith) }
+    record { range = accepted-in-range op p a r call e d; desk-is = l; clock = rw (accepted-session op p a r call e) wide-zeros }
 
 -- ---- times, timestamps and records as they are made
 time-small : (f : List ℕ) → Octets f → length f ≡ framed (versionOf f) 8 → time (bodyOf f) < 256 ^ 8
@@ -62,22 +63,15 @@ time-small f o l =
     let e : length (part f (headBytes (versionOf f)) 8) ≡ 8 = length-part f (headBytes (versionOf f)) 8 (omega arith) in
     rw z (subst (λ (n : ℕ). num (part f (headBytes (versionOf f)) 8) < 256 ^ n) e (num-small (part f (headBytes (versionOf f)) 8) (bytes-part f (headBytes (versionOf f)) 8 (bytes-all f o))))
 
-later-small : (a b : ℕ) → a < 256 ^ 8 → b < 256 ^ 8 → laterOf a b < 256 ^ 8
-later-small a b h k = go (ltb a b)
-  where
-    go : (t : Bool) → cond t b a < 256 ^ 8
-    go true = k
-    go false = h
-
 stamp-low : (p : Plan) (t : ℕ) (i : List ℕ) → 1 ≤ t → t < 256 ^ 8 → 1 ≤ stampFor p t i .time .0
 unfolding stampFor stampAt
 stamp-low p t i h k = rw (time-made t (crossFor p i) k) h
 
--- ---- a node heard: in a time round it may give a later time
-abbrev pub heardOf : Session → ℕ → Heard → Time → Session
-heardOf s n m g = withMarks (withGreatest s g) (set (s .marks) n (record { is = m }))
+-- ---- a node heard: in a time round it gives a time
+abbrev pub heardOf : Session → ℕ → Heard → List Time → Session
+heardOf s n m g = withMarks (withTimes s g) (set (s .marks) n (record { is = m }))
 
-pub heard-stands : (p : Plan) (s : Session) (n : ℕ) (m : Heard) (g : Time) → n < p .n → StandingIs p s → StandingIs p (heardOf s n m g)
+pub heard-stands : (p : Plan) (s : Session) (n : ℕ) (m : Heard) (g : List Time) → n < p .n → StandingIs p s → StandingIs p (heardOf s n m g)
 heard-stands p s n m g h q =
     record {
       low = q .low;
@@ -89,7 +83,7 @@ heard-stands p s n m g h q =
     }
 
 -- a time, write or repair round that stays open
-pub heard-open : (p : Plan) (s : Session) (n : ℕ) (g : Time) (d : List ℕ) → readRound s ≡ false → OpenIs p s d
+pub heard-open : (p : Plan) (s : Session) (n : ℕ) (g : List Time) (d : List ℕ) → readRound s ≡ false → OpenIs p s d
     → roundOpen p (heardOf s n Record g) ≡ true → OpenIs p (heardOf s n Record g) d
 heard-open p s n g d w o e =
     record {
@@ -112,7 +106,7 @@ module _ (p : Plan) (s : Session) (f d i : List ℕ) (o : Octets f) (k : Kept p 
     no-read : readRound s ≡ false
     no-read = rw (not-true (isRead (s .operation)) (same Write p s f d (length i) q))
 
-    module _ (g : Time) (small : g .0 < 256 ^ 8) where
+    module _ (g : List Time) (small : WideTimes g) where
       abbrev u : Session
       u = heardOf s (frameNode f) Record g
 
@@ -138,20 +132,24 @@ module _ (p : Plan) (s : Session) (f d i : List ℕ) (o : Octets f) (k : Kept p 
           go true c = still c
           go false c = ends
 
+      reply-wide : kthReply p u < 256 ^ 8
+      reply-wide = unfold kthReply in kth-wide (p .b + 1) (u .marks) g small
+
       in-time : Good (timeTurn p u d i)
       unfolding timeTurn timeEnd
-      in-time = go (roundOpen p u) (eqb (g .0) top) refl refl
+      in-time = go (roundOpen p u) (eqb (kthReply p u) top) refl refl
         where
-          go : (c m : Bool) → roundOpen p u ≡ c → eqb (g .0) top ≡ m
+          go : (c m : Bool) → roundOpen p u ≡ c → eqb (kthReply p u) top ≡ m
               → Good (cond c (leaves stillOpen u d)
-              (cond m (leaves clockSpent (endedOf u) d) (leaves stillOpen (storingOf u (stampFor p (newTime (g .0)) i)) (recordsFor p (newTime (g .0)) i))))
+              (cond m (leaves clockSpent (endedOf u) d) (leaves stillOpen (storingOf u (stampFor p (newTime (kthReply p u)) i)) (recordsFor p (newTime (kthReply p u)) i))))
           go true m c v = still c
           go false true c v = ends
           go false false c v =
-              let z = eqb-false (g .0) top v in
+              let z = eqb-false (kthReply p u) top v in
+              let w = reply-wide in
               record {
-                range = storing-in-range p u (stampFor p (newTime (g .0)) i) _ (q .plan-ok) stands (stamp-low p (newTime (g .0)) i (omega arith) (omega arith));
-                desk-is = length-records p (newTime (g .0)) i (item-is Write p s f d (length i) q);
+                range = storing-in-range p u (stampFor p (newTime (kthReply p u)) i) _ (q .plan-ok) stands (stamp-low p (newTime (kthReply p u)) i (omega arith) (omega arith));
+                desk-is = length-records p (newTime (kthReply p u)) i (item-is Write p s f d (length i) q);
                 clock = small;
               }
 
@@ -161,10 +159,10 @@ module _ (p : Plan) (s : Session) (f d i : List ℕ) (o : Octets f) (k : Kept p 
       where
         go : (c : Bool) → isStoring (s .round .stage) ≡ c
             → Good (cond c (writeTurn p (markedOf s (frameNode f) Record) d) (timeTurn p (timedOf s (frameNode f) (time (bodyOf f))) d i))
-        go true c = in-write (s .greatest) (k .clock)
+        go true c = in-write (s .times) (k .clock)
         go false c =
-            in-time (record { 0 = laterOf (s .greatest .0) (time (bodyOf f)) })
-            (later-small (s .greatest .0) (time (bodyOf f)) (k .clock) (time-small f o (time-there p s f d (length i) q c)))
+            in-time (set (s .times) (frameNode f) (record { 0 = time (bodyOf f) }))
+            (wide-set (s .times) (frameNode f) _ (time-small f o (time-there p s f d (length i) q c)) (k .clock))
 
   pub write-kept : (t : Took) (d₂ : List ℕ) → WriteReplyCall p s f d i t d₂ → Kept p (t .session) d₂
   unfolding writeReply

@@ -65,7 +65,7 @@ module _ (p : Plan) (s : Session) (f d i : List ℕ) (k : Kept p s d) where
       u = markedOf s (frameNode f) m
 
       stood : StandingIs p u
-      stood = heard-stands p s (frameNode f) m (s .greatest) low (q .stands)
+      stood = heard-stands p s (frameNode f) m (s .times) low (q .stands)
 
       module _ (e : List ℕ) (long : length e ≡ p .n * recordLength p) where
         ended : Kept p (endedOf u) e
@@ -145,7 +145,7 @@ module _ (p : Plan) (s : Session) (f d i : List ℕ) (k : Kept p s d) where
             → Good (cond c (outcome stillOpen (u Record) d i) (outcome (done (s .stamp) (s .round .number)) (endedOf (u Record)) d (collected p d i)))
         go true c =
             record {
-              range = open-in-range p (u Record) d (stood Record) (heard-open p s (frameNode f) (s .greatest) d (no-read (s .round .stage) t) (q .opens) c);
+              range = open-in-range p (u Record) d (stood Record) (heard-open p s (frameNode f) (s .times) d (no-read (s .round .stage) t) (q .opens) c);
               desk-is = k .desk-is;
               clock = k .clock;
             }

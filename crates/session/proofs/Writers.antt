@@ -3,9 +3,9 @@ use Prim.Native.Nat.{ℕ}
 use mathlib.Core.Path.{_≡_, refl, ap, _∙_}
 use mathlib.Core.Bool.{Bool, true, false}
 use mathlib.Core.List.{List}
-use borrow.Author.Tests.{eq-eqb, ne-eqb, not-true, not-false}
+use borrow.Author.Tests.{not-true, not-false}
 use lib.Dec.{eqb}
-use lib.ListN.{length, set}
+use lib.ListN.{length}
 use Rattle.terms.specs.Ladder.{first}
 use Rattle.terms.specs.Terms.{refusalNumber}
 use Rattle.terms.specs.Stamp.{time, top}
@@ -23,18 +23,13 @@ use Rattle.session.specs.declared.Taken.the-variants.{Refused}
 use Rattle.session.specs.declared.Session.{Session}
 use Rattle.standing.specs.declared.Operation.the-variants.{Write}
 use Rattle.standing.specs.Standing.{isRead, isStoring}
-use Rattle.session.specs.Session.{withGreatest, withMarks, askNow, awaitsKind, roundOpen, markedOf, endedOf, storingOf, refused, stillOpen, done, clockSpent}
+use Rattle.session.specs.Session.{askNow, awaitsKind, roundOpen, markedOf, endedOf, storingOf, refused, stillOpen, done, clockSpent}
 use Rattle.session.specs.Reply.{awaited, replyLadder, takenNumber}
 use Rattle.recover.specs.Records.{stampFor, recordsFor}
-use Rattle.session.specs.Writer.{laterOf, timedOf, newTime, leaves, timeEnd, timeTurn, writeTurn, acceptedWrite, writeReply}
+use Rattle.session.specs.Writer.{timedOf, kthReply, newTime, leaves, timeEnd, timeTurn, writeTurn, acceptedWrite, writeReply}
 use Rattle.session.proofs.Checks.{goes-on, check-failed}
 use Rattle.session.proofs.Rules.{kind-timed}
 use Rattle.session.proofs.Known.{Known, same, reply}
-
--- the session after a time reply
-pub timed-is : (s : Session) (i t : ℕ) (g : Time) → g .0 ≡ laterOf (s .greatest .0) t
-    → withMarks (withGreatest s g) (set (s .marks) i (record { is = Record })) ≡ timedOf s i t
-timed-is s i t g e = λ j. withMarks (withGreatest s (record { 0 = e j })) (set (s .marks) i (record { is = Record }))
 
 -- ---- a round after a reply: open, or over
 module _ (p : Plan) (s : Session) (d : List ℕ) (x : Bool) (c : x ≡ roundOpen p s) where
@@ -51,15 +46,15 @@ module _ (p : Plan) (s : Session) (d : List ℕ) (x : Bool) (c : x ≡ roundOpen
     unfolding writeTurn
     write-done y e = rw (← c, h, e)
 
-    pub clock-spent : (i : List ℕ) → s .greatest .0 ≡ top → (y : Session) → y ≡ endedOf s → leaves clockSpent y d ≡ timeTurn p s d i
+    pub clock-spent : (i : List ℕ) (x : ℕ) → x ≡ kthReply p s → (t : Bool) → t ≡ eqb x top → t ≡ true → (y : Session) → y ≡ endedOf s → leaves clockSpent y d ≡ timeTurn p s d i
     unfolding timeTurn timeEnd
-    clock-spent i g y e = rw (← c, h, eq-eqb (s .greatest .0) top g, e)
+    clock-spent i x k t q g y e = rw (← c, h, ← k, ← q, g, e)
 
-    pub write-opens : (i : List ℕ) → (s .greatest .0 ≡ top → ⊥) → (y : Session) (t : Timestamp) (d₂ : List ℕ) → y ≡ storingOf s t
-        → (t ≡ stampFor p (newTime (s .greatest .0)) i) × (d₂ ≡ recordsFor p (newTime (s .greatest .0)) i) → leaves stillOpen y d₂ ≡ timeTurn p s d i
+    pub write-opens : (i : List ℕ) (x : ℕ) → x ≡ kthReply p s → (z : Bool) → z ≡ eqb x top → z ≡ false → (y : Session) (t : Timestamp) (d₂ : List ℕ)
+        → y ≡ storingOf s t → (t ≡ stampFor p (newTime x) i) × (d₂ ≡ recordsFor p (newTime x) i) → leaves stillOpen y d₂ ≡ timeTurn p s d i
     unfolding timeTurn timeEnd
-    write-opens i g y t d₂ e q =
-        rw (← c, h, ne-eqb (s .greatest .0) top g)
+    write-opens i x k z u g y t d₂ e q =
+        rw (← c, h, ← k, ← u, g)
         (λ j. leaves stillOpen ((e ∙ ap (storingOf s) (q .0)) j) (q .1 j))
 
 -- a time round takes a time reply

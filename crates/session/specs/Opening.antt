@@ -18,6 +18,7 @@ use Rattle.terms.specs.declared.Plan.{Plan}
 use Rattle.rounds.specs.declared.Bound.{Bound}
 use Rattle.rounds.specs.declared.Bound.the-variants.{Free}
 use Rattle.rounds.specs.Rounds.{unheards}
+use Rattle.clock.specs.Clock.{zeroTimes}
 use Rattle.session.specs.declared.Session.{Session}
 use Rattle.standing.specs.declared.Operation.{Operation}
 use Rattle.standing.specs.declared.Stage.the-variants.{Asking}
@@ -30,7 +31,7 @@ abbrev pub openingLadder : Plan → ℕ → List Rung
 openingLadder p a = on 1 (not (planOk p)) ∷ on 13 (not (openingOk p a)) ∷ []
 
 abbrev pub freshOf : Operation → ℕ → Bound → Ask → Session
-freshOf op round b a = sessionWith op (record { stage = Asking; number = round; bound = b }) a (record { 0 = 0 }) zeroStamp unheards
+freshOf op round b a = sessionWith op (record { stage = Asking; number = round; bound = b }) a zeroTimes zeroStamp unheards
 
 -- an answer as a number: 0 where the opening is accepted
 abbrev pub openingNumber : Opening → ℕ

@@ -4,7 +4,7 @@
 --   awaitsKind         whether that round awaits replies of a kind
 --   roundOpen          whether the round is open, and not over
 --   sessionWith        a session by its fields
---   withRound withGreatest withStamp withMarks   a session with one field set
+--   withRound withTimes withStamp withMarks   a session with one field set
 --   markedOf endedOf nextOf storingOf   the session after a node was heard, ended, in the next read round, in a write or repair round
 --   Said saidOf isRefused   an answer in the document's terms, and whether it is a refusal
 -- Assumes nothing.
@@ -43,21 +43,21 @@ abbrev pub roundOpen : Plan → Session → Bool
 roundOpen p s = ltb (heardCount (s .marks)) (replies p)
 
 -- a session by its fields
-abbrev pub sessionWith : Operation → Round → Ask → Time → Timestamp → List Mark → Session
-sessionWith o r a t w m = record { operation = o; round = r; opening = a; greatest = t; stamp = w; marks = m }
+abbrev pub sessionWith : Operation → Round → Ask → List Time → Timestamp → List Mark → Session
+sessionWith o r a t w m = record { operation = o; round = r; opening = a; times = t; stamp = w; marks = m }
 
 -- with one field set
 abbrev pub withRound : Session → Round → Session
-withRound s r = sessionWith (s .operation) r (s .opening) (s .greatest) (s .stamp) (s .marks)
+withRound s r = sessionWith (s .operation) r (s .opening) (s .times) (s .stamp) (s .marks)
 
-abbrev pub withGreatest : Session → Time → Session
-withGreatest s t = sessionWith (s .operation) (s .round) (s .opening) t (s .stamp) (s .marks)
+abbrev pub withTimes : Session → List Time → Session
+withTimes s t = sessionWith (s .operation) (s .round) (s .opening) t (s .stamp) (s .marks)
 
 abbrev pub withStamp : Session → Timestamp → Session
-withStamp s t = sessionWith (s .operation) (s .round) (s .opening) (s .greatest) t (s .marks)
+withStamp s t = sessionWith (s .operation) (s .round) (s .opening) (s .times) t (s .marks)
 
 abbrev pub withMarks : Session → List Mark → Session
-withMarks s m = sessionWith (s .operation) (s .round) (s .opening) (s .greatest) (s .stamp) m
+withMarks s m = sessionWith (s .operation) (s .round) (s .opening) (s .times) (s .stamp) m
 
 abbrev pub markedOf : Session → ℕ → Heard → Session
 markedOf s i h = withMarks s (set (s .marks) i (record { is = h }))

@@ -35,8 +35,8 @@ pub struct Session {
     pub round: Round,
     // The ask number of round 1.
     pub opening: Ask,
-    // The greatest time heard in a time round.
-    pub greatest: Time,
+    // For each node, the time that it replied in a time round; only those of nodes that are heard count.
+    pub times: [Time; 16],
     // The timestamp being written, in a write or repair round.
     pub stamp: Timestamp,
     // For each node, what was heard of it in this round.

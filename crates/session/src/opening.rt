@@ -10,7 +10,6 @@ use standing::Stage;
 use terms::Ask;
 use terms::Plan;
 use terms::Refusal;
-use terms::Time;
 ghost use mathlib.Core.Path.{_≡_};
 ghost use Rattle.session.specs.Opening.{freshOf, noSession, openingNumber, opens, openWith, OpenCall};
 ghost use Rattle.standing.specs.declared.Operation.the-variants.{Write, Read};
@@ -32,7 +31,7 @@ impl Session {
     fn fresh(operation: Operation, round: u64, bound: Bound, opening: Ask) -> Session
         ensures { λ r. ⌜ r ≡ freshOf operation round bound opening ⌝ }
     {
-        let greatest = Time(0);
+        let times = clock::zero_times();
         let stamp = terms::zero_stamp();
         let first = Round {
             stage: Stage::Asking,
@@ -43,7 +42,7 @@ impl Session {
             operation: operation,
             round: first,
             opening: opening,
-            greatest: greatest,
+            times: times,
             stamp: stamp,
             marks: [Mark { is: Heard::Unheard }; 16],
         }

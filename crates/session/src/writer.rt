@@ -1,5 +1,5 @@
-// A reply to a writer. Document 01, "The client", writing: a time round, in which the session keeps the greatest time so far; the reply
-// that ends it fills the desk with all N records of the item lent with it; then a write round.
+// A reply to a writer. Document 01, "The client", writing, with document 02, Q-2: a time round, in which the session keeps each node's time;
+// the reply that ends it fills the desk with all N records of the item lent with it; then a write round.
 use crate::Answer;
 use crate::Session;
 use crate::Taken;
@@ -22,7 +22,7 @@ ghost use Rattle.frame.specs.Frame.{framed, bodyOf, headerIn};
 ghost use Rattle.standing.specs.declared.Operation.the-variants.{Write};
 ghost use Rattle.session.specs.Session.{saidOf};
 ghost use Rattle.session.specs.Reply.{replyLadder};
-ghost use Rattle.session.specs.Writer.{laterOf, timedOf, leaves, timeTurn, writeTurn, acceptedWrite, WriteReplyCall};
+ghost use Rattle.session.specs.Writer.{timedOf, kthReply, leaves, timeTurn, writeTurn, acceptedWrite, WriteReplyCall};
 
 // The time that a time reply bears.
 fn time_in(h: Header, reply: &[u8]) -> Time
@@ -33,26 +33,25 @@ fn time_in(h: Header, reply: &[u8]) -> Time
     Time(octets::get(reply, at, 8))
 }
 
-// The later of two times.
-fn later(a: Time, b: Time) -> Time
-    ensures { λ r. ⌜ r .0 ≡ laterOf (a .0) (b .0) ⌝ }
-{
-    if a.0 < b.0 {
-        return b;
-    }
-    a
-}
-
 impl Session {
     // Node i heard, with a time.
     fn timed(mut self, i: usize, t: Time) -> Session
         requires { ⌜ i < 16 ⌝ }
         ensures { λ r. ⌜ r ≡ timedOf self i (t .0) ⌝ }
     {
-        let greatest = later(self.greatest, t);
-        self.greatest = greatest;
+        self.times[i] = t;
         self.marks[i] = Mark { is: Heard::Record };
         self
+    }
+
+    // Q-2: the (b+1)-th greatest of the time replies.
+    fn kth_reply(self, p: Plan) -> Time
+        requires { ⌜ planOk p ≡ true ⌝ }
+        ensures { λ r. ⌜ r .0 ≡ kthReply p self ⌝ }
+    {
+        let marks = self.marks;
+        let times = self.times;
+        clock::kth_greatest(marks, times, p.b + 1)
     }
 
     // The time round, after a reply: open, or at N-t replies the write round opens, with all records made.
@@ -66,8 +65,8 @@ impl Session {
                 answer: Answer::Open,
             };
         }
-        let g = self.greatest;
-        if g.0 == 18446744073709551615 {
+        let g = self.kth_reply(p);
+        if clock::spent(g) {
             let s = self.over();
             return Took {
                 session: s,

@@ -7,4 +7,5 @@ fresh-spec =
     tie.close
     (tie.spec
     (λ c κs. search needs)
-    (λ c. rw (c .zero-stamp .ensures)))
+    (λ c κs. search needs)
+    (λ c. rw (c .before .zero-times .ensures, c .zero-stamp .ensures)))

@@ -18,7 +18,7 @@ use borrow.Author.Tests.{ltb-true, ltb-false, eqb-true, eqb-false, ne-eqb, not-f
 use lib.Dec.{eqb}
 use lib.ListN.{length}
 use Rattle.terms.specs.Ladder.{Rung, on, first, _and_, None}
-use Rattle.terms.specs.Stamp.{time}
+use Rattle.terms.specs.Stamp.{time, top}
 use Rattle.terms.specs.Terms.{planOk, recordLength}
 use Rattle.terms.specs.declared.Ask.{Ask}
 use Rattle.terms.specs.declared.Plan.{Plan}
@@ -41,7 +41,7 @@ use Rattle.session.specs.Opening.{OpenCall}
 use Rattle.session.specs.Ranges.{inRange}
 use Rattle.session.specs.Reply.{awaited, isHeard, replyLadder, recordLadder}
 use Rattle.session.specs.Reader.{Outcome, outcome, closed, readReply, ReadReplyCall}
-use Rattle.session.specs.Writer.{Leaves, leaves, timedOf, writeReply, WriteReplyCall}
+use Rattle.session.specs.Writer.{Leaves, leaves, timedOf, kthReply, writeReply, WriteReplyCall}
 use Rattle.session.proofs.Rules.{range-stands}
 use Rattle.session.proofs.Openings.{accepted-session}
 use Rattle.session.proofs.Closings as shapes
@@ -56,7 +56,7 @@ use Rattle.client.proofs.Client as client
 use Rattle.client.proofs.Sessions.{every-round}
 
 -- ---- one call
--- a session as it was, but for its marks and its greatest time
+-- a session as it was, but for its marks and its times
 still : (s u : Session) → u .round .stage ≡ s .round .stage → u .round .number ≡ s .round .number → u .opening ≡ s .opening → Moves s u
 unfolding askIn
 still s u a b c =
@@ -137,17 +137,17 @@ module _ (p : Plan) (s : Session) (f d i : List ℕ) where
       range n = both (sameOperation Write (s .operation)) (inRange p s d) (not-false (sameOperation Write (s .operation) and inRange p s d) (clear (writeLadder p s f d (length i)) n 9)) .1
 
       full : (n : None (writeLadder p s f d (length i))) → isStoring (s .round .stage) ≡ false → replies p ≤ heardCount (asked .marks)
-          → (x : Bool) → eqb (asked .greatest .0) 18446744073709551615 ≡ x → Leads (writeReply p s f d i)
+          → (x : Bool) → eqb (kthReply p asked) top ≡ x → Leads (writeReply p s f d i)
       full n q h true g =
-          subst Leads (sym (writing.spends-clock p s f d i n q h (eqb-true (asked .greatest .0) 18446744073709551615 g))) (record { opening = refl; goes = ends refl })
+          subst Leads (sym (writing.spends-clock p s f d i n q h (eqb-true (kthReply p asked) top g))) (record { opening = refl; goes = ends refl })
       full n q h false g =
-          subst Leads (sym (writing.opens-write p s f d i n q h (eqb-false (asked .greatest .0) 18446744073709551615 g)))
+          subst Leads (sym (writing.opens-write p s f d i n q h (eqb-false (kthReply p asked) top g)))
           (write-opens s (low-round (range n)) (clear (writeLadder p s f d (length i)) n 14) q Record (frameNode f) _ (time (bodyOf f)))
 
       asks : None (writeLadder p s f d (length i)) → isStoring (s .round .stage) ≡ false → (x : Bool) → roundOpen p asked ≡ x
           → Leads (writeReply p s f d i)
       asks n q true h = subst Leads (sym (writing.waits-time p s f d i n q (ltb-true _ _ h))) (still s asked refl refl refl)
-      asks n q false h = full n q (ltb-false _ _ h) (eqb (asked .greatest .0) 18446744073709551615) refl
+      asks n q false h = full n q (ltb-false _ _ h) (eqb (kthReply p asked) top) refl
 
       stores : None (writeLadder p s f d (length i)) → isStoring (s .round .stage) ≡ true
           → (x : Bool) → roundOpen p (markedOf s (frameNode f) Record) ≡ x → Leads (writeReply p s f d i)

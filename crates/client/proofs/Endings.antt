@@ -69,7 +69,7 @@ module _ (p : Plan) (s : Session) (f d i : List ℕ) (t : Took) (d₂ : List ℕ
   pub write-done : (stamp : Timestamp) (n : ℕ) → Exactly (saidOf (t .answer) ≡ done stamp n) (WriteDone p s f d (length i) stamp n)
   write-done stamp n = exactly-write (done stamp n)
 
-  -- Clock spent, exactly when the time round has N-t replies and the greatest is 2^64-1.
+  -- Clock spent, exactly when the time round has N-t replies and the (b+1)-th greatest of them is 2^64-1.
   pub clock-spent : Exactly (saidOf (t .answer) ≡ clockSpent) (WriteClock p s f d (length i))
   clock-spent = exactly-write clockSpent
 

@@ -18,7 +18,7 @@ use Rattle.session.specs.declared.Session.{Session}
 use Rattle.standing.specs.Standing.{isStoring, replies}
 use Rattle.session.specs.Session.{markedOf, endedOf, storingOf, Said, refused, stillOpen, done, neverWritten, aborted, roundsSpent, clockSpent, roundOpen}
 use Rattle.recover.specs.Records.{stampFor, recordsFor}
-use Rattle.session.specs.Writer.{timedOf, newTime, Leaves, leaves, timeEnd, timeTurn, writeTurn, acceptedWrite, writeReply}
+use Rattle.session.specs.Writer.{timedOf, kthReply, newTime, Leaves, leaves, timeEnd, timeTurn, writeTurn, acceptedWrite, writeReply}
 use Rattle.session.proofs.Rules.{few-open, many-over, over-many}
 use Rattle.client.specs.Endings.{writeLadder, WriteGives}
 use Rattle.terms.proofs.Ladders as ladders
@@ -58,17 +58,17 @@ module _ (p : Plan) (s : Session) (f d i : List ℕ) where
       waits-time h = is-accepted ∙ rw (q, few-open p asked h)
 
       module _ (h : replies p ≤ heardCount (asked .marks)) where
-        pub spends-clock : asked .greatest .0 ≡ top → writeReply p s f d i ≡ leaves clockSpent (endedOf asked) d
+        pub spends-clock : kthReply p asked ≡ top → writeReply p s f d i ≡ leaves clockSpent (endedOf asked) d
         unfolding acceptedWrite timeTurn timeEnd
         spends-clock g =
-            is-accepted ∙ rw (q, many-over p asked h, eq-eqb (asked .greatest .0) top g)
+            is-accepted ∙ rw (q, many-over p asked h, eq-eqb (kthReply p asked) top g)
 
-        pub opens-write : (asked .greatest .0 ≡ top → ⊥)
+        pub opens-write : (kthReply p asked ≡ top → ⊥)
             → writeReply p s f d i
-            ≡ leaves stillOpen (storingOf asked (stampFor p (newTime (asked .greatest .0)) i)) (recordsFor p (newTime (asked .greatest .0)) i)
+            ≡ leaves stillOpen (storingOf asked (stampFor p (newTime (kthReply p asked)) i)) (recordsFor p (newTime (kthReply p asked)) i)
         unfolding acceptedWrite timeTurn timeEnd
         opens-write g =
-            is-accepted ∙ rw (q, many-over p asked h, ne-eqb (asked .greatest .0) top g)
+            is-accepted ∙ rw (q, many-over p asked h, ne-eqb (kthReply p asked) top g)
 
     -- ---- it gives one of the answers, with its condition
     abbrev Gives : Leaves → Type 0
@@ -84,18 +84,18 @@ module _ (p : Plan) (s : Session) (f d i : List ℕ) where
             let z = ltb-false _ _ h in
             subst Gives (sym (ends-write q z)) (record { accepted = n; stores = q; enough = rw q z; of = refl; counted = refl })
 
-        clock : isStoring (s .round .stage) ≡ false → replies p ≤ heardCount (asked .marks) → (x : Bool) → eqb (asked .greatest .0) top ≡ x
+        clock : isStoring (s .round .stage) ≡ false → replies p ≤ heardCount (asked .marks) → (x : Bool) → eqb (kthReply p asked) top ≡ x
             → Gives (writeReply p s f d i)
         clock q h true g =
-            let z = eqb-true (asked .greatest .0) top g in
+            let z = eqb-true (kthReply p asked) top g in
             subst Gives (sym (spends-clock q h z)) (record { accepted = n; asks = q; enough = rw q h; spent = rw q z })
         clock q h false g =
-            let z = eqb-false (asked .greatest .0) top g in
+            let z = eqb-false (kthReply p asked) top g in
             subst Gives (sym (opens-write q h z)) (record { accepted = n; goes = inr (q, rw q z) })
 
         asks : isStoring (s .round .stage) ≡ false → (x : Bool) → roundOpen p asked ≡ x → Gives (writeReply p s f d i)
         asks q true h = let z = ltb-true _ _ h in subst Gives (sym (waits-time q z)) (record { accepted = n; goes = inl (rw q z) })
-        asks q false h = clock q (ltb-false _ _ h) (eqb (asked .greatest .0) top) refl
+        asks q false h = clock q (ltb-false _ _ h) (eqb (kthReply p asked) top) refl
 
         go : (x : Bool) → isStoring (s .round .stage) ≡ x → Gives (writeReply p s f d i)
         go true q = stores q (roundOpen p kept) refl
@@ -118,7 +118,7 @@ module _ (p : Plan) (s : Session) (f d i : List ℕ) where
       n = g .accepted
 
       go : (x : Bool) → isStoring (s .round .stage) ≡ x → (y : Bool) → roundOpen p asked ≡ y
-          → (heardCount (cond x kept asked .marks) < replies p) ⊎ ((x ≡ false) × (cond x kept asked .greatest .0 ≡ top → ⊥))
+          → (heardCount (cond x kept asked .marks) < replies p) ⊎ ((x ≡ false) × (kthReply p (cond x kept asked) ≡ top → ⊥))
           → writeReply p s f d i .said ≡ stillOpen
       go true q y k (inl h) = ap (λ (o : Leaves). o .said) (waits-write n q h)
       go true q y k (inr h) = absurd (let z : _≡_ {A = ℕ} 0 1 = let w = h .0 in cc in omega arith)
@@ -135,5 +135,5 @@ module _ (p : Plan) (s : Session) (f d i : List ℕ) where
   so-gives clockSpent g =
       let q = g .asks in
       let h : replies p ≤ heardCount (asked .marks) = rw q at (g .enough) in
-      let z : asked .greatest .0 ≡ top = rw q at (g .spent) in
+      let z : kthReply p asked ≡ top = rw q at (g .spent) in
       ap (λ (o : Leaves). o .said) (spends-clock (g .accepted) q h z)

@@ -34,7 +34,7 @@ use Rattle.session.specs.Reply.{bears, replyLadder}
 pub use Rattle.session.specs.Reply.{readLadder}
 use Rattle.recover.specs.Recover.{sound}
 use Rattle.session.specs.Reader.{closed}
-use Rattle.session.specs.Writer.{timedOf}
+use Rattle.session.specs.Writer.{timedOf, kthReply}
 
 -- one thing exactly when another
 abbrev pub Exactly : Type 0 → Type 0 → Type 0
@@ -169,18 +169,18 @@ pub record WriteDone (p : Plan) (s : Session) (f d : List ℕ) (item : ℕ) (sta
   pub of : stamp ≡ s .stamp
   pub counted : rounds ≡ 0
 
--- "clock spent (the greatest time reply is 2^64-1)"
+-- document 02, Q-2: "'Clock spent' is given exactly when that (b+1)-th value is 2^64-1"
 pub record WriteClock (p : Plan) (s : Session) (f d : List ℕ) (item : ℕ) : Type 0 where
   pub accepted : None (writeLadder p s f d item)
   pub asks : isStoring (s .round .stage) ≡ false
   pub enough : replies p ≤ heardCount (wrote s f .marks)
-  pub spent : wrote s f .greatest .0 ≡ top
+  pub spent : kthReply p (wrote s f) ≡ top
 
 -- the round is not full, or the time round has ended and the write round opens
 pub record WriteOpen (p : Plan) (s : Session) (f d : List ℕ) (item : ℕ) : Type 0 where
   pub accepted : None (writeLadder p s f d item)
   pub goes : (heardCount (wrote s f .marks) < replies p)
-      ⊎ ((isStoring (s .round .stage) ≡ false) × (wrote s f .greatest .0 ≡ top → ⊥))
+      ⊎ ((isStoring (s .round .stage) ≡ false) × (kthReply p (wrote s f) ≡ top → ⊥))
 
 abbrev pub WriteGives : Plan → Session → List ℕ → List ℕ → ℕ → Said → Type 0
 WriteGives p s f d item (refused k) = Given (writeLadder p s f d item) k

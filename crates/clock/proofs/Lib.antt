@@ -1,2 +1,4 @@
 pub mod Laws
 pub mod Wide
+pub mod Kth
+pub mod Hear

@@ -1,14 +1,14 @@
 -- What `num`, `be`, `alike` and `over` mean: a number written is read back (num-be, be-part), byte order is number order
--- (first-byte, less-split), alike is equality (alike-is, is-alike). Assumes nothing.
+-- (first-byte, less-split), n bytes are below 256 ^ n (part-small), alike is equality (alike-is, is-alike). Assumes nothing.
 use Prim.{Unit, tt}
 use mathlib.Core.Path.{_≡_, refl, sym, ap, _∙_}
 use mathlib.Core.Bool.{Bool, true, false, cond}
 use mathlib.Core.List.{List, [], _∷_, _++_, append-assoc, append-nil}
 use Prim.Native.Nat.{ℕ, zero, suc, _+_, _-_, _*_, _≤_, _<_, _^_, _/_, _%_}
-use native.Mathlib.Nat.{zero-add, add-zero, add-suc, add-assoc, add-mul, mul-assoc, zero-mul, pow-suc, pow-succ', mul-le-mul-right, suc-mul, div-add-mod', le-of-eq}
+use native.Mathlib.Nat.{zero-add, add-zero, add-suc, add-assoc, add-mul, mul-assoc, zero-mul, pow-suc, pow-succ', mul-le-mul-right, suc-mul, div-add-mod', le-of-eq, lt-of-lt-of-le, pow-le-pow-right, min-le-left}
 use native.Mathlib.Omega.{arith}
 use borrow.Author.Tests.{eq-eqb, eqb-true}
-use lib.ListN.{length, take, drop, getD, length-append, length-drop, drop-of-length-le}
+use lib.ListN.{length, take, drop, getD, length-append, length-take, length-drop, drop-of-length-le}
 use lib.Seq.{drop-append-add, take-at, drop-drop, getD-drop, getD-take, take-add}
 use native.Mathlib.Numerals.{add-one}
 use Rattle.octets.proofs.Laws.{part-snoc, num-snoc, length-part, part-cons}
@@ -94,6 +94,13 @@ bytes-part l at n p = bytes-take n (drop at l) (bytes-drop at l p)
 pub bytes-all : (l : List ℕ) → Octets l → Bytes l
 bytes-all [] h = tt
 bytes-all (x ∷ l) h = (h 0, bytes-all l (λ i. h (suc i)))
+
+-- n bytes are a number below 256 ^ n
+pub part-small : (l : List ℕ) (at n : ℕ) → Octets l → num (part l at n) < 256 ^ n
+unfolding part
+part-small l at n o =
+    lt-of-lt-of-le (num-small (part l at n) (bytes-part l at n (bytes-all l o)))
+    (pow-le-pow-right (lit< tt) (omega (arith, length-take n (drop at l), min-le-left n (length (drop at l)))))
 
 pub octets-all : (l : List ℕ) → Bytes l → Octets l
 octets-all [] b i = lit< tt

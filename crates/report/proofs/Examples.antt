@@ -24,6 +24,7 @@ toy repair byzantine =
       INCOMPLETE = 2;
       Repair = repair;
       ByzantineClients = byzantine;
+      GREATEST = MAX;
       HASH = λ x. length x ∷ [];
       entry = λ cc S. cc;
       Time = λ ts. ts;
@@ -74,8 +75,8 @@ write-good = refl
 abbrev clock : ℕ → ℕ → Clock
 clock S time = record { S = S; Time = time }
 
-time-10 : READ-TIMESTAMP (clock 0 7 ∷ clock 3 12 ∷ clock 1 9 ∷ clock 2 9 ∷ clock 3 4 ∷ []) ≡ 10
-unfolding READ-TIMESTAMP Times GATHERED in-set each MAX
+time-10 : READ-TIMESTAMP (toy true true) (clock 0 7 ∷ clock 3 12 ∷ clock 1 9 ∷ clock 2 9 ∷ clock 3 4 ∷ []) ≡ 10
+unfolding READ-TIMESTAMP Times GATHERED in-set each MAX toy
 time-10 = refl
 
 -- ---- Figure 3

@@ -51,10 +51,11 @@ use Rattle.session.specs.Opening.{OpenCall}
 use Rattle.session.specs.Session.{markedOf, endedOf, storingOf, roundOpen, stillOpen, done, refused, clockSpent}
 use Rattle.session.specs.Ranges.{inRange}
 use Rattle.session.specs.Reply.{bears}
-use Rattle.session.specs.Writer.{Leaves, leaves, newTime, timedOf, timeEnd, timeTurn, writeTurn, acceptedWrite, writeReply}
+use Rattle.session.specs.Writer.{Leaves, leaves, kthReply, newTime, timedOf, timeEnd, timeTurn, writeTurn, acceptedWrite, writeReply}
 use Rattle.session.specs.Reader.{Outcome, outcome, acted, closed, settled, heard, stored, accepted, readReply}
 use Rattle.session.proofs.Closings.{Ways, goes, led, lead-low}
-use Rattle.session.proofs.Kept.{Kept, opened-kept, write-kept}
+use Rattle.session.proofs.Kept.{Kept, opened-kept, write-kept, reply-wide}
+use Rattle.clock.proofs.Wide.{WideTimes}
 use Rattle.session.proofs.Openings.{accepted-session}
 use Rattle.session.proofs.ReadKept.{asking, not-asking}
 use Rattle.session.proofs.Rules.{range-stands}
@@ -117,7 +118,7 @@ Keeps p s d = (isRead (s .operation) ≡ false) × (isStoring (s .round .stage) 
 
 module _ (p : Plan) (s : Session) (f d i : List ℕ) (k : Keeps p s d) where
   abbrev Good : Leaves → Type 0
-  Good o = o .session .greatest .0 < 256 ^ 8 → Keeps p (o .session) (o .desk)
+  Good o = WideTimes (o .session .times) → Keeps p (o .session) (o .desk)
 
   -- a session that ended, or is in its time round
   away : (u : Session) (e : List ℕ) → isRead (u .operation) ≡ false → isStoring (u .round .stage) ≡ false → Keeps p u e
@@ -133,20 +134,20 @@ module _ (p : Plan) (s : Session) (f d i : List ℕ) (k : Keeps p s d) where
           (k .0, λ y. record { at = w .at; item = w .item; whole = w .whole; low = w .low; high = w .high; desk = w .desk; stamped = w .stamped })
       go false c = away (endedOf (markedOf s (frameNode f) Record)) d (k .0) refl
 
-  -- the write round opens: the time has 8 bytes, since the greatest one is not the last
-  opens : length i ≡ p .m * p .f → (u : Session) → isRead (u .operation) ≡ false → (t : Bool) → eqb (u .greatest .0) top ≡ t
-      → Good (cond t (leaves clockSpent (endedOf u) d) (leaves stillOpen (storingOf u (stampFor p (newTime (u .greatest .0)) i)) (recordsFor p (newTime (u .greatest .0)) i)))
+  -- the write round opens: the time has 8 bytes, since the one that it is above is not the last
+  opens : length i ≡ p .m * p .f → (u : Session) → isRead (u .operation) ≡ false → (t : Bool) → eqb (kthReply p u) top ≡ t
+      → Good (cond t (leaves clockSpent (endedOf u) d) (leaves stillOpen (storingOf u (stampFor p (newTime (kthReply p u)) i)) (recordsFor p (newTime (kthReply p u)) i)))
   opens l u r true e c = away (endedOf u) d r refl
   opens l u r false e c = (
     r,
     λ y.
-        let n = eqb-false (u .greatest .0) top e in
+        let n = eqb-false (kthReply p u) top e in
         record {
-          at = newTime (u .greatest .0);
+          at = newTime (kthReply p u);
           item = i;
           whole = l;
           low = omega arith;
-          high = strict (newTime (u .greatest .0)) (256 ^ 8) (omega (arith, c)) (λ z. n (omega arith));
+          high = strict (newTime (kthReply p u)) (256 ^ 8) (omega (arith, reply-wide p u c)) (λ z. n (omega arith));
           desk = refl;
           stamped = refl;
         },
@@ -158,7 +159,7 @@ module _ (p : Plan) (s : Session) (f d i : List ℕ) (k : Keeps p s d) where
     where
       go : (t : Bool) → Good (cond t (leaves stillOpen u d) (timeEnd p u d i))
       go true c = away u d r y
-      go false c = opens l u r (eqb (u .greatest .0) top) refl c
+      go false c = opens l u r (eqb (kthReply p u) top) refl c
 
   taken : None (writeLadder p s f d (length i)) → Good (acceptedWrite p s f d i)
   unfolding acceptedWrite

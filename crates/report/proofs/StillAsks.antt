@@ -1,5 +1,5 @@
 -- A call that leaves its round open leaves a session that still asks what the one before it asked: a reply that is heard sets a mark, and in a time
--- round the greatest time, and no more (write-still-asks, read-still-asks); so do calls one after another (still-trans). Assumes nothing.
+-- round the times, and no more (write-still-asks, read-still-asks); so do calls one after another (still-trans). Assumes nothing.
 use Prim.Native.Nat.{ℕ}
 use mathlib.Core.Path.{_≡_, refl, sym, ap, _∙_, subst}
 use mathlib.Core.Bool.{Bool, true, false, cond}
@@ -20,7 +20,7 @@ use Rattle.standing.specs.Standing.{isEnded, isStoring}
 use Rattle.session.specs.declared.Session.{Session}
 use Rattle.standing.specs.declared.Stage.{Stage}
 use Rattle.session.specs.Session.{markedOf, endedOf, storingOf, roundOpen, stillOpen, done, refused, clockSpent}
-use Rattle.session.specs.Writer.{Leaves, leaves, newTime, timedOf, timeEnd, timeTurn, writeTurn, acceptedWrite, writeReply}
+use Rattle.session.specs.Writer.{Leaves, leaves, kthReply, newTime, timedOf, timeEnd, timeTurn, writeTurn, acceptedWrite, writeReply}
 use Rattle.session.specs.Reader.{Outcome, outcome, acted, closed, settled, heard, stored, accepted, readReply}
 use Rattle.session.proofs.Closings.{Ways, goes}
 use Rattle.client.specs.Endings.{readLadder, writeLadder, afterReply, deskAfter}
@@ -61,14 +61,14 @@ module _ (p : Plan) (s : Session) where
       write-heard = go (isStoring (s .round .stage)) refl
         where
           opens : isStoring (s .round .stage) ≡ false → (u : Session) (t : Bool)
-              → GoodW (cond t (leaves clockSpent (endedOf u) d) (leaves stillOpen (storingOf u (stampFor p (newTime (u .greatest .0)) i)) (recordsFor p (newTime (u .greatest .0)) i)))
+              → GoodW (cond t (leaves clockSpent (endedOf u) d) (leaves stillOpen (storingOf u (stampFor p (newTime (kthReply p u)) i)) (recordsFor p (newTime (kthReply p u)) i)))
           opens x u true = ended u
-          opens x u false = other (storingOf u (stampFor p (newTime (u .greatest .0)) i)) isStoring true refl (λ z. clash (sym z ∙ x))
+          opens x u false = other (storingOf u (stampFor p (newTime (kthReply p u)) i)) isStoring true refl (λ z. clash (sym z ∙ x))
 
           in-time : isStoring (s .round .stage) ≡ false → (t : Bool)
               → GoodW (cond t (leaves stillOpen (timedOf s (frameNode f) (time (bodyOf f))) d) (timeEnd p (timedOf s (frameNode f) (time (bodyOf f))) d i))
           in-time x true st nr = record { operation = refl; round = refl; opening = refl; stamp = refl }
-          in-time x false st nr = opens x (timedOf s (frameNode f) (time (bodyOf f))) (eqb (timedOf s (frameNode f) (time (bodyOf f)) .greatest .0) top) st nr
+          in-time x false st nr = opens x (timedOf s (frameNode f) (time (bodyOf f))) (eqb (kthReply p (timedOf s (frameNode f) (time (bodyOf f)))) top) st nr
 
           in-write : (t : Bool) → GoodW (cond t (leaves stillOpen (markedOf s (frameNode f) Record) d) (leaves (done (s .stamp) 0) (endedOf (markedOf s (frameNode f) Record)) d))
           in-write true st nr = record { operation = refl; round = refl; opening = refl; stamp = refl }

@@ -41,8 +41,8 @@ use Rattle.report.proofs.Exchange.{Quiet, quiet-given, AtNode, AtClient
 use Rattle.report.proofs.Sendable.{write-sendable, read-sendable}
 
 -- ---- the session that asked, while its round is open
--- what is awaited does not go by the marks or the greatest time
-awaited-bare : (s : Session) (g : Time) (f : List ℕ) → awaited s f ≡ awaited (sessionWith (s .operation) (s .round) (s .opening) g (s .stamp) unheards) f
+-- what is awaited does not go by the marks or the times
+awaited-bare : (s : Session) (g : List Time) (f : List ℕ) → awaited s f ≡ awaited (sessionWith (s .operation) (s .round) (s .opening) g (s .stamp) unheards) f
 unfolding awaited askIn awaitsIn
 awaited-bare s g f = refl
 
@@ -51,8 +51,8 @@ still-client p s u f k a =
     record {
       good = a .good;
       await =
-          awaited-bare u (s .greatest) f
-          ∙ (λ i. awaited (sessionWith (k .operation i) (k .round i) (k .opening i) (s .greatest) (k .stamp i) unheards) f) ∙ sym (awaited-bare s (s .greatest) f) ∙ a .await;
+          awaited-bare u (s .times) f
+          ∙ (λ i. awaited (sessionWith (k .operation i) (k .round i) (k .opening i) (s .times) (k .stamp i) unheards) f) ∙ sym (awaited-bare s (s .times) f) ∙ a .await;
       timed = a .timed;
       hashed = a .hashed;
       under = rw (k .round) (a .under);

@@ -2,41 +2,47 @@
 -- item, done bears WRITE's timestamp, and open says that it has not returned (write-run, opened-write). Each frame that is a response is a turn of
 -- READ_TIMESTAMP's or DO_WRITE's loop, whether the call accepts it or refuses it 11 (response-right). Assumes nothing.
 use Prim.{Unit, tt}
-use Prim.Native.Nat.{ℕ, _+_, _*_, _≤_, _<_}
+use Prim.Native.Nat.{ℕ, _+_, _*_, _^_, _≤_, _<_}
 use mathlib.Core.Path.{_≡_, refl, sym, ap, _∙_, subst}
 use mathlib.Core.Bool.{Bool, true, false, cond, not}
 use mathlib.Core.Logic.{inl, inr}
 use mathlib.Core.List.{List, [], _∷_, _++_, append-nil, append-assoc}
 use native.Mathlib.Omega.{arith}
-use borrow.Author.Tests.{ltb-true, ltb-false, eqb-true, not-false}
-use lib.Dec.{ltb, eqb}
+use borrow.Author.Tests.{ltb-true, ltb-false, eqb-true, eqb-false, not-false}
+use lib.Dec.{ltb, leb, eqb}
 use lib.ListN.{length, set, length-append, length-set}
-use Rattle.octets.specs.Bytes.{part, num, be}
+use Rattle.octets.specs.Bytes.{part, num, be, Octets}
 use Rattle.octets.proofs.Laws.{length-be, part-all, part-middle}
 use Rattle.sha256.specs.Sha256.{sha256}
 use Rattle.sha256.proofs.Laws.{sha256-length}
 use Rattle.terms.specs.Ladder.{Rung, _and_, rung}
-use Rattle.terms.specs.Stamp.{stamp, time, stampNumber, top}
+use Rattle.terms.specs.Stamp.{stamp, stampAt, time, stampNumber, top}
 use Rattle.terms.specs.declared.Plan.{Plan}
 use Rattle.terms.specs.declared.Ask.{Ask}
-use Rattle.terms.specs.Terms.{larger, planOk, slotsOf}
+use Rattle.terms.specs.Terms.{planOk, slotsOf}
 use Rattle.terms.proofs.Down.{Down, stop}
 use Rattle.terms.proofs.Ladders.{by-ladder, is-passed}
 use Rattle.terms.proofs.Rungs.{both, clash}
 use Rattle.terms.proofs.Plans.{plan-is}
+use Rattle.terms.proofs.Facts.{facts}
+use Rattle.terms.proofs.Small.{strict}
 use Rattle.terms.proofs.Stamps.{stamp-at-number}
 use Rattle.terms.specs.Terms.{slotsOf}
 use Rattle.fragments.specs.Fragments.{fragment}
 use Rattle.fragments.proofs.Theorems.{length-fragment}
 use Rattle.record.specs.Record.{crossOf, fragmentOf, fragmentHash, prefixOf}
 use Rattle.record.specs.Desk.{slotOf, crossMade, stampMade}
-use Rattle.record.proofs.Desks.{length-cross}
+use Rattle.record.proofs.Desks.{length-cross, time-made}
 use Rattle.frame.specs.Frame.{frameNode, bodyOf, goodReply}
 use Rattle.frame.proofs.Frames.{reply-is}
 use Rattle.rounds.specs.declared.Heard.the-variants.{Unheard, Record}
 use Rattle.rounds.specs.declared.Bound.the-variants.{Free}
 use Rattle.rounds.specs.Rounds.{heardCount, markOf, unheards}
 use Rattle.rounds.proofs.Laws.{not-heard, count-set}
+use Rattle.clock.specs.Clock.{timesHeard, orMore}
+use Rattle.clock.proofs.Kth.{kth-same}
+use Rattle.clock.proofs.Hear.{heard-one, heard-many}
+use Rattle.clock.proofs.Wide.{WideTimes, wide-zeros, wide-set}
 use Rattle.session.specs.declared.Session.{Session}
 use Rattle.standing.specs.declared.Stage.{Stage}
 use Rattle.standing.specs.declared.Stage.the-variants.{Asking, Storing, Ended}
@@ -49,12 +55,13 @@ use Rattle.session.specs.Session.{markedOf, endedOf, storingOf, refused, stillO
 use Rattle.session.specs.Ranges.{inRange}
 use Rattle.session.specs.Reply.{isHeard, replyLadder}
 use Rattle.recover.specs.Records.{crossFor, stampFor, recordsFor}
-use Rattle.session.specs.Writer.{timedOf, newTime, Leaves, leaves, timeEnd, timeTurn, writeTurn, acceptedWrite, writeReply}
+use Rattle.session.specs.Writer.{timedOf, kthReply, newTime, Leaves, leaves, timeEnd, timeTurn, writeTurn, acceptedWrite, writeReply}
 use Rattle.session.proofs.Made.{in-range-facts, few-unheards}
+use Rattle.session.proofs.Kept.{time-small, reply-wide}
 use Rattle.standing.proofs.Rules.{Lengths, lengths-are}
 use Rattle.session.proofs.Openings.{accepted-session}
 use Rattle.recover.proofs.Records.{record-is}
-use Rattle.report.specs.Triple.{Triple, Message, each, MAX}
+use Rattle.report.specs.Triple.{Triple, Message, each}
 use Rattle.report.specs.Figure2.{in-set, GATHERED, Clock, clocks, Times, acknowledged, READ-TIMESTAMP, MAKE-CROSS-CHECKSUM, MAKE-TIMESTAMP, DO-WRITE, ts-written, WRITE}
 use Rattle.report.specs.Ours.{family, stampedAs, bearing, sending}
 use Rattle.client.specs.Turns as turns
@@ -126,17 +133,20 @@ module _ (p : Plan) (t : ℕ) (i : List ℕ) (l : length i ≡ p .m * p .f) wher
       listed-same (bearing p (recordsFor p t i)) (λ (k : ℕ). message k (record { ts = ts; D = fragment (p .m) (p .f) i k; CC = CC })) (p .n) sends-one
 
 -- ---- what is known between two calls
--- in the time round: the greatest time and the marks are those of READ_TIMESTAMP's response set
+-- in the time round: the times that are heard and the marks are those of READ_TIMESTAMP's response set
 pub record Asks (p : Plan) (s : Session) (w : Responses) : Type 0 where
-  pub greatest : s .greatest .0 ≡ MAX (Times (clocks (w .times)))
+  pub timed : (v : ℕ) → orMore v (timesHeard (s .marks) (s .times)) ≡ orMore v (Times (clocks (w .times)))
+  pub wide : WideTimes (s .times)
+  pub places : length (s .times) ≡ 16
   pub marked : Marked (λ (x : Clock). x .S) (s .marks) (clocks (w .times))
   pub size : length (s .marks) ≡ 16
   pub unstored : w .stored ≡ []
   pub writes : isRead (s .operation) ≡ false
 
--- in the write round: the desk holds what DO_WRITE sends, and the marks are those of its response set
+-- in the write round: the desk holds what DO_WRITE sends, under READ_TIMESTAMP's time, and the marks are those of its response set
 pub record Stores (p : Plan) (s : Session) (d : List ℕ) (w : Responses) : Type 0 where
   pub sends : Sending p s d w
+  pub at : s .stamp .time .0 ≡ READ-TIMESTAMP (family p) (w .times)
   pub marked : Marked (λ (S : ℕ). S) (s .marks) (acknowledged (w .stored))
   pub size : length (s .marks) ≡ 16
   pub writes : isRead (s .operation) ≡ false
@@ -163,29 +173,44 @@ module _ (p : Plan) (s : Session) (d i : List ℕ) (ts : List Clock) (sd : List 
     none-stored : Marked (λ (S : ℕ). S) unheards (acknowledged sd)
     none-stored = subst (λ (l : List ℕ). Marked (λ (S : ℕ). S) unheards (acknowledged l)) (sym (k .unstored)) (marked-none (λ (S : ℕ). S))
 
+    -- Q-2: the (b+1)-th greatest of the replies is that of the response set, whose order is another
+    picked : replies p ≤ heardCount (s .marks) → kthReply p s ≡ family p .GREATEST (Times (clocks ts))
+    unfolding kthReply
+    picked l =
+        let z = facts p ok in
+        kth-same (p .b + 1) (timesHeard (s .marks) (s .times)) (Times (clocks ts)) (k .timed) (omega arith)
+        (omega (arith, heard-many (s .marks) (s .times) (k .size ∙ sym (k .places)), z .liars-short, z .low-high, z .high-replies))
+
     sending-so : replies p ≤ heardCount (s .marks)
-        → Sending p (storingOf s (stampFor p (newTime (s .greatest .0)) i)) (recordsFor p (newTime (s .greatest .0)) i) with-item
+        → Sending p (storingOf s (stampFor p (newTime (kthReply p s)) i)) (recordsFor p (newTime (kthReply p s)) i) with-item
     unfolding ts-written WRITE READ-TIMESTAMP
     sending-so l =
-        let e : newTime (s .greatest .0) ≡ MAX (Times (clocks ts)) + 1 = ap (λ (x : ℕ). x + 1) (k .greatest) in
+        let e : newTime (kthReply p s) ≡ family p .GREATEST (Times (clocks ts)) + 1 = ap (λ (x : ℕ). x + 1) (picked l) in
         record {
           times = omega (arith, k .marked .count, few, l);
-          stamp = stamp-is p (newTime (s .greatest .0)) i li ∙ ap (λ (x : ℕ). MAKE-TIMESTAMP (family p) x (CC p (newTime (s .greatest .0)) i li)) e;
-          sends = sends-are p (newTime (s .greatest .0)) i li
-              ∙ ap (λ (x : ℕ). DO-WRITE (family p) (fragment (p .m) (p .f) i) (MAKE-TIMESTAMP (family p) x (CC p (newTime (s .greatest .0)) i li)) (CC p (newTime (s .greatest .0)) i li)) e;
+          stamp = stamp-is p (newTime (kthReply p s)) i li ∙ ap (λ (x : ℕ). MAKE-TIMESTAMP (family p) x (CC p (newTime (kthReply p s)) i li)) e;
+          sends = sends-are p (newTime (kthReply p s)) i li
+              ∙ ap (λ (x : ℕ). DO-WRITE (family p) (fragment (p .m) (p .f) i) (MAKE-TIMESTAMP (family p) x (CC p (newTime (kthReply p s)) i li)) (CC p (newTime (kthReply p s)) i li)) e;
         }
+
+    stored-at : replies p ≤ heardCount (s .marks) → (kthReply p s ≡ top → ⊥) → stampFor p (newTime (kthReply p s)) i .time .0 ≡ READ-TIMESTAMP (family p) ts
+    unfolding stampFor stampAt READ-TIMESTAMP
+    stored-at l n =
+        time-made (newTime (kthReply p s)) (crossFor p i)
+        (strict (newTime (kthReply p s)) (256 ^ 8) (omega (arith, reply-wide p s (k .wide))) (λ z. n (omega arith)))
+        ∙ ap (λ (x : ℕ). x + 1) (picked l)
 
     time-ends : replies p ≤ heardCount (s .marks) → Right p (timeEnd p s d i) with-item
     unfolding timeEnd
-    time-ends l = go (eqb (s .greatest .0) top) refl
+    time-ends l = go (eqb (kthReply p s) top) refl
       where
-        go : (t : Bool) → eqb (s .greatest .0) top ≡ t
+        go : (t : Bool) → eqb (kthReply p s) top ≡ t
             → Right p (cond t (leaves clockSpent (endedOf s) d)
-            (leaves stillOpen (storingOf s (stampFor p (newTime (s .greatest .0)) i)) (recordsFor p (newTime (s .greatest .0)) i))) with-item
-        go true e = record { keeps = tt; wrote = (sym (k .greatest) ∙ eqb-true (s .greatest .0) top e, sending-so l .times) }
+            (leaves stillOpen (storingOf s (stampFor p (newTime (kthReply p s)) i)) (recordsFor p (newTime (kthReply p s)) i))) with-item
+        go true e = record { keeps = tt; wrote = (sym (picked l) ∙ eqb-true (kthReply p s) top e, sending-so l .times) }
         go false e =
             record {
-              keeps = record { sends = sending-so l; marked = none-stored; size = refl; writes = k .writes };
+              keeps = record { sends = sending-so l; at = stored-at l (eqb-false (kthReply p s) top e); marked = none-stored; size = refl; writes = k .writes };
               wrote = inr (sending-so l .times, omega (arith, none-stored .count, ltb-true (heardCount unheards) (replies p) (few-unheards p ok)));
             }
 
@@ -219,7 +244,7 @@ writes-on p s d w st k most = go (ltb (heardCount (s .marks)) (replies p)) refl
         record { keeps = tt; wrote = (k .sends .stamp, omega (arith, k .marked .count, most, l)) }
 
 -- ---- a frame
-module _ (p : Plan) (s : Session) (f d i : List ℕ) (w : Responses) where
+module _ (p : Plan) (s : Session) (f d i : List ℕ) (w : Responses) (bytes : Octets f) where
   abbrev ladder : List Rung
   ladder = replyLadder Write p s f d (length i)
 
@@ -284,7 +309,9 @@ module _ (p : Plan) (s : Session) (f d i : List ℕ) (w : Responses) where
           record {
             keeps = subst (λ (x : Stage). KeepsAt x p s d with-time) (sym st)
                 (record {
-                  greatest = k .greatest ∙ ap (λ (l : List Clock). MAX (Times l)) (sym e);
+                  timed = λ v. k .timed v ∙ ap (λ (l : List Clock). orMore v (Times l)) (sym e);
+                  wide = k .wide;
+                  places = k .places;
                   marked = subst (Marked (λ (x : Clock). x .S) (s .marks)) (sym e) (k .marked);
                   size = k .size;
                   unstored = k .unstored;
@@ -294,7 +321,7 @@ module _ (p : Plan) (s : Session) (f d i : List ℕ) (w : Responses) where
           }
 
       time-right : isHeard s node ≡ false → Right p (timeTurn p (timedOf s node (time (bodyOf f))) d i) with-time
-      unfolding isHeard MAX Times each
+      unfolding isHeard Times each orMore
       time-right h =
           let u = k .marked .names node ∙ h in
           let e = put-in (λ (x : Clock). x .S) (clockOf f) (w .times) u in
@@ -302,7 +329,11 @@ module _ (p : Plan) (s : Session) (f d i : List ℕ) (w : Responses) where
           (record { times = clockOf f ∷ w .times; stored = w .stored; Data = cond t (w .Data) i })) (sym u)
           (times-on p (timedOf s node (time (bodyOf f))) d i (clockOf f ∷ w .times) (w .stored) st plan-ok (lengths .item-is) (most h (k .size))
           (record {
-            greatest = ap (λ (x : ℕ). larger x (time (bodyOf f))) (k .greatest) ∙ ap (λ (l : List Clock). MAX (Times l)) (sym e);
+            timed = λ v.
+                heard-one v (s .marks) (s .times) node (record { 0 = time (bodyOf f) }) (omega (arith, low, k .size)) (k .size ∙ sym (k .places)) (unmarked h (k .size))
+                ∙ ap (λ (n : ℕ). cond (leb v (time (bodyOf f))) 1 0 + n) (k .timed v) ∙ ap (λ (l : List Clock). orMore v (Times l)) (sym e);
+            wide = wide-set (s .times) node _ (time-small f bytes) (k .wide);
+            places = length-set (s .times) node (record { 0 = time (bodyOf f) }) ∙ k .places;
             marked = subst (Marked (λ (x : Clock). x .S) (set (s .marks) node (record { is = Record }))) (sym e)
                 (marked-more (λ (x : Clock). x .S) (s .marks) (clocks (w .times)) (clockOf f) node refl (omega (arith, low, k .size)) (unmarked h (k .size)) (k .marked));
             size = length-set (s .marks) node (record { is = Record }) ∙ k .size;
@@ -322,6 +353,7 @@ module _ (p : Plan) (s : Session) (f d i : List ℕ) (w : Responses) where
             keeps = subst (λ (x : Stage). KeepsAt x p s d with-ack) (sym st)
                 (record {
                   sends = record { times = k .sends .times; stamp = k .sends .stamp; sends = k .sends .sends };
+                  at = k .at;
                   marked = subst (Marked (λ (S : ℕ). S) (s .marks)) (sym (kept-out (λ (S : ℕ). S) node (w .stored) (k .marked .names node ∙ h))) (k .marked);
                   size = k .size;
                   writes = k .writes;
@@ -335,6 +367,7 @@ module _ (p : Plan) (s : Session) (f d i : List ℕ) (w : Responses) where
           writes-on p (markedOf s node Record) d with-ack st
           (record {
             sends = record { times = k .sends .times; stamp = k .sends .stamp; sends = k .sends .sends };
+            at = k .at;
             marked = subst (Marked (λ (S : ℕ). S) (set (s .marks) node (record { is = Record })))
                 (sym (put-in (λ (S : ℕ). S) node (w .stored) (k .marked .names node ∙ h)))
                 (marked-more (λ (S : ℕ). S) (s .marks) (acknowledged (w .stored)) node node refl (omega (arith, low, k .size)) (unmarked h (k .size)) (k .marked));
@@ -402,7 +435,7 @@ write-run p s d w [] k r = record { tells = tt; keeps = k }
 write-run p s d w (c ∷ cs) k r =
     let v : Responses = timing p s (c .reply) d (c .item) w in
     let q : Right p (leaves (saidOf (c .took .answer)) (c .took .session) (c .deskLeft)) v =
-    subst (λ (o : Leaves). Right p o v) (sym (r .0 .1 .is)) (call-right p s (c .reply) d (c .item) w k) in
+    subst (λ (o : Leaves). Right p o v) (sym (r .0 .1 .is)) (call-right p s (c .reply) d (c .item) w (r .0 .0) k) in
     let t = write-run p (c .took .session) (c .deskLeft) v cs (q .keeps) (r .1) in
     record { tells = (q .wrote, (λ e. sent p (c .took .session) (c .deskLeft) v e (q .keeps)), t .tells); keeps = t .keeps }
 
@@ -412,7 +445,7 @@ pub opened-write-run : (p : Plan) (a : Ask) (r : Opened) (d : List ℕ) (cs : Li
 opened-write-run p a r d cs call e h = write-run p (r .session) d untimed cs start h
   where
     fresh : Keeps p (freshOf Write 1 Free a) d untimed
-    fresh = record { greatest = unfold MAX Times each GATHERED in refl; marked = marked-none (λ (x : Clock). x .S); size = refl; unstored = refl; writes = refl }
+    fresh = record { timed = λ v. unfold Times each GATHERED orMore timesHeard in refl; wide = wide-zeros; places = refl; marked = marked-none (λ (x : Clock). x .S); size = refl; unstored = refl; writes = refl }
 
     start : Keeps p (r .session) d untimed
     start = subst (λ (x : Session). Keeps p x d untimed) (sym (accepted-session Write p a r call e)) fresh

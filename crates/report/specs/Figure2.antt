@@ -8,7 +8,7 @@ use Prim.Native.Nat.{ℕ, _+_, _-_}
 use mathlib.Core.Bool.{Bool, true, false, cond}
 use mathlib.Core.List.{List, [], _∷_}
 use lib.Dec.{eqb}
-use Rattle.report.specs.Triple.{Message, each, MAX, upTo, strung, Family}
+use Rattle.report.specs.Triple.{Message, each, upTo, strung, Family}
 
 -- line 12 of both loops: until (|ResponseSet| = N - t)
 abbrev pub enough : Family → ℕ
@@ -34,8 +34,8 @@ clocks received = GATHERED (λ (x : Clock). x .S) received
 unfoldable pub Times : List Clock → List ℕ
 Times ResponseSet = each (λ (x : Clock). x .Time) ResponseSet
 
-unfoldable pub READ-TIMESTAMP : List Clock → ℕ
-READ-TIMESTAMP received = MAX (Times (clocks received)) + 1  -- 13
+unfoldable pub READ-TIMESTAMP : Family → List Clock → ℕ
+READ-TIMESTAMP f received = f .GREATEST (Times (clocks received)) + 1  -- 13
 
 unfoldable pub MAKE-CROSS-CHECKSUM : Family → (ℕ → List ℕ) → List ℕ
 MAKE-CROSS-CHECKSUM f D = strung (λ (i : ℕ). f .HASH (D i)) (f .N)  -- 1 to 4
@@ -55,7 +55,7 @@ abbrev pub crossed : Family → List ℕ → List ℕ
 crossed f Data = MAKE-CROSS-CHECKSUM f (f .ENCODE Data)  -- 3, 4
 
 unfoldable pub ts-written : Family → List ℕ → List Clock → ℕ
-ts-written f Data received = MAKE-TIMESTAMP f (READ-TIMESTAMP received) (crossed f Data)  -- 2, 5
+ts-written f Data received = MAKE-TIMESTAMP f (READ-TIMESTAMP f received) (crossed f Data)  -- 2, 5
 
 unfoldable pub WRITE : Family → List ℕ → List Clock → List Message
 WRITE f Data received = DO-WRITE f (f .ENCODE Data) (ts-written f Data received) (crossed f Data)  -- 6

@@ -1,12 +1,12 @@
 -- From our bytes to the figures: what a plan, a record, a book, and the marks and slots of a session are there. This page has the bytes, so
 -- that the figures have none.
---   family                the member of the family that a plan is, with SHA-256 and the erasure code of document 01
+--   family reported       the member of the family that a plan is, with SHA-256, the erasure code of document 01 and Q-2's new time; with the report's
 --   tripleOf history      a record as a triple; a book as the node's History
 --   responses             marks and desk as a response set, by node number
 --   sending               the desk as the requests of a write round
 --   commandOf             a bound as what DO_READ sends
 -- Assumes nothing.
-use Prim.Native.Nat.{ℕ, zero, suc}
+use Prim.Native.Nat.{ℕ, zero, suc, _+_}
 use mathlib.Core.Bool.{Bool, true, false, cond}
 use mathlib.Core.List.{List, [], _∷_, _++_}
 use lib.ListN.{getD, take, drop}
@@ -30,7 +30,8 @@ use Rattle.rounds.specs.declared.Mark.{Mark}
 use Rattle.rounds.specs.declared.Bound.{Bound}
 use Rattle.rounds.specs.declared.Bound.the-variants.{Free, Under}
 use Rattle.rounds.specs.Rounds.{markOf}
-use Rattle.report.specs.Triple.{Triple, Message, null, each, upTo, strung, Family}
+use Rattle.clock.specs.Clock.{kthGreatest}
+use Rattle.report.specs.Triple.{Triple, Message, null, each, MAX, upTo, strung, Family}
 use Rattle.report.specs.Figure1.{initial}
 use Rattle.report.specs.Figure3.{Command, READ-LATEST, READ-PREVIOUS, of-first-triple}
 
@@ -72,8 +73,9 @@ generated p xs k = generatedBy (p .f) (take (p .m) xs) k
 unfoldable pub decodedFrom : Plan → List Message → List ℕ
 decodedFrom p xs = cond (of-first-triple xs) null (strung (generated p xs) (p .m))
 
-abbrev pub family : Plan → Family
-family p =
+-- the rule of READ_TIMESTAMP's line 13 apart
+abbrev pub familyWith : (List ℕ → ℕ) → Plan → Family
+familyWith greatest p =
     record {
       N = p .n;
       t = p .t;
@@ -81,6 +83,7 @@ family p =
       INCOMPLETE = INCOMPLETE p;
       Repair = isRepairable (p .member);
       ByzantineClients = lies (p .clients);
+      GREATEST = greatest;
       HASH = sha256;
       entry = λ cross node. entryOf node cross;
       Time = timeIn;
@@ -90,6 +93,14 @@ family p =
       GENERATE-FRAGMENTS = generated p;
       DECODE = decodedFrom p;
     }
+
+-- document 02, Q-2: "Take the (b+1)-th greatest of the N-t time replies, equal values counted each, and add 1"
+abbrev pub family : Plan → Family
+family p = familyWith (kthGreatest (p .b + 1)) p
+
+-- with the report's own line 13: what the figures say to the letter
+abbrev pub reported : Plan → Family
+reported p = familyWith MAX p
 
 -- ---- books
 abbrev pub tripleOf : Plan → List ℕ → Triple

@@ -2,7 +2,7 @@
 --   OwedBy             the frame of a request that a session of ours owes to a node, after calls of its operation from an accepted opening
 --   asker askerDesk    that session, and its desk
 --   RepairFits         in a repair under crash clients the fragments of the desk are those of its cross checksum
---   StillAsks          the session that asked, or what hearing nodes leaves of it while the same round is open: marks and greatest time may be others
+--   StillAsks          the session that asked, or what hearing nodes leaves of it while the same round is open: marks and times may be others
 --   NoneOf             a refusal is none of some numbers
 -- Assumes nothing.
 use Prim.Native.Nat.{ℕ, _*_}

@@ -70,6 +70,8 @@ pub record Family : Type 0 where
   -- the member: READ's argument Repair, and whether clients may be Byzantine
   pub Repair : Bool
   pub ByzantineClients : Bool
+  -- line 13 of READ_TIMESTAMP: MAX in the report; (02, Q-2) the (b+1)-th greatest in its place
+  pub GREATEST : List ℕ → ℕ
   -- HASH; CC[S]; the parts of a timestamp, and one made of its parts
   pub HASH : List ℕ → List ℕ
   pub entry : List ℕ → ℕ → List ℕ

@@ -22,7 +22,7 @@ use Rattle.standing.specs.declared.Operation.the-variants.{Write}
 use Rattle.standing.specs.Standing.{isStoring}
 use Rattle.session.specs.Session.{Said, refused, stillOpen, done, neverWritten, aborted, roundsSpent, clockSpent, saidOf}
 use Rattle.session.specs.Reply.{replyLadder}
-use Rattle.report.specs.Triple.{null, MAX}
+use Rattle.report.specs.Triple.{null}
 use Rattle.report.specs.Figure2.{enough, in-set, Clock, clocks, Times, acknowledged, ts-written, WRITE}
 use Rattle.report.specs.Ours.{family, sending}
 use Rattle.client.specs.Turns.{Turn}
@@ -67,8 +67,8 @@ abbrev pub timedOver : Plan → Session → List ℕ → Responses → List Turn
 timedOver p s d w [] = w
 timedOver p s d w (c ∷ cs) = timedOver p (c .took .session) (c .deskLeft) (timing p s (c .reply) d (c .item) w) cs
 
--- done: WRITE's timestamp, and DO_WRITE has its N-t responses; open: READ_TIMESTAMP, or DO_WRITE after it, waits for its own; clock spent (01): a
--- greatest time of 2^64-1, whose next has no 8 bytes; a write has no other ending
+-- done: WRITE's timestamp, and DO_WRITE has its N-t responses; open: READ_TIMESTAMP, or DO_WRITE after it, waits for its own; clock spent (01,
+-- 02): READ_TIMESTAMP's line 13 comes to 2^64-1 and 1, which has no 8 bytes; a write has no other ending
 abbrev pub Wrote : Plan → Said → Responses → Type 0
 Wrote p (refused k) w = Unit {0}
 Wrote p stillOpen w =
@@ -78,7 +78,7 @@ Wrote p (done t rounds) w = (stampNumber t ≡ ts-written (family p) (w .Data) (
 Wrote p (neverWritten rounds) w = ⊥
 Wrote p (aborted rounds) w = ⊥
 Wrote p (roundsSpent rounds) w = ⊥
-Wrote p clockSpent w = (MAX (Times (clocks (w .times))) ≡ top) × (length (clocks (w .times)) ≡ enough (family p))
+Wrote p clockSpent w = (family p .GREATEST (Times (clocks (w .times))) ≡ top) × (length (clocks (w .times)) ≡ enough (family p))
 
 -- in a write round: the time round had N-t responses, and the desk holds what DO_WRITE sends
 pub record Sending (p : Plan) (s : Session) (d : List ℕ) (w : Responses) : Type 0 where

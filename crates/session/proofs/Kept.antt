@@ -8,17 +8,15 @@ use native.Mathlib.Omega.{arith}
 use borrow.Author.Tests.{eqb-false, not-true}
 use lib.Dec.{eqb}
 use lib.ListN.{length, set}
-use Rattle.octets.specs.Bytes.{part, num, Octets}
-use Rattle.octets.proofs.Laws.{length-part}
-use Rattle.octets.proofs.Meaning.{num-small, bytes-part, bytes-all}
+use Rattle.octets.specs.Bytes.{Octets}
+use Rattle.octets.proofs.Meaning.{part-small, octets-drop}
 use Rattle.terms.specs.Ladder.{first}
 use Rattle.terms.specs.Terms.{recordLength}
 use Rattle.terms.specs.Stamp.{time, stampAt, top}
 use Rattle.terms.specs.declared.Plan.{Plan}
 use Rattle.terms.specs.declared.Ask.{Ask}
 use Rattle.terms.specs.declared.Time.{Time}
-use Rattle.frame.specs.Frame.{frameNode, bodyOf, framed, versionOf, headBytes}
-use Rattle.frame.proofs.Frames.{body-part}
+use Rattle.frame.specs.Frame.{frameNode, bodyOf, versionOf, headBytes}
 use Rattle.record.proofs.Desks.{time-made}
 use Rattle.clock.proofs.Wide.{WideTimes, wide-zeros, wide-set, kth-wide}
 use Rattle.rounds.specs.declared.Heard.{Heard}
@@ -40,7 +38,6 @@ use Rattle.session.proofs.Checks.{outcome-all}
 use Rattle.session.proofs.Made.{OpenIs, ended-in-range, open-in-range, end-stands, storing-in-range, rest-set, none-set}
 use Rattle.session.proofs.Openings.{accepted-session, accepted-in-range}
 use Rattle.recover.proofs.Records.{length-records}
-use Rattle.session.proofs.Writers.{time-there}
 use Rattle.session.proofs.Known.{Known, known-reply, same, item-is, reply}
 use Rattle.session.proofs.Rules.{StandingIs}
 
@@ -57,11 +54,12 @@ opened-kept op p a r call e d l =
     record { range = accepted-in-range op p a r call e d; desk-is = l; clock = rw (accepted-session op p a r call e) wide-zeros }
 
 -- ---- times, timestamps and records as they are made
-time-small : (f : List ℕ) → Octets f → length f ≡ framed (versionOf f) 8 → time (bodyOf f) < 256 ^ 8
-time-small f o l =
-    let z : part (bodyOf f) 0 8 ≡ part f (headBytes (versionOf f)) 8 = body-part (headBytes (versionOf f)) f 0 8 in
-    let e : length (part f (headBytes (versionOf f)) 8) ≡ 8 = length-part f (headBytes (versionOf f)) 8 (omega arith) in
-    rw z (subst (λ (n : ℕ). num (part f (headBytes (versionOf f)) 8) < 256 ^ n) e (num-small (part f (headBytes (versionOf f)) 8) (bytes-part f (headBytes (versionOf f)) 8 (bytes-all f o))))
+pub time-small : (f : List ℕ) → Octets f → time (bodyOf f) < 256 ^ 8
+time-small f o = part-small (bodyOf f) 0 8 (octets-drop (headBytes (versionOf f)) f o)
+
+-- the (b+1)-th greatest of times that have 8 bytes has 8 too
+pub reply-wide : (p : Plan) (s : Session) → WideTimes (s .times) → kthReply p s < 256 ^ 8
+reply-wide p s w = unfold kthReply in kth-wide (p .b + 1) (s .marks) (s .times) w
 
 stamp-low : (p : Plan) (t : ℕ) (i : List ℕ) → 1 ≤ t → t < 256 ^ 8 → 1 ≤ stampFor p t i .time .0
 unfolding stampFor stampAt
@@ -132,9 +130,6 @@ module _ (p : Plan) (s : Session) (f d i : List ℕ) (o : Octets f) (k : Kept p 
           go true c = still c
           go false c = ends
 
-      reply-wide : kthReply p u < 256 ^ 8
-      reply-wide = unfold kthReply in kth-wide (p .b + 1) (u .marks) g small
-
       in-time : Good (timeTurn p u d i)
       unfolding timeTurn timeEnd
       in-time = go (roundOpen p u) (eqb (kthReply p u) top) refl refl
@@ -146,7 +141,7 @@ module _ (p : Plan) (s : Session) (f d i : List ℕ) (o : Octets f) (k : Kept p 
           go false true c v = ends
           go false false c v =
               let z = eqb-false (kthReply p u) top v in
-              let w = reply-wide in
+              let w = reply-wide p u small in
               record {
                 range = storing-in-range p u (stampFor p (newTime (kthReply p u)) i) _ (q .plan-ok) stands (stamp-low p (newTime (kthReply p u)) i (omega arith) (omega arith));
                 desk-is = length-records p (newTime (kthReply p u)) i (item-is Write p s f d (length i) q);
@@ -162,7 +157,7 @@ module _ (p : Plan) (s : Session) (f d i : List ℕ) (o : Octets f) (k : Kept p 
         go true c = in-write (s .times) (k .clock)
         go false c =
             in-time (set (s .times) (frameNode f) (record { 0 = time (bodyOf f) }))
-            (wide-set (s .times) (frameNode f) _ (time-small f o (time-there p s f d (length i) q c)) (k .clock))
+            (wide-set (s .times) (frameNode f) _ (time-small f o) (k .clock))
 
   pub write-kept : (t : Took) (d₂ : List ℕ) → WriteReplyCall p s f d i t d₂ → Kept p (t .session) d₂
   unfolding writeReply

@@ -33,7 +33,8 @@ use Rattle.session.specs.Ranges.{standingRules, openRules, inRange}
 use Rattle.standing.specs.Standing.{lengthsOk, askIn, awaitsIn, roundRules}
 use Rattle.session.specs.Reply.{awaited, isHeard}
 use Rattle.recover.specs.Records.{stampFor, recordsFor}
-use Rattle.session.specs.Writer.{timedOf, leaves, timeEnd, timeTurn, writeTurn, acceptedWrite, writeReply, WriteReplyCall}
+use Rattle.clock.specs.Clock.{timesHeard, orMore, greatestWith}
+use Rattle.session.specs.Writer.{timedOf, kthReply, leaves, timeEnd, timeTurn, writeTurn, acceptedWrite, writeReply, WriteReplyCall}
 use Rattle.session.proofs.Kept.{Kept}
 use Rattle.client.specs.Turns.{Turn, WriteTurn, EitherTurn, Calls}
 use Rattle.client.specs.Asks.{NotCounted}
@@ -94,7 +95,7 @@ met-1 = record { is = refl }
 
 filled : leaves stillOpen (storingOf (timedOf once-timed 1 0) (stampFor plan 1 (7 ∷ []))) (recordsFor plan 1 (7 ∷ [])) ≡ writeReply plan once-timed (time-reply 1) desk (7 ∷ [])
 unfolding time-reply desk plan writeReply first planOk countsOk limitsOk columnOf all recordLength lengthsOk inRange standingRules roundRules openRules heardCount every num numFrom part
-    goodReply goodFrame suits shaped forParty oneOf bodyFits awaited askIn awaitsIn isHeard be beOnto acceptedWrite timeTurn timeEnd
+    goodReply goodFrame suits shaped forParty oneOf bodyFits awaited askIn awaitsIn isHeard be beOnto acceptedWrite timeTurn timeEnd kthReply greatestWith orMore timesHeard
 filled = refl
 
 pub met-2 : WriteReplyCall plan once-timed (time-reply 1) desk (7 ∷ []) (call-2 .took) desk-full

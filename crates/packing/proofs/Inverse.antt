@@ -11,7 +11,7 @@ use mathlib.Core.List.{List, [], _∷_, _++_, append-assoc, append-nil}
 use native.Mathlib.Nat.{add-zero, lt-of-lt-of-le, pow-le-pow-right, min-le-left}
 use native.Mathlib.Omega.{arith}
 use borrow.Author.Tests.{le-leb, leb-true, eq-eqb, eqb-true}
-use lib.ListN.{length, take, drop, set, replicate, length-append, length-take, length-set, length-replicate}
+use lib.ListN.{length, take, drop, set, replicate, length-append, length-take, length-set}
 use lib.Seq.{take-at, take-all, drop-at, drop-drop}
 use lib.Dec.{leb, eqb, lit<}
 use Rattle.octets.specs.Bytes.{part, num, be, Octets}
@@ -46,7 +46,7 @@ use Rattle.session.specs.Ranges.{inRange}
 use Rattle.session.proofs.Openings.{none-in-range}
 use Rattle.packing.specs.PlanBytes.{field, memberByte, clientsByte, memberOf, clientsOf, planBytes, planShaped, planAt, planOf}
 use Rattle.packing.specs.SessionBytes.{sessionLength, operationByte, stageByte, markByte, boundBytes, timesBytes, markBytes, roundBytes, askBytes, heardBytes, sessionBytes, operationOf, stageOf, heardOf, boundShaped, boundOf, timesAt, marksShaped, marksOf, sessionShaped, roundAt, sessionAt, sessionOf}
-use Rattle.packing.proofs.Laws.{length-times, length-marks, length-session, plan-length, session-length}
+use Rattle.packing.proofs.Laws.{length-marks, length-session, plan-length, session-length}
 
 -- ---- fields that follow one another
 -- a number that was laid out is read back, and what follows it

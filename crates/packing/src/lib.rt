@@ -16,11 +16,12 @@ use terms::Timestamp;
 use wish::Wish;
 ghost use mathlib.Core.Path.{_≡_};
 ghost use mathlib.Core.List.{_++_};
-ghost use Prim.Native.Nat.{_≤_};
+ghost use Prim.Native.Nat.{_+_, _≤_};
 ghost use lib.ListN.{length};
 ghost use Rattle.octets.specs.Bytes.{put, be};
 ghost use Rattle.terms.specs.Stamp.{stampNumber, stampAt};
 ghost use Rattle.packing.specs.PlanBytes.{field, memberOf, clientsOf, planShaped, planAt, noPlan, planOf, wishOf};
+ghost use Rattle.packing.specs.Inside.{le};
 ghost use Rattle.packing.specs.SessionBytes.{sessionLength, operationByte, stageByte, markByte, boundBytes, timesBytes, markBytes, roundBytes, askBytes, heardBytes, sessionBytes, operationOf, stageOf, heardOf, boundShaped, boundOf, timesAt, marksShaped, marksOf, sessionShaped, roundAt, sessionAt, sessionOf};
 
 // The bytes of a session.
@@ -194,18 +195,37 @@ fn bound_at(x: &[u8]) -> Bound
     Bound::Under(t)
 }
 
-// The 16 times of a session's bytes.
+// The time of 8 bytes, as octets::get gives it. In two halves it compiles to one load and one byte swap.
+fn time_at(x: &[u8], at: usize) -> Time
+    requires { ⌜ at + 8 ≤ length (now x) ⌝ }
+    ensures { λ r. ⌜ r .0 ≡ field (now (x .entry)) at 8 ⌝ }
+{
+    Time(octets::get(x, at, 4) * 4294967296 + octets::get(x, at + 4, 4))
+}
+
+// The 16 times of a session's bytes. They are written out: a loop would fill an array and then copy it.
 fn times_at(x: &[u8]) -> [Time; 16]
     requires { ⌜ 181 ≤ length (now x) ⌝ }
     ensures { λ r. ⌜ r ≡ timesAt (now (x .entry)) 53 16 ⌝ }
 {
-    let mut times = [Time(0); 16];
-    let mut i: usize = 0;
-    while i < 16 {
-        times[i] = Time(octets::get(x, 53 + 8 * i, 8));
-        i += 1;
-    }
-    times
+    [
+        time_at(x, 53),
+        time_at(x, 61),
+        time_at(x, 69),
+        time_at(x, 77),
+        time_at(x, 85),
+        time_at(x, 93),
+        time_at(x, 101),
+        time_at(x, 109),
+        time_at(x, 117),
+        time_at(x, 125),
+        time_at(x, 133),
+        time_at(x, 141),
+        time_at(x, 149),
+        time_at(x, 157),
+        time_at(x, 165),
+        time_at(x, 173),
+    ]
 }
 
 // Whether each byte codes a mark.
@@ -360,6 +380,35 @@ fn write_bound(x: &mut [u8], b: Bound)
     }
 }
 
+// A number of 8 bytes with its bytes in the other order.
+fn turned(t: u64) -> u64
+    ensures { λ r. ⌜ le 8 r ≡ be 8 t ⌝ }
+{
+    let mut z: u64 = 0;
+    let mut y = t;
+    let mut i: usize = 0;
+    while i < 8 {
+        z = z * 256 + y % 256;
+        y = y / 256;
+        i += 1;
+    }
+    z
+}
+
+// The 8 bytes of a number, the lowest first. Of a turned one it compiles to one byte swap and one store, as octets::put_num does not.
+fn put_low(x: &mut [u8], at: usize, z: u64)
+    requires { ⌜ at + 8 ≤ length (now x) ⌝ }
+    ensures { λ _. ⌜ now (x .exit) ≡ put (now (x .entry)) at (le 8 z) ⌝ }
+{
+    let mut y = z;
+    let mut i: usize = 0;
+    while i < 8 {
+        x[at + i] = (y % 256) as u8;
+        y = y / 256;
+        i += 1;
+    }
+}
+
 // The times, in their place. The second fact is for the session that they are of.
 fn write_times(x: &mut [u8], times: [Time; 16])
     requires { ⌜ 181 ≤ length (now x) ⌝ }
@@ -368,7 +417,7 @@ fn write_times(x: &mut [u8], times: [Time; 16])
     let mut i: usize = 0;
     while i < 16 {
         let t = times[i];
-        octets::put_num(x, 53 + 8 * i, 8, t.0);
+        put_low(x, 53 + 8 * i, turned(t.0));
         i += 1;
     }
 }

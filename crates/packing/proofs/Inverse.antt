@@ -1,16 +1,17 @@
 -- Packing and unpacking are inverse. Of plans: plan-again (bytes that code a plan), plan-back (every accepted plan), no-plan (bytes that
 -- code none are outside the rules). Of sessions: session-again (bytes that code a session), session-back (every session whose numbers have
--- the widths of their fields), no-session (bytes that code none are in no range). What is read from bytes has its width: field-small, wide-at.
+-- the widths of their fields: Fits), no-session (bytes that code none are in no range). What is read from bytes has its width: field-small,
+-- wide-at. Times fit that are zero (fits-zero), and with one of them set (fits-set).
 -- Assumes nothing.
 use Prim.{Unit, tt}
-use Prim.Native.Nat.{ℕ, zero, suc, _+_, _≤_, _<_, _^_}
+use Prim.Native.Nat.{ℕ, zero, suc, _+_, _*_, _≤_, _<_, _^_}
 use mathlib.Core.Path.{_≡_, refl, sym, ap, _∙_}
 use mathlib.Core.Bool.{Bool, true, false, cond}
 use mathlib.Core.List.{List, [], _∷_, _++_, append-assoc, append-nil}
-use native.Mathlib.Nat.{lt-of-lt-of-le, pow-le-pow-right, min-le-left}
+use native.Mathlib.Nat.{add-zero, lt-of-lt-of-le, pow-le-pow-right, min-le-left}
 use native.Mathlib.Omega.{arith}
 use borrow.Author.Tests.{le-leb, leb-true, eq-eqb, eqb-true}
-use lib.ListN.{length, take, drop, length-append, length-take}
+use lib.ListN.{length, take, drop, set, replicate, length-append, length-take, length-set}
 use lib.Seq.{take-at, take-all, drop-at, drop-drop}
 use lib.Dec.{leb, eqb, lit<}
 use Rattle.octets.specs.Bytes.{part, num, be, Octets}
@@ -24,6 +25,7 @@ use Rattle.terms.specs.declared.Member.{Member}
 use Rattle.terms.specs.declared.Member.the-variants.{Repairable, NonRepair}
 use Rattle.terms.specs.declared.Clients.{Clients}
 use Rattle.terms.specs.declared.Clients.the-variants.{Crash, Byzantine}
+use Rattle.terms.specs.declared.Time.{Time}
 use Rattle.terms.specs.declared.Timestamp.{Timestamp}
 use Rattle.terms.proofs.Plans.{plan-is, small}
 use Rattle.terms.proofs.Rungs.{both}
@@ -43,7 +45,7 @@ use Rattle.session.specs.Opening.{noSession}
 use Rattle.session.specs.Ranges.{inRange}
 use Rattle.session.proofs.Openings.{none-in-range}
 use Rattle.packing.specs.PlanBytes.{field, memberByte, clientsByte, memberOf, clientsOf, planBytes, planShaped, planAt, planOf}
-use Rattle.packing.specs.SessionBytes.{sessionLength, operationByte, stageByte, markByte, boundBytes, markBytes, roundBytes, askBytes, heardBytes, sessionBytes, operationOf, stageOf, heardOf, boundShaped, boundOf, marksShaped, marksOf, sessionShaped, roundAt, sessionAt, sessionOf}
+use Rattle.packing.specs.SessionBytes.{sessionLength, operationByte, stageByte, markByte, boundBytes, timesBytes, markBytes, roundBytes, askBytes, heardBytes, sessionBytes, operationOf, stageOf, heardOf, boundShaped, boundOf, timesAt, marksShaped, marksOf, sessionShaped, roundAt, sessionAt, sessionOf}
 use Rattle.packing.proofs.Laws.{length-marks, length-session, plan-length, session-length}
 
 -- ---- fields that follow one another
@@ -100,6 +102,51 @@ cut-stamp x at t z e w =
 
 stamp-again : (x : List ℕ) (at : ℕ) → at + 40 ≤ length x → Octets x → be 40 (stampNumber (stampAt x at)) ≡ part x at 40
 stamp-again x at h o = field-again x at 40 (stampNumber (stampAt x at)) h o (stamp-at-number x at h)
+
+-- ---- times
+-- each has 8 bytes
+abbrev pub Small : List Time → Type 0
+Small [] = Unit {0}
+Small (t ∷ ts) = (t .0 < 256 ^ 8) × Small ts
+
+-- one for each of 16 nodes
+pub record TimesFit (ts : List Time) : Type 0 where
+  pub nodes : length ts ≡ 16
+  pub small : Small ts
+
+small-same : (n : ℕ) (t : Time) → t .0 < 256 ^ 8 → Small (replicate n t)
+small-same zero t h = tt
+small-same (suc n) t h = (h, small-same n t h)
+
+pub fits-zero : TimesFit (replicate 16 (record { 0 = 0 }))
+fits-zero = record { nodes = refl; small = small-same 16 (record { 0 = 0 }) (lit< tt) }
+
+small-set : (ts : List Time) (i : ℕ) (t : Time) → t .0 < 256 ^ 8 → Small ts → Small (set ts i t)
+small-set [] i t h s = tt
+small-set (u ∷ ts) zero t h s = (h, s .1)
+small-set (u ∷ ts) (suc i) t h s = (s .0, small-set ts i t h (s .1))
+
+pub fits-set : (ts : List Time) (i : ℕ) (t : Time) → t .0 < 256 ^ 8 → TimesFit ts → TimesFit (set ts i t)
+fits-set ts i t h w = record { nodes = length-set ts i t ∙ w .nodes; small = small-set ts i t h (w .small) }
+
+-- times that were laid out are read back, and what follows them
+cut-times : (x : List ℕ) (at : ℕ) (ts : List Time) (z : List ℕ) → drop at x ≡ timesBytes ts ++ z → Small ts → (timesAt x at (length ts) ≡ ts) × (drop (at + 8 * length ts) x ≡ z)
+unfolding timesBytes timesAt
+cut-times x at [] z e s = (refl, rw add-zero e)
+cut-times x at (t ∷ ts) z e s =
+    let c = cut x at 8 (at + 8) (t .0) (timesBytes ts ++ z) refl (e ∙ append-assoc (be 8 (t .0)) (timesBytes ts) z) (s .0) in
+    let r = cut-times x (at + 8) ts z (c .1) (s .1) in
+    let k : at + 8 * suc (length ts) ≡ at + 8 + 8 * length ts = omega arith in
+    (λ i. record { 0 = c .0 i } ∷ r .0 i, ap (λ (n : ℕ). drop n x) k ∙ r .1)
+
+-- the times that were read, laid out
+times-again : (x : List ℕ) (at n : ℕ) → at + 8 * n ≤ length x → Octets x → timesBytes (timesAt x at n) ≡ part x at (8 * n)
+unfolding timesBytes timesAt part
+times-again x at zero h o = refl
+times-again x at (suc n) h o =
+    let k : 8 * suc n ≡ 8 + 8 * n = omega arith in
+    (λ i. field-again x at 8 (field x at 8) (omega arith) o refl i ++ times-again x (at + 8) n (omega arith) o i)
+    ∙ sym (part-add x at 8 (8 * n)) ∙ ap (part x at) (sym k)
 
 -- ---- cases as bytes
 -- a number at most 1, at most 2
@@ -244,7 +291,7 @@ pub record Fits (s : Session) : Type 0 where
   pub round : s .round .number < 256 ^ 2
   pub bound : WideBound (s .round .bound)
   pub opening : s .opening .0 < 256 ^ 8
-  pub greatest : s .greatest .0 < 256 ^ 8
+  pub times : TimesFit (s .times)
   pub stamp : Wide (s .stamp)
   pub marks : length (s .marks) ≡ 16
 
@@ -324,16 +371,16 @@ session-again x o e =
     let b = both (leb (field x 0 1) 1) _ (a .1) in
     let c = both (leb (field x 1 1) 2) _ (b .1) in
     let d = both (boundShaped (field x 4 1) (field x 5 40)) _ (c .1) in
-    let g = both (marksShaped (part x 101 16)) _ (d .1) in
+    let g = both (marksShaped (part x 221 16)) _ (d .1) in
     let f0 = field-again x 0 1 (operationByte (operationOf (field x 0 1))) (omega arith) o (operation-again (field x 0 1) (leb-true _ _ (b .0))) in
     let f1 = field-again x 1 1 (stageByte (stageOf (field x 1 1))) (omega arith) o (stage-again (field x 1 1) (leb-true _ _ (c .0))) in
     let f2 = field-again x 2 2 (field x 2 2) (omega arith) o refl in
     let f4 = bound-again x (omega arith) o (d .0) in
     let f45 = field-again x 45 8 (field x 45 8) (omega arith) o refl in
-    let f53 = field-again x 53 8 (field x 53 8) (omega arith) o refl in
-    let f61 = stamp-again x 61 (omega arith) o in
-    let f101 = marks-again (part x 101 16) (g .0) in
-    rw (e, f0, f1, f2, f4, f45, f53, f61, f101, ← part-add x 2 2 41, ← part-add x 1 1 43, ← part-add x 1 44 8, ← part-add x 0 1 52, ← part-add x 61 40 16, ← part-add x 53 8 56, ← part-add x 0 53 64)
+    let f53 : timesBytes (timesAt x 53 16) ≡ part x 53 128 = times-again x 53 16 (omega arith) o in
+    let f181 = stamp-again x 181 (omega arith) o in
+    let f221 = marks-again (part x 221 16) (g .0) in
+    rw (e, f0, f1, f2, f4, f45, f53, f181, f221, ← part-add x 2 2 41, ← part-add x 1 1 43, ← part-add x 1 44 8, ← part-add x 0 1 52, ← part-add x 181 40 16, ← part-add x 53 128 56, ← part-add x 0 53 184)
     (ap (part x 0) (sym l) ∙ part-all x)
 
 -- the round read back, and what follows it
@@ -368,7 +415,7 @@ session-back s w =
     let x = sessionBytes s in
     let z4 : List ℕ = markBytes (s .marks) in
     let z3 : List ℕ = be 40 (stampNumber (s .stamp)) ++ z4 in
-    let z2 : List ℕ = be 8 (s .greatest .0) ++ z3 in
+    let z2 : List ℕ = timesBytes (s .times) ++ z3 in
     let z1 : List ℕ = be 8 (s .opening .0) ++ z2 in
     let z0 : List ℕ = roundBytes (s .round) ++ z1 in
     let ho : operationByte (s .operation) ≤ 1 = leb-true _ _ (operation-most (s .operation)) in
@@ -376,15 +423,17 @@ session-back s w =
     let c0 = cut x 0 1 1 (operationByte (s .operation)) z0 refl apart (omega arith) in
     let c1 = cut-round x (s .round) z1 (c0 .1) (w .round) (w .bound) in
     let c2 = cut x 45 8 53 (s .opening .0) z2 refl (c1 .rest) (w .opening) in
-    let c3 = cut x 53 8 61 (s .greatest .0) z3 refl (c2 .1) (w .greatest) in
-    let c4 = cut-stamp x 61 (s .stamp) z4 (c3 .1) (w .stamp) in
-    let marks-at : take 16 (drop 101 x) ≡ z4 = ap (take 16) (c4 .1) ∙ take-all 16 z4 (omega (arith, length-marks (s .marks), w .marks)) in
+    let c3 = cut-times x 53 (s .times) z3 (c2 .1) (w .times .small) in
+    let times = ap (timesAt x 53) (sym (w .times .nodes)) ∙ c3 .0 in
+    let rest : drop 181 x ≡ z3 = ap (λ (n : ℕ). drop (53 + 8 * n) x) (sym (w .times .nodes)) ∙ c3 .1 in
+    let c4 = cut-stamp x 181 (s .stamp) z4 rest (w .stamp) in
+    let marks-at : take 16 (drop 221 x) ≡ z4 = ap (take 16) (c4 .1) ∙ take-all 16 z4 (omega (arith, length-marks (s .marks), w .marks)) in
     let operation = ap operationOf (c0 .0) ∙ operation-back (s .operation) in
     let marks = ap marksOf marks-at ∙ marks-back (s .marks) in
     let shaped0 = ap (λ (k : ℕ). leb k 1) (c0 .0) ∙ operation-most (s .operation) in
     let shaped4 = ap marksShaped marks-at ∙ marks-shape (s .marks) in
-    rw (eq-eqb (length x) sessionLength (length-session s (w .marks)), shaped0, c1 .stage, c1 .bound, shaped4)
-    (λ i. record { operation = operation i; round = c1 .is i; opening = record { 0 = c2 .0 i }; greatest = record { 0 = c3 .0 i }; stamp = c4 .0 i; marks = marks i })
+    rw (eq-eqb (length x) sessionLength (length-session s (w .times .nodes) (w .marks)), shaped0, c1 .stage, c1 .bound, shaped4)
+    (λ i. record { operation = operation i; round = c1 .is i; opening = record { 0 = c2 .0 i }; times = times i; stamp = c4 .0 i; marks = marks i })
 
 -- bytes that code no session are in no range
 pub no-session : (p : Plan) (x d : List ℕ) → sessionShaped x ≡ false → inRange p (sessionOf x) d ≡ false

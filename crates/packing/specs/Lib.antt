@@ -1,2 +1,3 @@
 pub mod PlanBytes
 pub mod SessionBytes
+pub mod Inside

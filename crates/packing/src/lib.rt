@@ -16,15 +16,16 @@ use terms::Timestamp;
 use wish::Wish;
 ghost use mathlib.Core.Path.{_≡_};
 ghost use mathlib.Core.List.{_++_};
-ghost use Prim.Native.Nat.{_≤_};
+ghost use Prim.Native.Nat.{_+_, _≤_};
 ghost use lib.ListN.{length};
 ghost use Rattle.octets.specs.Bytes.{put, be};
 ghost use Rattle.terms.specs.Stamp.{stampNumber, stampAt};
 ghost use Rattle.packing.specs.PlanBytes.{field, memberOf, clientsOf, planShaped, planAt, noPlan, planOf, wishOf};
-ghost use Rattle.packing.specs.SessionBytes.{sessionLength, operationByte, stageByte, markByte, boundBytes, markBytes, roundBytes, askBytes, heardBytes, sessionBytes, operationOf, stageOf, heardOf, boundShaped, boundOf, marksShaped, marksOf, sessionShaped, roundAt, sessionAt, sessionOf};
+ghost use Rattle.packing.specs.Inside.{le};
+ghost use Rattle.packing.specs.SessionBytes.{sessionLength, operationByte, stageByte, markByte, boundBytes, timesBytes, markBytes, roundBytes, askBytes, heardBytes, sessionBytes, operationOf, stageOf, heardOf, boundShaped, boundOf, timesAt, marksShaped, marksOf, sessionShaped, roundAt, sessionAt, sessionOf};
 
 // The bytes of a session.
-pub const SESSION: usize = 117;
+pub const SESSION: usize = 237;
 
 fn member_of(k: u64) -> Member
     ensures { λ r. ⌜ r ≡ memberOf k ⌝ }
@@ -194,6 +195,39 @@ fn bound_at(x: &[u8]) -> Bound
     Bound::Under(t)
 }
 
+// The time of 8 bytes, as octets::get gives it. In two halves it compiles to one load and one byte swap.
+fn time_at(x: &[u8], at: usize) -> Time
+    requires { ⌜ at + 8 ≤ length (now x) ⌝ }
+    ensures { λ r. ⌜ r .0 ≡ field (now (x .entry)) at 8 ⌝ }
+{
+    Time(octets::get(x, at, 4) * 4294967296 + octets::get(x, at + 4, 4))
+}
+
+// The 16 times of a session's bytes. They are written out: a loop would fill an array and then copy it.
+fn times_at(x: &[u8]) -> [Time; 16]
+    requires { ⌜ 181 ≤ length (now x) ⌝ }
+    ensures { λ r. ⌜ r ≡ timesAt (now (x .entry)) 53 16 ⌝ }
+{
+    [
+        time_at(x, 53),
+        time_at(x, 61),
+        time_at(x, 69),
+        time_at(x, 77),
+        time_at(x, 85),
+        time_at(x, 93),
+        time_at(x, 101),
+        time_at(x, 109),
+        time_at(x, 117),
+        time_at(x, 125),
+        time_at(x, 133),
+        time_at(x, 141),
+        time_at(x, 149),
+        time_at(x, 157),
+        time_at(x, 165),
+        time_at(x, 173),
+    ]
+}
+
 // Whether each byte codes a mark.
 fn marks_shaped(b: &[u8]) -> bool
     ensures { λ r. ⌜ r ≡ marksShaped (now (b .entry)) ⌝ }
@@ -239,7 +273,7 @@ fn session_shaped(x: &[u8]) -> bool
     if !bound_shaped(x) {
         return false;
     }
-    let from: usize = 101;
+    let from: usize = 221;
     let to: usize = SESSION;
     marks_shaped(&x[from..to])
 }
@@ -267,16 +301,16 @@ fn session_at(x: &[u8]) -> Session
     let operation = operation_of(octets::get(x, 0, 1));
     let round = round_at(x);
     let opening = Ask(octets::get(x, 45, 8));
-    let greatest = Time(octets::get(x, 53, 8));
-    let stamp = terms::stamp_at(x, 61);
-    let from: usize = 101;
+    let times = times_at(x);
+    let stamp = terms::stamp_at(x, 181);
+    let from: usize = 221;
     let to: usize = SESSION;
     let marks = marks_of(&x[from..to]);
     Session {
         operation: operation,
         round: round,
         opening: opening,
-        greatest: greatest,
+        times: times,
         stamp: stamp,
         marks: marks,
     }
@@ -346,16 +380,58 @@ fn write_bound(x: &mut [u8], b: Bound)
     }
 }
 
+// A number of 8 bytes with its bytes in the other order.
+fn turned(t: u64) -> u64
+    ensures { λ r. ⌜ le 8 r ≡ be 8 t ⌝ }
+{
+    let mut z: u64 = 0;
+    let mut y = t;
+    let mut i: usize = 0;
+    while i < 8 {
+        z = z * 256 + y % 256;
+        y = y / 256;
+        i += 1;
+    }
+    z
+}
+
+// The 8 bytes of a number, the lowest first. Of a turned one it compiles to one byte swap and one store, as octets::put_num does not.
+fn put_low(x: &mut [u8], at: usize, z: u64)
+    requires { ⌜ at + 8 ≤ length (now x) ⌝ }
+    ensures { λ _. ⌜ now (x .exit) ≡ put (now (x .entry)) at (le 8 z) ⌝ }
+{
+    let mut y = z;
+    let mut i: usize = 0;
+    while i < 8 {
+        x[at + i] = (y % 256) as u8;
+        y = y / 256;
+        i += 1;
+    }
+}
+
+// The times, in their place. The second fact is for the session that they are of.
+fn write_times(x: &mut [u8], times: [Time; 16])
+    requires { ⌜ 181 ≤ length (now x) ⌝ }
+    ensures { λ _. ⌜ (now (x .exit) ≡ put (now (x .entry)) 53 (timesBytes times)) × (length times ≡ 16) ⌝ }
+{
+    let mut i: usize = 0;
+    while i < 16 {
+        let t = times[i];
+        put_low(x, 53 + 8 * i, turned(t.0));
+        i += 1;
+    }
+}
+
 // The marks, in their place. The second fact is for the session that they are of.
 fn write_marks(x: &mut [u8], marks: [Mark; 16])
     requires { ⌜ sessionLength ≤ length (now x) ⌝ }
-    ensures { λ _. ⌜ (now (x .exit) ≡ put (now (x .entry)) 101 (markBytes marks)) × (length marks ≡ 16) ⌝ }
+    ensures { λ _. ⌜ (now (x .exit) ≡ put (now (x .entry)) 221 (markBytes marks)) × (length marks ≡ 16) ⌝ }
 {
     let mut i: usize = 0;
     while i < 16 {
         let m = marks[i];
         let h = m.is;
-        x[101 + i] = mark_byte(h);
+        x[221 + i] = mark_byte(h);
         i += 1;
     }
 }
@@ -385,16 +461,16 @@ fn write_asks(x: &mut [u8], s: Session)
     octets::put_num(x, 45, 8, opening.0);
 }
 
-// What it has heard: the other 64. The second fact is for the length of the whole.
+// What it has heard: the other 184. The second and third facts are for the length of the whole.
 fn write_heard(x: &mut [u8], s: Session)
     requires { ⌜ sessionLength ≤ length (now x) ⌝ }
-    ensures { λ _. ⌜ (now (x .exit) ≡ put (now (x .entry)) 53 (heardBytes s)) × (length (s .marks) ≡ 16) ⌝ }
+    ensures { λ _. ⌜ (now (x .exit) ≡ put (now (x .entry)) 53 (heardBytes s)) × (length (s .times) ≡ 16) × (length (s .marks) ≡ 16) ⌝ }
 {
-    let greatest = s.greatest;
+    let times = s.times;
     let stamp = s.stamp;
     let marks = s.marks;
-    octets::put_num(x, 53, 8, greatest.0);
-    terms::put_stamp(x, 61, stamp);
+    write_times(x, times);
+    terms::put_stamp(x, 181, stamp);
     write_marks(x, marks);
 }
 

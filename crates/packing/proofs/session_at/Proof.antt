@@ -12,10 +12,10 @@ returns c =
     let operation = early .before .operation-of .ensures ∙ ap operationOf (early .before .before .get .ensures .0) in
     let round = early .round-at .ensures in
     let opening = c .before .before .before .before .get2 .ensures .0 in
-    let greatest = c .before .before .before .get3 .ensures .0 in
+    let times = c .before .before .before .times-at .ensures in
     let stamp = c .before .before .stamp-at .ensures in
     let marks = c .marks-of .ensures in
-    λ i. record { operation = operation i; round = round i; opening = record { 0 = opening i }; greatest = record { 0 = greatest i }; stamp = stamp i; marks = marks i }
+    λ i. record { operation = operation i; round = round i; opening = record { 0 = opening i }; times = times i; stamp = stamp i; marks = marks i }
 
 pub session-at-spec : {M : Type 1} → statement M
 session-at-spec =

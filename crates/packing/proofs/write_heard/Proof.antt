@@ -12,5 +12,8 @@ write-heard-spec =
     let late = c .before .before in
     let mid = late .before .before .before .before in
     let early = mid .before .before .before .before in
-    let start = early .before .before .before .before .before .before in
-    (laws.heard-put (start .args .s) _ _ _ _ (start .pre) (early .put-num .ensures) (mid .put-stamp .ensures) (late .write-marks .ensures .0), late .write-marks .ensures .1)))
+    let start = early .before .before .before .before .before .before in (
+      laws.heard-put (start .args .s) _ _ _ _ (early .write-times .ensures .1) (start .pre) (early .write-times .ensures .0) (mid .put-stamp .ensures) (late .write-marks .ensures .0),
+      early .write-times .ensures .1,
+      late .write-marks .ensures .1,
+    )))

@@ -12,4 +12,4 @@ write-session-spec =
     let late = c .before .before in
     let early = late .before .before .before .before in
     let start = early .before .before .before in
-    laws.session-put (start .args .s) _ _ _ (late .write-heard .ensures .1) (start .pre) (early .write-asks .ensures) (late .write-heard .ensures .0)))
+    laws.session-put (start .args .s) _ _ _ (late .write-heard .ensures .1) (late .write-heard .ensures .2) (start .pre) (early .write-asks .ensures) (late .write-heard .ensures .0)))

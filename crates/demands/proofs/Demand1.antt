@@ -36,7 +36,7 @@ use Rattle.session.specs.Opening.{OpenCall, Opens, opens, openingLadder, openin
 use Rattle.session.specs.Owed as owed
 use Rattle.session.specs.Owed.{OwedCall, Dues, dues, dueOf, owedTo, owedLadder, requestOf}
 use Rattle.session.specs.Reader.{ReadReplyCall, Outcome, outcome, accepted, stored}
-use Rattle.session.specs.Writer.{WriteReplyCall, Leaves, leaves, timedOf, writeTurn, timeTurn, timeEnd, acceptedWrite}
+use Rattle.session.specs.Writer.{WriteReplyCall, Leaves, leaves, timedOf, kthReply, writeTurn, timeTurn, timeEnd, acceptedWrite}
 use Rattle.session.proofs.Closings.{pick}
 use Rattle.client.specs.Endings.{readLadder, writeLadder, afterReply, deskAfter}
 use Rattle.terms.proofs.Ladders as ladders
@@ -129,7 +129,7 @@ write-taken p s f d i =
     let timed = timedOf s (frameNode f) (time (bodyOf f)) in
     either Taken (isStoring (s .round .stage))
     (either Taken (session.roundOpen p (markedOf s (frameNode f) Record)) refl refl)
-    (either Taken (session.roundOpen p timed) refl (either Taken (eqb (timed .greatest .0) top) refl refl))
+    (either Taken (session.roundOpen p timed) refl (either Taken (eqb (kthReply p timed) top) refl refl))
   where
     Taken : Leaves → Type 0
     Taken o = isRefused (o .said) ≡ false

@@ -134,7 +134,7 @@ write-refuses = write-exactly plan writes.once-stored (writes.time-reply 2) desk
 pub read-refuses : Given (readLadder plan reads.second-heard reads.late desk-good 1) 10
 read-refuses = read-exactly plan reads.second-heard reads.late desk-good (0 ∷ []) _ desk-good (0 ∷ []) reads.late-met 10 (omega arith) .0 refl
 
--- ---- for a host: the plan's 11 bytes, and the sessions' 117
+-- ---- for a host: the plan's 11 bytes, and the sessions' 237
 pub plan-bytes : List ℕ
 plan-bytes = 3 ∷ 1 ∷ 0 ∷ 2 ∷ 1 ∷ 0 ∷ 1 ∷ 0 ∷ 1 ∷ 0 ∷ 2 ∷ []
 
@@ -146,7 +146,7 @@ pub reading-bytes : List ℕ
 reading-bytes = sessionBytes reads.second-heard
 
 reading-so : sessionOf reading-bytes ≡ reads.second-heard
-unfolding reading-bytes sessionBytes askBytes roundBytes boundBytes heardBytes markBytes sessionOf sessionShaped sessionAt roundAt operationOf stageOf heardOf boundShaped boundOf marksShaped marksOf
+unfolding reading-bytes sessionBytes askBytes roundBytes boundBytes heardBytes timesBytes markBytes sessionOf sessionShaped sessionAt timesAt roundAt operationOf stageOf heardOf boundShaped boundOf marksShaped marksOf
     all hash poor desk-poor stampAt stampNumber then num numFrom part be beOnto
 reading-so = refl
 
@@ -154,7 +154,7 @@ pub writing-bytes : List ℕ
 writing-bytes = sessionBytes writes.once-stored
 
 writing-so : sessionOf writing-bytes ≡ writes.once-stored
-unfolding writing-bytes sessionBytes askBytes roundBytes boundBytes heardBytes markBytes sessionOf sessionShaped sessionAt roundAt operationOf stageOf heardOf boundShaped boundOf marksShaped marksOf
+unfolding writing-bytes sessionBytes askBytes roundBytes boundBytes heardBytes timesBytes markBytes sessionOf sessionShaped sessionAt timesAt roundAt operationOf stageOf heardOf boundShaped boundOf marksShaped marksOf
     all stamp-bytes stampAt stampNumber then num numFrom part be beOnto
 writing-so = refl
 
@@ -192,11 +192,11 @@ lent-so refuse pass = rw reads.plan-ok
 
 module _ where
   reading-long : length reading-bytes ≡ sessionLength
-  unfolding reading-bytes sessionBytes askBytes roundBytes boundBytes heardBytes markBytes be beOnto
+  unfolding reading-bytes sessionBytes askBytes roundBytes boundBytes heardBytes timesBytes markBytes be beOnto
   reading-long = refl
 
   writing-long : length writing-bytes ≡ sessionLength
-  unfolding writing-bytes sessionBytes askBytes roundBytes boundBytes heardBytes markBytes be beOnto
+  unfolding writing-bytes sessionBytes askBytes roundBytes boundBytes heardBytes timesBytes markBytes be beOnto
   writing-long = refl
 
 pub host-open-met : OpenServes Read plan-bytes top (replicate sessionLength 0) 13 (replicate sessionLength 0)

@@ -1,4 +1,4 @@
--- A host's calls one after another. Document 01, "The client": a session is a value handed in and handed back; a host holds it as 117 bytes,
+-- A host's calls one after another. Document 01, "The client": a session is a value handed in and handed back; a host holds it as 237 bytes,
 -- and lends each call the bytes and the desk as the one before it left them.
 --   HostTurn           a reply with what the call was lent, what it answered and what it left
 --   HostReads HostWrites HostEither   what one call met: the contract of pasis_read_reply, of pasis_write_reply, of either

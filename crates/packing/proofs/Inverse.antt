@@ -1,22 +1,21 @@
 -- Packing and unpacking are inverse. Of plans: plan-again (bytes that code a plan), plan-back (every accepted plan), no-plan (bytes that
 -- code none are outside the rules). Of sessions: session-again (bytes that code a session), session-back (every session whose numbers have
--- the widths of their fields: Fits), no-session (bytes that code none are in no range). What is read from bytes has its width: field-small,
--- wide-at. Times fit that are zero (fits-zero), and with one of them set (fits-set).
+-- the widths of their fields: Fits), no-session (bytes that code none are in no range). What is read from bytes has its width: wide-at. Times fit that are zero (fits-zero), and with one of them set (fits-set).
 -- Assumes nothing.
 use Prim.{Unit, tt}
 use Prim.Native.Nat.{ℕ, zero, suc, _+_, _*_, _≤_, _<_, _^_}
 use mathlib.Core.Path.{_≡_, refl, sym, ap, _∙_}
 use mathlib.Core.Bool.{Bool, true, false, cond}
 use mathlib.Core.List.{List, [], _∷_, _++_, append-assoc, append-nil}
-use native.Mathlib.Nat.{add-zero, lt-of-lt-of-le, pow-le-pow-right, min-le-left}
+use native.Mathlib.Nat.{add-zero}
 use native.Mathlib.Omega.{arith}
 use borrow.Author.Tests.{le-leb, leb-true, eq-eqb, eqb-true}
-use lib.ListN.{length, take, drop, set, replicate, length-append, length-take, length-set}
+use lib.ListN.{length, take, drop, set, length-append, length-set}
 use lib.Seq.{take-at, take-all, drop-at, drop-drop}
 use lib.Dec.{leb, eqb, lit<}
 use Rattle.octets.specs.Bytes.{part, num, be, Octets}
 use Rattle.octets.proofs.Laws.{length-be, part-all}
-use Rattle.octets.proofs.Meaning.{num-be, num-small, bytes-part, bytes-all, be-part, part-add}
+use Rattle.octets.proofs.Meaning.{num-be, part-small, be-part, part-add}
 use Rattle.terms.specs.Ladder.{all}
 use Rattle.terms.specs.Terms.{planOk, countsOk}
 use Rattle.terms.specs.Stamp.{stampNumber, stampAt}
@@ -35,6 +34,8 @@ use Rattle.rounds.specs.declared.Heard.the-variants.{Unheard, First, Record}
 use Rattle.rounds.specs.declared.Mark.{Mark}
 use Rattle.rounds.specs.declared.Bound.{Bound}
 use Rattle.rounds.specs.declared.Bound.the-variants.{Free, Under}
+use Rattle.clock.specs.Clock.{zeroTimes}
+use Rattle.clock.proofs.Wide.{WideTimes, wide-zeros, wide-set}
 use Rattle.standing.specs.declared.Operation.{Operation}
 use Rattle.standing.specs.declared.Operation.the-variants.{Write, Read}
 use Rattle.standing.specs.declared.Stage.{Stage}
@@ -69,19 +70,13 @@ pub record Wide (t : Timestamp) : Type 0 where
   pub rest : Words (t .verifier)
 
 -- as is what was read from bytes
-pub field-small : (x : List ℕ) (at n : ℕ) → Octets x → field x at n < 256 ^ n
-unfolding part
-field-small x at n o =
-    lt-of-lt-of-le (num-small (part x at n) (bytes-part x at n (bytes-all x o)))
-    (pow-le-pow-right (lit< tt) (omega (arith, length-take n (drop at x), min-le-left n (length (drop at x)))))
-
 pub wide-at : (x : List ℕ) (at : ℕ) → Octets x → Wide (stampAt x at)
 unfolding stampAt
 wide-at x at o =
     record {
-      time = field-small x at 8 o;
-      first = field-small x (at + 8) 8 o;
-      rest = record { w1 = field-small x (at + 16) 8 o; w2 = field-small x (at + 24) 8 o; w3 = field-small x (at + 32) 8 o };
+      time = part-small x at 8 o;
+      first = part-small x (at + 8) 8 o;
+      rest = record { w1 = part-small x (at + 16) 8 o; w2 = part-small x (at + 24) 8 o; w3 = part-small x (at + 32) 8 o };
     }
 
 pub cut-stamp : (x : List ℕ) (at : ℕ) (t : Timestamp) (z : List ℕ) → drop at x ≡ be 40 (stampNumber t) ++ z → Wide t → (stampAt x at ≡ t) × (drop (at + 40) x ≡ z)
@@ -104,33 +99,19 @@ stamp-again : (x : List ℕ) (at : ℕ) → at + 40 ≤ length x → Octets x �
 stamp-again x at h o = field-again x at 40 (stampNumber (stampAt x at)) h o (stamp-at-number x at h)
 
 -- ---- times
--- each has 8 bytes
-abbrev pub Small : List Time → Type 0
-Small [] = Unit {0}
-Small (t ∷ ts) = (t .0 < 256 ^ 8) × Small ts
-
--- one for each of 16 nodes
+-- one for each of 16 nodes, of 8 bytes each
 pub record TimesFit (ts : List Time) : Type 0 where
   pub nodes : length ts ≡ 16
-  pub small : Small ts
+  pub wide : WideTimes ts
 
-small-same : (n : ℕ) (t : Time) → t .0 < 256 ^ 8 → Small (replicate n t)
-small-same zero t h = tt
-small-same (suc n) t h = (h, small-same n t h)
-
-pub fits-zero : TimesFit (replicate 16 (record { 0 = 0 }))
-fits-zero = record { nodes = refl; small = small-same 16 (record { 0 = 0 }) (lit< tt) }
-
-small-set : (ts : List Time) (i : ℕ) (t : Time) → t .0 < 256 ^ 8 → Small ts → Small (set ts i t)
-small-set [] i t h s = tt
-small-set (u ∷ ts) zero t h s = (h, s .1)
-small-set (u ∷ ts) (suc i) t h s = (s .0, small-set ts i t h (s .1))
+pub fits-zero : TimesFit zeroTimes
+fits-zero = record { nodes = refl; wide = wide-zeros }
 
 pub fits-set : (ts : List Time) (i : ℕ) (t : Time) → t .0 < 256 ^ 8 → TimesFit ts → TimesFit (set ts i t)
-fits-set ts i t h w = record { nodes = length-set ts i t ∙ w .nodes; small = small-set ts i t h (w .small) }
+fits-set ts i t h w = record { nodes = length-set ts i t ∙ w .nodes; wide = wide-set ts i t h (w .wide) }
 
 -- times that were laid out are read back, and what follows them
-cut-times : (x : List ℕ) (at : ℕ) (ts : List Time) (z : List ℕ) → drop at x ≡ timesBytes ts ++ z → Small ts → (timesAt x at (length ts) ≡ ts) × (drop (at + 8 * length ts) x ≡ z)
+cut-times : (x : List ℕ) (at : ℕ) (ts : List Time) (z : List ℕ) → drop at x ≡ timesBytes ts ++ z → WideTimes ts → (timesAt x at (length ts) ≡ ts) × (drop (at + 8 * length ts) x ≡ z)
 unfolding timesBytes timesAt
 cut-times x at [] z e s = (refl, rw add-zero e)
 cut-times x at (t ∷ ts) z e s =
@@ -423,7 +404,7 @@ session-back s w =
     let c0 = cut x 0 1 1 (operationByte (s .operation)) z0 refl apart (omega arith) in
     let c1 = cut-round x (s .round) z1 (c0 .1) (w .round) (w .bound) in
     let c2 = cut x 45 8 53 (s .opening .0) z2 refl (c1 .rest) (w .opening) in
-    let c3 = cut-times x 53 (s .times) z3 (c2 .1) (w .times .small) in
+    let c3 = cut-times x 53 (s .times) z3 (c2 .1) (w .times .wide) in
     let times = ap (timesAt x 53) (sym (w .times .nodes)) ∙ c3 .0 in
     let rest : drop 181 x ≡ z3 = ap (λ (n : ℕ). drop (53 + 8 * n) x) (sym (w .times .nodes)) ∙ c3 .1 in
     let c4 = cut-stamp x 181 (s .stamp) z4 rest (w .stamp) in

@@ -1,7 +1,7 @@
 -- Packing cuts nothing off what a call hands back: every number of the session has the width of its field, and so have the timestamp and the
 -- rounds of an answer. It is so of an accepted opening (opened-lasts), and a reply keeps it (write-carried, read-carried). So an answer is read
 -- back from its number and its ending (answer-back); a session that fits its bytes is (session-back of packing).
---   Lasts         a session that fits its 117 bytes; in a read round its desk is bytes, of which the next timestamp is read
+--   Lasts         a session that fits its 237 bytes; in a read round its desk is bytes, of which the next timestamp is read
 --   WideAnswer    an answer that fits its number and its 42 bytes
 --   Carried       what a call leaves of a session: such a session and such an answer, and the same session at a refusal
 -- Assumes nothing.
@@ -13,7 +13,7 @@ use mathlib.Core.List.{List, [], _++_, append-nil}
 use native.Mathlib.Omega.{arith}
 use borrow.Author.Tests.{leb-true, leb-false, eqb-true, ne-eqb, not-false}
 use lib.ListN.{length, length-set}
-use lib.Dec.{leb, eqb, ltb, lit<}
+use lib.Dec.{leb, eqb, lit<}
 use Rattle.octets.specs.Bytes.{be, put, Octets}
 use Rattle.octets.proofs.Meaning.{octets-be, octets-append, octets-drop, octets-put}
 use Rattle.sha256.proofs.Laws.{octets-sha256}
@@ -52,10 +52,11 @@ use Rattle.session.specs.Opening.{freshOf}
 use Rattle.session.specs.Ranges.{inRange}
 use Rattle.session.specs.Reply.{bears, replyLadder, readLadder}
 use Rattle.session.specs.Reader.{Outcome, outcome, failing, actOn, actFor, closed, settled, heard, stored, accepted, readReply}
-use Rattle.session.specs.Writer.{Leaves, leaves, timedOf, newTime, timeEnd, timeTurn, writeTurn, acceptedWrite, writeReply}
+use Rattle.session.specs.Writer.{Leaves, leaves, timedOf, kthReply, newTime, timeEnd, timeTurn, writeTurn, acceptedWrite, writeReply}
+use Rattle.session.proofs.Kept.{time-small}
 use Rattle.session.proofs.ReadKept.{asking}
 use Rattle.packing.specs.PlanBytes.{field}
-use Rattle.packing.proofs.Inverse.{Wide, Fits, wide-at, field-small, cut, cut-stamp}
+use Rattle.packing.proofs.Inverse.{Wide, Fits, fits-zero, fits-set, wide-at, cut, cut-stamp}
 use Rattle.answers.specs.Answers.{answerNumber, endingBytes, endingAfter, answerOf}
 use Rattle.pasis.specs.Client.{withItem}
 use Rattle.pasis.proofs.Laws.{numbers, of-given}
@@ -96,7 +97,7 @@ module _ (s : Session) (w : Fits s) where
         round = w .round;
         bound = w .bound;
         opening = w .opening;
-        greatest = w .greatest;
+        times = w .times;
         stamp = w .stamp;
         marks = length-set (s .marks) n (record { is = h }) ∙ w .marks;
       }
@@ -107,20 +108,20 @@ module _ (s : Session) (w : Fits s) where
         round = w .round;
         bound = w .bound;
         opening = w .opening;
-        greatest = either (λ (x : ℕ). x < 256 ^ 8) (ltb (s .greatest .0) t) h (w .greatest);
+        times = fits-set (s .times) n (record { 0 = t }) h (w .times);
         stamp = w .stamp;
         marks = length-set (s .marks) n (record { is = Record }) ∙ w .marks;
       }
 
   fits-ended : Fits (endedOf s)
   fits-ended =
-      record { round = w .round; bound = w .bound; opening = w .opening; greatest = w .greatest; stamp = w .stamp; marks = w .marks }
+      record { round = w .round; bound = w .bound; opening = w .opening; times = w .times; stamp = w .stamp; marks = w .marks }
 
   fits-next : (t : Timestamp) → Wide t → s .round .number + 1 < 256 ^ 2 → Fits (nextOf s t)
-  fits-next t h k = record { round = k; bound = h; opening = w .opening; greatest = w .greatest; stamp = w .stamp; marks = refl }
+  fits-next t h k = record { round = k; bound = h; opening = w .opening; times = w .times; stamp = w .stamp; marks = refl }
 
   fits-storing : (t : Timestamp) → Wide t → Fits (storingOf s t)
-  fits-storing t h = record { round = w .round; bound = w .bound; opening = w .opening; greatest = w .greatest; stamp = h; marks = refl }
+  fits-storing t h = record { round = w .round; bound = w .bound; opening = w .opening; times = w .times; stamp = h; marks = refl }
 
 zero-wide : Wide zeroStamp
 zero-wide =
@@ -133,7 +134,7 @@ pub opened-lasts : (op : Operation) (p : Plan) (a : ℕ) (d : List ℕ) → open
 opened-lasts op p a d k o =
     let h = leb-true (a + p .w) top k in
     record {
-      fits = record { round = lit< tt; bound = tt; opening = omega arith; greatest = lit< tt; stamp = zero-wide; marks = refl };
+      fits = record { round = lit< tt; bound = tt; opening = omega arith; times = fits-zero; stamp = zero-wide; marks = refl };
       desk = λ b. o;
     }
 
@@ -149,9 +150,6 @@ close-wide p s d o = go (leadOf (s .marks) d (slotsOf p) (p .n))
     go : (l : Lead) → Wide (closeWith (s .marks) d (slotsOf p) (p .member) (thresholdsOf p) l .stamp)
     go Nobody = zero-wide
     go (Node a) = wide-at d (slotAt (slotsOf p) a) o
-
-body-small : (f : List ℕ) → Octets f → time (bodyOf f) < 256 ^ 8
-body-small f o = field-small (bodyOf f) 0 8 (octets-drop (headBytes (versionOf f)) f o)
 
 -- ---- answers
 -- every refusal of a ladder is one of the document's
@@ -193,8 +191,8 @@ module _ (p : Plan) (s : Session) (i : List ℕ) where
     unfolding timeTurn timeEnd
     time-turn =
         either Leaving (roundOpen p u) (opens s u d i w)
-        (either Leaving (eqb (u .greatest .0) top) (ends s u answers.ClockSpent d i refl tt (w .fits))
-        (stores s u (stampFor p (newTime (u .greatest .0)) i) (recordsFor p (newTime (u .greatest .0)) i) i (w .fits) (stamp-wide p (newTime (u .greatest .0)) i)))
+        (either Leaving (eqb (kthReply p u) top) (ends s u answers.ClockSpent d i refl tt (w .fits))
+        (stores s u (stampFor p (newTime (kthReply p u)) i) (recordsFor p (newTime (kthReply p u)) i) i (w .fits) (stamp-wide p (newTime (kthReply p u)) i)))
 
   pub write-carried : (f d : List ℕ) → Octets f → Lasts s d → Carried s (withItem (writeReply p s f d i) i)
   unfolding writeReply acceptedWrite
@@ -202,7 +200,7 @@ module _ (p : Plan) (s : Session) (i : List ℕ) where
       by-ladder Leaving (replyLadder Write p s f d (length i)) (λ (k : ℕ). leaves (refused k) s d) (acceptedWrite p s f d i)
       (refuses s (replyLadder Write p s f d (length i)) refl d i w)
       (λ n. either Leaving (isStoring (s .round .stage)) (write-turn (markedOf s (frameNode f) Record) d (record { fits = fits-marked s (w .fits) (frameNode f) Record; desk = w .desk }))
-      (time-turn (timedOf s (frameNode f) (time (bodyOf f))) d (record { fits = fits-timed s (w .fits) (frameNode f) _ (body-small f o); desk = w .desk })))
+      (time-turn (timedOf s (frameNode f) (time (bodyOf f))) d (record { fits = fits-timed s (w .fits) (frameNode f) _ (time-small f o); desk = w .desk })))
 
 -- ---- a reader's
 module _ (p : Plan) (ok : planOk p ≡ true) (s₀ s : Session) (w : Fits s) (i : List ℕ) where

@@ -1,5 +1,5 @@
 -- The client's five calls for a host, on numbers and bytes: opening a write or a read, the request owed to a node, a reply to a writer or a
--- reader. The session is 117 bytes that the host holds, the ending 42 bytes: timestamp 40, rounds 2. Each call answers a number: 0 where it
+-- reader. The session is 237 bytes that the host holds, the ending 42 bytes: timestamp 40, rounds 2. Each call answers a number: 0 where it
 -- was opened, written, or accepted and the operation is open; 1 to 14 the refusals of document 01, "Refusal numbers"; 101 done, 102 never
 -- written, 103 aborted, 104 rounds spent, 105 clock spent. "All leave every buffer and the session as they came."
 -- A session or an ending of a wrong length is 2 in 2's place. Bytes that code no session are one in no range (packing), which the call

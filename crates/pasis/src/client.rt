@@ -1,5 +1,5 @@
 // A client's calls: opening a write or a read, the request owed to a node, a reply to a writer or a reader. The host holds the session as
-// 117 bytes between the calls, and lends 42 bytes for the ending.
+// 237 bytes between the calls, and lends 42 bytes for the ending.
 use session::Answer;
 use session::Session;
 use session::opening::Opened;

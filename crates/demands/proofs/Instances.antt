@@ -46,7 +46,7 @@ use Rattle.client.proofs.Instances.Read as reads
 use Rattle.client.proofs.Instances.Read.{plan, hash, poor, stamp-bytes, good, desk-poor, desk-good, desk-full}
 use Rattle.client.proofs.Instances.Write as writes
 use Rattle.packing.specs.PlanBytes.{memberOf, clientsOf, planShaped, planAt, planOf}
-use Rattle.packing.specs.SessionBytes.{sessionLength, boundBytes, markBytes, roundBytes, askBytes, heardBytes, sessionBytes, operationOf, stageOf, heardOf, boundShaped, boundOf, marksShaped, marksOf, sessionShaped, roundAt, sessionAt, sessionOf}
+use Rattle.packing.specs.SessionBytes.{sessionLength, boundBytes, timesBytes, markBytes, roundBytes, askBytes, heardBytes, sessionBytes, operationOf, stageOf, heardOf, boundShaped, boundOf, timesAt, marksShaped, marksOf, sessionShaped, roundAt, sessionAt, sessionOf}
 use Rattle.answers.specs.Answers.{lentLadder, bothFit, endingAfter, madeNumber, servedNumber}
 use Rattle.pasis.specs.Store.{FreshBook, NodeServes}
 use Rattle.pasis.specs.Client.{sessionFits, sessionAfter, openedBytes, openedAs, openBytes, OpenServes, asked, askedAs, owedBytes, OwedServes, tookBytes, tookAs, readBytes, withItem, writeBytes, WriteServes, ReadServes}

@@ -337,7 +337,7 @@ impl Block<'_> {
                 let operation = self.clients[client].take().expect("it is there");
                 self.network.forget(client, if self.calm { 0 } else { 80 }, &mut self.random);
                 self.judge.returned(&operation, &ending)?;
-                // A time round that hears one node too few misses a save where b is 0, and there alone.
+                // A time round that hears one node too few misses a save; where b is 0 there is no liar by whom it is found too.
                 let often = if self.plan.b == 0 { 80 } else { 40 };
                 if operation.save() && self.probes.is_empty() && self.random.chance(often) {
                     self.probes = AFTER_A_SAVE.to_vec();

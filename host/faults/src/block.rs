@@ -322,7 +322,8 @@ impl Block<'_> {
         let client = message.client;
         let Some(operation) = &mut self.clients[client] else { return Ok(()) };
         let told = operation.take(&message.frame, self.nodes.good(message.node));
-        self.judge.counts.believed += (self.nodes.lies(message.node) && !matches!(told, Told::Refused)) as usize;
+        let made_up = self.nodes.made_up(message.node, &message.frame);
+        self.judge.counts.believed += (made_up && !matches!(told, Told::Refused)) as usize;
         match told {
             Told::Refused | Told::Nothing => {}
             Told::Round => {

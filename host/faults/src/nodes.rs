@@ -133,6 +133,11 @@ impl Nodes {
         self.nodes[i].lying || self.nodes[i].stuck
     }
 
+    /// Whether this reply of node i was made up: of a node that is stuck and does not lie else, its times are.
+    pub fn made_up(&self, i: usize, reply: &[u8]) -> bool {
+        self.nodes[i].lying || (self.nodes[i].stuck && frame_kind(reply) == 2)
+    }
+
     /// Neither damaged nor set back, and never a liar.
     pub fn good(&self, i: usize) -> bool {
         !self.nodes[i].bad

@@ -23,13 +23,13 @@ static int sizes(const uint8_t *plan) {
   std::vector<uint8_t> item(pasis_item_size(plan)), ending(PASIS_ENDING_SIZE), reply(1);
   MUST(pasis_open_read(plan, 11, 7, session.data(), session.size() - 1) == PASIS_REFUSED_LENGTH);
   MUST(pasis_open_read(plan, 11, 7, session.data(), session.size()) == PASIS_OK);
-  MUST(pasis_owed(plan, 11, session.data(), 117, 0, desk.data(), desk.size() - 1, frame.data(), frame.size()) == PASIS_REFUSED_LENGTH);
-  MUST(pasis_owed(plan, 11, session.data(), 117, 0, desk.data(), desk.size(), frame.data(), frame.size() - 1) == PASIS_REFUSED_LENGTH);
-  MUST(pasis_owed(plan, 11, session.data(), 117, 0, desk.data(), desk.size(), frame.data(), frame.size()) == PASIS_OK);
+  MUST(pasis_owed(plan, 11, session.data(), session.size(), 0, desk.data(), desk.size() - 1, frame.data(), frame.size()) == PASIS_REFUSED_LENGTH);
+  MUST(pasis_owed(plan, 11, session.data(), session.size(), 0, desk.data(), desk.size(), frame.data(), frame.size() - 1) == PASIS_REFUSED_LENGTH);
+  MUST(pasis_owed(plan, 11, session.data(), session.size(), 0, desk.data(), desk.size(), frame.data(), frame.size()) == PASIS_OK);
   MUST(pasis_frame_length(frame.data()) == PASIS_FRAME_HEAD && pasis_frame_node(frame.data()) == 0);
   MUST(pasis_number(frame.data() + 7, 8) == 7);
   for (size_t wrong = 0; wrong < 3; wrong++) {
-    uint32_t answer = pasis_read_reply(plan, 11, session.data(), 117, reply.data(), 1, desk.data(), desk.size(), item.data(),
+    uint32_t answer = pasis_read_reply(plan, 11, session.data(), session.size(), reply.data(), 1, desk.data(), desk.size(), item.data(),
                                        item.size() - (wrong == 1), ending.data(), ending.size() - (wrong == 2));
     MUST(answer == (wrong ? PASIS_REFUSED_LENGTH : PASIS_REFUSED_FRAME));
   }

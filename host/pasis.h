@@ -47,7 +47,7 @@ extern "C" {
 /* ---- Version ----------------------------------------------------------------------------------------------------------------------
  * The number of this interface: layouts, calls and answers. The header's as a macro, the archive's as a call; a program that was
  * compiled with one and linked with the other should compare them once, at its start. */
-#define PASIS_INTERFACE 2
+#define PASIS_INTERFACE 3
 uint32_t pasis_interface(void);
 
 /* ---- Answers ----------------------------------------------------------------------------------------------------------------------
@@ -78,7 +78,7 @@ enum pasis_answer {
   PASIS_NEVER_WRITTEN = 102, /* never written (a read): N-t nodes hold no record below the bound, or none at all */
   PASIS_ABORTED = 103,       /* aborted (a read, non-repair): the candidate set is unclassifiable */
   PASIS_ROUNDS_SPENT = 104,  /* rounds spent (a read): round W was incomplete or invalid */
-  PASIS_CLOCK_SPENT = 105    /* clock spent (a write): the greatest time reply is 2^64-1 */
+  PASIS_CLOCK_SPENT = 105    /* clock spent (a write): the (b+1)-th greatest time reply is 2^64-1 */
 };
 
 static inline int pasis_is_refusal(uint32_t answer) { return answer >= 1 && answer <= 31; }
@@ -116,7 +116,7 @@ static inline const char *pasis_strerror(uint32_t answer) {
 /* ---- Sizes ------------------------------------------------------------------------------------------------------------------------
  * As macros of a plan's values, for arrays; as functions of a plan's 11 bytes below. All numbers in all layouts are big-endian. */
 #define PASIS_PLAN_SIZE 11
-#define PASIS_SESSION_SIZE 117
+#define PASIS_SESSION_SIZE 237
 #define PASIS_ENDING_SIZE 42
 #define PASIS_COUNTS_SIZE 2                                            /* N, then Q: what pasis_smallest_plan writes */
 #define PASIS_TIMESTAMP_SIZE 40                                        /* an 8 byte time, then the 32 byte hash of the cross checksum */
@@ -238,23 +238,25 @@ uint32_t pasis_node(const uint8_t *plan, size_t plan_len, const uint8_t *request
                     uint8_t *reply, size_t reply_len);
 
 /* ---- The client -------------------------------------------------------------------------------------------------------------------
- * A session is 117 bytes that the caller keeps between calls: operation (0 write, 1 read), stage (0 asking, 1 storing, 2 ended), round 2,
- * bound 41 (0 and forty zeros: none; 1 and the timestamp), opening ask number 8, greatest time 8, timestamp being written 40, 16 marks
- * (0 unheard, 1 first triple, 2 record). It holds no pointer and may be stored; it must not be copied and gone on with twice.
+ * A session is 237 bytes that the caller keeps between calls: operation (0 write, 1 read), stage (0 asking, 1 storing, 2 ended), round 2,
+ * bound 41 (0 and forty zeros: none; 1 and the timestamp), opening ask number 8 (at 45), the times that the nodes told, 8 for each of 16
+ * by node number (at 53), timestamp being written 40 (at 181), 16 marks (at 221: 0 unheard, 1 first triple, 2 record). It holds no pointer
+ * and may be stored; it must not be copied and gone on with twice. A session of 117 bytes, which interface 2 had, is refused 2: let its
+ * operation go and open a new one.
  *
  * A desk is N*R bytes, node i in slot i. It belongs to one session, from opening to ending; what it holds at the opening is of no account.
  *
  * pasis_open_write and pasis_open_read open an operation.
  *   plan      11 bytes, read
  *   ask       the first of W+1 ask numbers that this client has never used, at most 2^64-1-W
- *   session   117 bytes, written
+ *   session   237 bytes, written
  *   answers 0, or refuses 1, 2, 13 in that order */
 uint32_t pasis_open_write(const uint8_t *plan, size_t plan_len, uint64_t ask, uint8_t *session, size_t session_len);
 uint32_t pasis_open_read(const uint8_t *plan, size_t plan_len, uint64_t ask, uint8_t *session, size_t session_len);
 
 /* pasis_owed writes the request frame that the open round owes to a node that is not heard yet, "as often as wanted".
  *   plan      11 bytes, read
- *   session   117 bytes, read
+ *   session   237 bytes, read
  *   node      to whom, 0 to N-1
  *   desk      N*R bytes (pasis_desk_size), read
  *   request   at least R+15 bytes (pasis_frame_size), written: the frame, whose length is pasis_frame_length(request)
@@ -266,9 +268,12 @@ uint32_t pasis_owed(const uint8_t *plan, size_t plan_len, const uint8_t *session
                     size_t desk_len, uint8_t *request, size_t request_len);
 
 /* pasis_write_reply takes a reply to a write. A write is a time round and a write round; the reply that ends the time round fills the
- * desk with the N records of `item`, and the requests owed from then on carry them.
+ * desk with the N records of `item`, and the requests owed from then on carry them. Their time is the (b+1)-th greatest of the N-t time
+ * replies, "equal values counted each", plus 1 (document 02, Q-2): replies 2^64-1, 9, 9, 4 with b 1 give 10. With at most b lying nodes it
+ * is at most one above what some honest node said, and above every write that was complete before; a write that was cut off may lie
+ * above it.
  *   plan      11 bytes, read
- *   session   117 bytes, read and written
+ *   session   237 bytes, read and written
  *   reply     one whole frame of kind 2 or 4, read
  *   desk      N*R bytes, read and written
  *   item      the block, m*F bytes (pasis_item_size), read; the same bytes with every reply
@@ -281,7 +286,7 @@ uint32_t pasis_write_reply(const uint8_t *plan, size_t plan_len, uint8_t *sessio
 
 /* pasis_read_reply takes a reply to a read. A read is one to W read rounds and, where the candidate is repaired, a write round.
  *   plan      11 bytes, read
- *   session   117 bytes, read and written
+ *   session   237 bytes, read and written
  *   reply     one whole frame of kind 7, or 4 in a repair, read
  *   desk      N*R bytes, read and written
  *   item      m*F bytes (pasis_item_size), written by 101 done and by nothing else

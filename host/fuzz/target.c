@@ -1,8 +1,8 @@
 /* One input of bytes as a sequence of calls of libpasis.a, each held to what every caller may rely on: the answer is one of the call's
  * own; a slice that the call may only read keeps its bytes, and at a refusal every slice does; a frame that was written has its length,
- * and the bytes past it stay; a book changes by a write request alone; item and ending are written at their endings alone; a wish gets
- * the first N and Q that an opening accepts; the same call on the same bytes does the same again. Each slice is lent as memory of exactly
- * its length, with a fence on both sides.
+ * and the bytes past it stay; a book changes by a write request alone; item and ending are written at their endings alone; a time reply
+ * sets the time of its node in the session, and nothing sets another; a wish gets the first N and Q that an opening accepts; the same
+ * call on the same bytes does the same again. Each slice is lent as memory of exactly its length, with a fence on both sides.
  *
  * The first bytes choose a plan, the rest are steps: a call, a change to what will be lent next, or a whole exchange of a client with a
  * node, so that deep states are near. host/try-corpus runs stored inputs; ./fuzz finds new ones. */
@@ -129,6 +129,15 @@ static void frame_written(const struct call *call, const struct slice *plan, con
   expect(same(now, before->bytes, length, before->len), call, 0, "a byte past the frame changed");
 }
 
+/* The times of a session, 8 bytes for each of 16 nodes. */
+static void times_told(const struct call *call, uint32_t answer, const uint8_t *now, const struct slice *s) {
+  enum { TIMES = 53, STAMP = 181 };
+  const uint8_t *before = s[1].bytes, *told = s[2].bytes;
+  size_t from = told[5] == 2 ? TIMES + 8 * (size_t)told[6] : STAMP, to = told[5] == 2 ? from + 8 : STAMP;
+  expect(same(now, before, TIMES, from) && same(now, before, to, STAMP), call, answer, "the time of another node changed");
+  expect(from == STAMP || !memcmp(now + from, told + 15, 8), call, answer, "the session has another time than this node told");
+}
+
 /* What a call that was not refused may have changed. */
 static void accepted(unsigned which, uint32_t answer, uint8_t *const *now, const struct slice *s) {
   const struct call *call = &calls[which];
@@ -139,6 +148,7 @@ static void accepted(unsigned which, uint32_t answer, uint8_t *const *now, const
     expect(number(now[2] + 9, 2) == number(s[2].bytes + 9, 2) + 1, call, answer, "a book changed, and not by one record");
     expect(same(now[2], s[2].bytes, number(now[2], 4) + 4, s[2].len), call, answer, "a byte past the book's end changed");
   }
+  if (which == WRITE_REPLY || which == READ_REPLY) times_told(call, answer, now[1], s);
   if (which == WRITE_REPLY || which == READ_REPLY)
     expect(answer != 0 || same(now[5], s[5].bytes, 0, s[5].len), call, answer, "the ending was written, and nothing ended");
   if (which == READ_REPLY)
@@ -147,7 +157,7 @@ static void accepted(unsigned which, uint32_t answer, uint8_t *const *now, const
 
 /* The first N and Q that an opening accepts for this wish with F 1 and W 1, as N times 256 and Q; 0 where there is none. */
 static unsigned first_accepted(const uint8_t *wish) {
-  static uint8_t opened[117];
+  static uint8_t opened[PASIS_SESSION_SIZE];
   if (number(wish + 1, 8) > 255 || number(wish + 9, 8) > 255 || number(wish + 17, 8) > 255) return 0;
   for (uint8_t n = 1; n <= NODES; n++)
     for (uint8_t q = 0; q <= NODES; q++) {
@@ -211,7 +221,7 @@ static const uint8_t plans[][11] = {
     {5, 1, 1, 3, 2, 0, 4, 0, 1, 0, 1},
 };
 
-static uint8_t plan[16], session[128], frame[2048], reply[2048], books[NODES][BOOK], desk[NODES * 1600], item[NODES * 1024], ending[64];
+static uint8_t plan[16], session[256], frame[2048], reply[2048], books[NODES][BOOK], desk[NODES * 1600], item[NODES * 1024], ending[64];
 static uint8_t wish[25], counts[3];
 
 static struct {
@@ -248,7 +258,7 @@ static void prepare(struct lent *l) {
   memset(books, 0, sizeof books), memset(desk, 0, sizeof desk), memset(ending, 0, sizeof ending);
   for (size_t i = 0; i < sizeof item; i++) item[i] = (uint8_t)(i * 7 + 1);
   int fits = n <= NODES && plan[4] <= NODES && f <= 1024;
-  l->session = (struct slice){session, 117};
+  l->session = (struct slice){session, PASIS_SESSION_SIZE};
   l->frame = (struct slice){frame, fits ? record + 15 : 15};
   l->reply = (struct slice){reply, fits ? record + 15 : 15};
   l->desk = (struct slice){desk, fits ? n * record : 0};

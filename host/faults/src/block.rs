@@ -44,7 +44,7 @@ struct Block<'a> {
     probes: Vec<Probe>,
     /// From this one on, nodes are slow.
     slow: usize,
-    /// Times near 2^64-1 are told and written at the end of this run.
+    /// Records of times near 2^64-1 are told and written at the end of this run.
     late: bool,
     /// The end of the run: no more faults, losses or cut-off clients.
     calm: bool,
@@ -84,8 +84,12 @@ impl Block<'_> {
         self.end()
     }
 
-    /// In most runs that allow it, nodes lie from the beginning.
+    /// In most runs that allow it, nodes lie from the beginning; in some, one says 2^64-1 from the beginning to the end.
     fn turn_some(&mut self) {
+        if self.random.chance(30) {
+            let node = self.random.below(self.plan.n);
+            self.nodes.stick(node);
+        }
         if self.random.chance(75) {
             for _ in 0..self.plan.b {
                 let node = self.random.below(self.plan.n);
@@ -317,11 +321,15 @@ impl Block<'_> {
     fn take(&mut self, message: Message) -> Result<(), Trouble> {
         let client = message.client;
         let Some(operation) = &mut self.clients[client] else { return Ok(()) };
-        let told = operation.take(&message.frame);
-        self.judge.counts.believed += (self.nodes.lies(message.node) && !matches!(told, Told::Refused)) as usize;
+        let told = operation.take(&message.frame, self.nodes.good(message.node));
+        let made_up = self.nodes.made_up(message.node, &message.frame);
+        self.judge.counts.believed += (made_up && !matches!(told, Told::Refused)) as usize;
         match told {
             Told::Refused | Told::Nothing => {}
             Told::Round => {
+                if operation.save() {
+                    self.judge.timed(operation)?;
+                }
                 self.judge.counts.repaired += (!operation.save() && operation.storing()) as usize;
                 operation.asked = 0;
                 self.ask(client);
@@ -330,7 +338,7 @@ impl Block<'_> {
                 let operation = self.clients[client].take().expect("it is there");
                 self.network.forget(client, if self.calm { 0 } else { 80 }, &mut self.random);
                 self.judge.returned(&operation, &ending)?;
-                // A time round that hears one node too few misses a save where b is 0, and there alone.
+                // A time round that hears one node too few misses a save; where b is 0 there is no liar by whom it is found too.
                 let often = if self.plan.b == 0 { 80 } else { 40 };
                 if operation.save() && self.probes.is_empty() && self.random.chance(often) {
                     self.probes = AFTER_A_SAVE.to_vec();

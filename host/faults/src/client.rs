@@ -22,8 +22,8 @@ pub struct Operation {
     pub held: Option<usize>,
     /// Whom its read rounds hear first, where that is settled.
     pub probe: Option<First>,
-    /// A time reply that was taken said 2^64-1.
-    pub told_last: bool,
+    /// The time replies that were taken: what each said, and whether its node was good when it was taken, and so when it spoke.
+    told: Vec<(u64, bool)>,
 }
 
 /// What a reply came to.
@@ -41,9 +41,10 @@ pub struct Ending {
     pub item: Vec<u8>,
 }
 
-/// The plan that a client tells the library: a wrong reader may tell another one, where that is a plan.
+/// The plan that a client tells the library: a wrong one may tell another, where that is a plan. Of a save b decides the time alone.
 fn claimed(plan: Plan, save: bool, wrong: Option<Wrong>) -> Plan {
     match wrong {
+        Some(Wrong::Greatest) if save && plan.m <= plan.q => Plan { b: 0, ..plan },
         Some(Wrong::IgnoresB) if !save && plan.m <= plan.q => Plan { b: 0, ..plan },
         Some(Wrong::NoValidation) if !save => Plan { byzantine: false, ..plan },
         _ => plan,
@@ -72,7 +73,7 @@ impl Operation {
             cut: None,
             held: None,
             probe: None,
-            told_last: false,
+            told: Vec::new(),
         }
     }
 
@@ -89,14 +90,31 @@ impl Operation {
         self.session.owed(node)
     }
 
-    /// Takes a reply. Late, repeated and damaged ones are refused and change nothing.
-    pub fn take(&mut self, frame: &[u8]) -> Told {
+    /// How many of its time replies said 2^64-1.
+    pub fn told_last(&self) -> usize {
+        self.told.iter().filter(|(time, _)| *time == u64::MAX).count()
+    }
+
+    /// The greatest time that a good node told it.
+    pub fn told_by_good(&self) -> Option<u64> {
+        self.told.iter().filter(|(_, good)| *good).map(|(time, _)| *time).max()
+    }
+
+    /// The time that it writes, in a write or repair round.
+    pub fn time(&self) -> u64 {
+        time_of(&self.session.writing())
+    }
+
+    /// Takes a reply, of a node that is good or not. Late, repeated and damaged ones are refused and change nothing.
+    pub fn take(&mut self, frame: &[u8], good: bool) -> Told {
         let storing = self.session.storing();
         let said = self.session.reply(frame);
         if said != 0 && said < DONE {
             return Told::Refused;
         }
-        self.told_last |= frame_kind(frame) == 2 && time_of(&frame[FRAME_HEAD..]) == u64::MAX;
+        if frame_kind(frame) == 2 {
+            self.told.push((time_of(&frame[FRAME_HEAD..]), good));
+        }
         let said = if said == 0 { self.go_wrong(frame, storing) } else { said };
         if said >= DONE {
             return Told::Ended(self.ending(said));

@@ -14,6 +14,8 @@ pub struct Counts {
     pub spent: usize,
     pub opens_given_up: usize,
     pub clock: usize,
+    /// Saves that are done although a reply said 2^64-1.
+    pub told_last: usize,
     pub repaired: usize,
     /// Opens that returned what the Byzantine client wrote.
     pub strays: usize,
@@ -41,6 +43,7 @@ impl Counts {
         all.damages += faults.damages;
         all.setbacks += faults.setbacks;
         all.liars += faults.liars;
+        all.stuck += faults.stuck;
         all.lies += faults.lies;
         all.beside += faults.beside;
         all.cleared += faults.cleared;
@@ -51,18 +54,19 @@ impl Counts {
     pub fn line(&self) -> String {
         let Counts { saved, given_up, clock, opened, repaired, strays, never, aborted, spent, opens_given_up, .. } =
             self;
-        let Counts { poisoned, believed, partitions, lost, good, stale, unjudged, faults, .. } = self;
-        let Faults { kills, midway, restarts, damages, setbacks, liars, lies, beside, handed, cleared } = faults;
+        let Counts { told_last, poisoned, believed, partitions, lost, good, stale, unjudged, faults, .. } = self;
+        let Faults { kills, midway, restarts, damages, setbacks, liars, stuck, lies, beside, handed, cleared } = faults;
         let opens = format!("opens {opened} done ({repaired} repairs begun, {strays} of the Byzantine client's)");
         let keepers = format!("{kills} kills ({midway} while serving), {restarts} restarts");
-        let liars = format!("{liars} liars ({lies} lies, {believed} of them taken), {poisoned} poisoned saves");
+        let liars = format!("{liars} liars, {stuck} stuck at the last time ({lies} lies, {believed} of them taken)");
         [
-            format!("saves {saved} done, {given_up} given up, {clock} clock spent"),
+            format!("saves {saved} done ({told_last} of them told 2^64-1), {given_up} given up, {clock} clock spent"),
             format!("{opens}, {never} never written, {aborted} aborted, {spent} spent, {opens_given_up} given up"),
             format!(
                 "{keepers}, {beside} requests beside another, {handed} locks handed over, {cleared} new files removed"
             ),
-            format!("{damages} damages, {setbacks} set-backs, {liars}, {partitions} partitions, {lost} messages lost"),
+            format!("{damages} damages, {setbacks} set-backs, {liars}, {poisoned} poisoned saves"),
+            format!("{partitions} partitions, {lost} messages lost"),
             format!("{good} histories are a register's, {stale} made stale are not, the checker gave up on {unjudged}"),
         ]
         .join("; ")

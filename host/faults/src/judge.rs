@@ -88,17 +88,31 @@ impl Judge<'_> {
         self.stamps[call] = ending.stamp;
         self.history[call] = Call { called: self.history[call].called, returned: self.now, outcome };
         self.count(ending.said, outcome);
+        self.counts.told_last += (ending.said == DONE && operation.told_last() > 0) as usize;
         Ok(())
     }
 
-    /// A save is above all that was completed before it began. It spends the clock exactly where it was told the last time.
+    /// The write round of a save has opened: its time is at most one above what some good node told it.
+    pub fn timed(&self, operation: &Operation) -> Result<(), String> {
+        match operation.told_by_good() {
+            Some(told) if operation.time() - 1 <= told => Ok(()),
+            _ => Err(format!("save {} has a time more than one above all that good nodes told it", operation.call)),
+        }
+    }
+
+    /// A save is above all that was completed before it began. It spends the clock exactly where more than b of its time replies said the
+    /// last time, one of them of a good node.
     fn saved(&self, operation: &Operation, ending: &Ending) -> Result<Outcome, String> {
         let call = operation.call;
+        let spent = operation.told_last() > self.plan.b;
         match ending.said {
-            DONE if operation.told_last => Err(format!("save {call} went past the last time")),
+            DONE if spent => Err(format!("save {call} went past the last time")),
             DONE if ending.stamp > operation.floor => Ok(Outcome::Saved(call)),
             DONE => Err(format!("save {call} is not above one completed before it began")),
-            CLOCK_SPENT if operation.told_last => Ok(Outcome::Nothing),
+            CLOCK_SPENT if operation.told_by_good() != Some(u64::MAX) => {
+                Err(format!("bad nodes alone spent the clock of save {call}"))
+            }
+            CLOCK_SPENT if spent => Ok(Outcome::Nothing),
             said => Err(format!("save {call} ended with {said}")),
         }
     }

@@ -20,7 +20,7 @@ pub struct Asked<'a> {
     pub node: usize,
     pub call: usize,
     pub request: &'a [u8],
-    /// Times near 2^64-1 may be told.
+    /// Records of times near 2^64-1 may be told.
     pub late: bool,
 }
 
@@ -37,7 +37,7 @@ impl Liar {
     pub fn answer(&mut self, asked: &Asked, random: &mut Random) -> Option<Vec<u8>> {
         let body = &asked.request[FRAME_HEAD..];
         match frame_kind(asked.request) {
-            1 => Some(reply_to(asked.request, 2, &self.time(asked, random).to_be_bytes())),
+            1 => Some(reply_to(asked.request, 2, &self.time(random).to_be_bytes())),
             3 => self.acknowledgement(asked, random),
             5 => Some(reply_to(asked.request, 7, &self.record(asked, None, random))),
             _ => Some(reply_to(asked.request, 7, &self.record(asked, Some(stamp_of(body)), random))),
@@ -48,11 +48,11 @@ impl Liar {
         self.known.last_key_value().map_or(0, |(stamp, _)| time_of(stamp))
     }
 
-    /// Too low, as a rule; or too high, or true.
-    fn time(&self, asked: &Asked, random: &mut Random) -> u64 {
+    /// Too low, as a rule; or too high, the last one too, which b nodes may say at any time; or true.
+    fn time(&self, random: &mut Random) -> u64 {
         match random.within(0, 9) {
-            0 if asked.late => u64::MAX - random.pick(&[0, 0, 1, 2]),
-            0..=2 => self.newest(),
+            0 => u64::MAX - random.pick(&[0, 0, 1, 2]),
+            1 | 2 => self.newest(),
             3 => self.newest().saturating_add(random.within(1, 9) as u64),
             4 | 5 => self.newest().saturating_sub(1),
             _ => 0,

@@ -9,6 +9,10 @@ pub const ABORTED: u32 = 103;
 pub const ROUNDS_SPENT: u32 = 104;
 pub const CLOCK_SPENT: u32 = 105;
 
+/// A session's bytes, and where it has the timestamp being written and the marks.
+const SESSION: usize = 237;
+const WRITING: usize = 181;
+const MARKS: usize = 221;
 /// The longest book that may be lent.
 const BOOK: usize = 65_536;
 
@@ -34,7 +38,7 @@ pub fn node(plan: &Plan, request: &[u8], book: &mut [u8]) -> Result<Vec<u8>, u32
 pub struct Session {
     plan: Plan,
     pub save: bool,
-    bytes: [u8; 117],
+    bytes: [u8; SESSION],
     desk: Vec<u8>,
     pub item: Vec<u8>,
     ending: [u8; 42],
@@ -45,7 +49,7 @@ impl Session {
     pub fn begin(plan: Plan, ask: u64, item: Option<Vec<u8>>) -> Session {
         let save = item.is_some();
         let open = if save { raw::open_write } else { raw::open_read };
-        let mut bytes = [0; 117];
+        let mut bytes = [0; SESSION];
         assert_eq!(open(&plan.bytes(), ask, &mut bytes), 0, "an opening");
         let item = item.unwrap_or_else(|| vec![0; plan.item()]);
         Session { plan, save, bytes, desk: vec![0; plan.n * plan.record()], item, ending: [0; 42] }
@@ -82,7 +86,7 @@ impl Session {
     }
 
     pub fn heard(&self, node: usize) -> bool {
-        self.bytes[101 + node] != 0
+        self.bytes[MARKS + node] != 0
     }
 
     /// The timestamp of an ending; zeros where it has none.
@@ -92,7 +96,7 @@ impl Session {
 
     /// The timestamp being written.
     pub fn writing(&self) -> Stamp {
-        self.bytes[61..101].try_into().expect("40 bytes")
+        self.bytes[WRITING..MARKS].try_into().expect("40 bytes")
     }
 
     /// The item of the desk's first m slots.

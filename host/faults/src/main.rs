@@ -68,9 +68,10 @@ fn command(wanted: &Wanted, seed: u64, run: usize, plan: &Plan) -> io::Result<Op
 
 /// Fewer than these, and the seeds have not tested what they are for.
 fn enough(operations: usize, counts: &Counts) -> bool {
-    let Counts { saved, opened, faults: Faults { kills, damages, setbacks, lies, .. }, .. } = counts;
-    let each = [*damages, *setbacks, *lies, counts.given_up, counts.repaired, counts.poisoned, counts.partitions];
-    let some = operations < 600 || each.iter().all(|count| *count > 0);
+    let Counts { saved, opened, faults: Faults { kills, damages, setbacks, lies, stuck, .. }, .. } = counts;
+    let nodes = [*damages, *setbacks, *lies, *stuck, counts.told_last];
+    let others = [counts.given_up, counts.repaired, counts.poisoned, counts.partitions];
+    let some = operations < 600 || nodes.iter().chain(&others).all(|count| *count > 0);
     *saved >= operations / 8 && *opened >= operations / 4 && *kills >= operations / 40 && some
 }
 

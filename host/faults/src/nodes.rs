@@ -23,6 +23,8 @@ pub struct Faults {
     pub damages: usize,
     pub setbacks: usize,
     pub liars: usize,
+    /// Nodes that answer every time request of their run by 2^64-1.
+    pub stuck: usize,
     pub lies: usize,
     /// Requests that two keepers of one book served at the same moment.
     pub beside: usize,
@@ -37,6 +39,8 @@ struct Node {
     /// Damaged, set back or lying: counted to the end of the run.
     bad: bool,
     lying: bool,
+    /// It answers every time request by 2^64-1, in calm too, and else as its book and its lies have it.
+    stuck: bool,
     liar: Liar,
     /// Earlier states of the book.
     copies: Vec<Vec<u8>>,
@@ -54,7 +58,7 @@ pub struct Nodes {
     still: bool,
     wrong: Option<Wrong>,
     way: Way,
-    /// Liars may tell times near 2^64-1.
+    /// Liars may tell of records with times near 2^64-1.
     pub late: bool,
     pub faults: Faults,
 }
@@ -75,6 +79,7 @@ impl Nodes {
                 server,
                 bad: false,
                 lying: false,
+                stuck: false,
                 liar: Liar::default(),
                 copies: vec![fresh],
                 acknowledged: Vec::new(),
@@ -125,7 +130,17 @@ impl Nodes {
     }
 
     pub fn lies(&self, i: usize) -> bool {
-        self.nodes[i].lying
+        self.nodes[i].lying || self.nodes[i].stuck
+    }
+
+    /// Whether this reply of node i was made up: of a node that is stuck and does not lie else, its times are.
+    pub fn made_up(&self, i: usize, reply: &[u8]) -> bool {
+        self.nodes[i].lying || (self.nodes[i].stuck && frame_kind(reply) == 2)
+    }
+
+    /// Neither damaged nor set back, and never a liar.
+    pub fn good(&self, i: usize) -> bool {
+        !self.nodes[i].bad
     }
 
     /// The greatest timestamp that node i acknowledged while it was good.
@@ -151,6 +166,15 @@ impl Nodes {
         }
     }
 
+    /// From now on node i answers every time request by 2^64-1, if it may.
+    pub fn stick(&mut self, i: usize) {
+        if self.may_lie(i) {
+            self.nodes[i].bad = true;
+            self.nodes[i].stuck = true;
+            self.faults.stuck += 1;
+        }
+    }
+
     /// In calm the liars serve what their books hold.
     pub fn end_lies(&mut self) {
         self.nodes.iter_mut().for_each(|node| node.lying = false);
@@ -159,6 +183,10 @@ impl Nodes {
     /// Hands a request to its node and gives the reply, if there is one.
     pub fn serve(&mut self, message: &Message, random: &mut Random) -> Result<Option<Vec<u8>>, Trouble> {
         let (i, request) = (message.node, &message.frame);
+        if self.nodes[i].stuck && frame_kind(request) == 1 {
+            self.faults.lies += 1;
+            return Ok(Some(reply_to(request, 2, &u64::MAX.to_be_bytes())));
+        }
         if self.nodes[i].lying {
             return self.lie(message, random);
         }
@@ -254,7 +282,7 @@ impl Nodes {
     pub fn serve_and_kill(&mut self, message: &Message, random: &mut Random) -> Result<Option<Vec<u8>>, Trouble> {
         let i = message.node;
         let (way, pause) = (random.within(0, 5), random.within(0, 4000));
-        if !self.may_fail(i) || !self.nodes[i].server.up() || self.nodes[i].lying {
+        if !self.may_fail(i) || !self.nodes[i].server.up() || self.lies(i) {
             return self.serve(message, random);
         }
         if way < 2 || self.still || self.wrong.is_some() {

@@ -12,6 +12,8 @@ pub enum Wrong {
     WriteTwice,
     /// A time round ends one reply early.
     TimeEarly,
+    /// A writer takes b for 0: its time is above the greatest reply, a liar's too.
+    Greatest,
     /// A save is done at the first reply of its write round.
     SaveFirst,
     /// A reader takes Byzantine clients for crash clients: nothing is validated.
@@ -25,11 +27,12 @@ pub enum Wrong {
 }
 
 /// All of them, by the name that `--wrong` takes.
-pub const ALL: [(&str, Wrong); 9] = [
+pub const ALL: [(&str, Wrong); 10] = [
     ("repair-first", Wrong::RepairFirst),
     ("ignores-b", Wrong::IgnoresB),
     ("write-twice", Wrong::WriteTwice),
     ("time-early", Wrong::TimeEarly),
+    ("greatest", Wrong::Greatest),
     ("save-first", Wrong::SaveFirst),
     ("no-validation", Wrong::NoValidation),
     ("same-ask", Wrong::SameAsk),

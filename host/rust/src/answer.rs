@@ -115,6 +115,7 @@ pub enum Answer {
     RoundsSpent {
         rounds: u16,
     },
+    /// The (b+1)-th greatest time reply is 2^64-1.
     ClockSpent,
 }
 

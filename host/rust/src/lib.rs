@@ -39,7 +39,7 @@ pub use session::{Mark, Operation, Session, Stage, SESSION_SIZE};
 pub use wish::{Counts, Wish, COUNTS_SIZE};
 
 /// The interface that this crate was written for; [`interface`] is the archive's.
-pub const INTERFACE: u32 = 2;
+pub const INTERFACE: u32 = 3;
 
 /// The interface number of the archive that is linked.
 pub fn interface() -> u32 {

@@ -1,8 +1,12 @@
-//! The session: 117 bytes that the caller keeps between two calls.
+//! The session: 237 bytes that the caller keeps between two calls.
 
 use crate::Timestamp;
 
-pub const SESSION_SIZE: usize = 117;
+pub const SESSION_SIZE: usize = 237;
+/// Where the times that the nodes told, the timestamp being written and the marks lie.
+const TIMES: usize = 53;
+const STAMP: usize = 181;
+const MARKS: usize = 221;
 
 /// An open operation, or an ended one. It goes by value into a reply call and comes back from it. It cannot be cloned, since two
 /// branches of one operation would share ask numbers and a desk.
@@ -61,11 +65,17 @@ impl Session {
 
     /// The timestamp being written, in a write or repair round.
     pub fn writing(&self) -> Timestamp {
-        self.timestamp_at(61)
+        self.timestamp_at(STAMP)
+    }
+
+    /// The time that this node told in the time round of a write; of no account where it is not heard. `None` from 16 on.
+    pub fn time_told(&self, node: usize) -> Option<u64> {
+        let times = self.0[TIMES..STAMP].as_chunks::<8>().0;
+        times.get(node).map(|time| u64::from_be_bytes(*time))
     }
 
     pub fn mark(&self, node: usize) -> Option<Mark> {
-        let byte = *self.0.get(node.checked_add(101)?)?;
+        let byte = *self.0.get(node.checked_add(MARKS)?)?;
         [Mark::Unheard, Mark::FirstTriple, Mark::Record].get(usize::from(byte)).copied()
     }
 

@@ -131,6 +131,7 @@ fn an_incomplete_save_is_walked_past_and_an_unclassifiable_one_repaired() {
     house.cut_off(b"two leaf", &[0]);
     let (answer, item) = house.open(&ALL);
     assert_eq!((done(answer), item.as_slice()), ((kept, 2), &b"one leaf"[..]));
+    done(house.save(b"ten leaf", &ALL));
     house.cut_off(b"six leaf", &[1, 2]);
     let (answer, item) = house.open(&ALL);
     let (repaired, rounds) = done(answer);
@@ -154,17 +155,40 @@ fn rounds_spent() {
     assert_eq!(house.open(&ALL), (Answer::RoundsSpent { rounds: 1 }, vec![0xee; 8]));
 }
 
+/// A write that has heard these times from nodes 0 on, and its last answer.
+fn told(plan: &Plan, times: &[u64]) -> (Session, Result<Answer, Refusal>) {
+    let (mut desk, item) = (vec![0; plan.desk_size()], vec![7; plan.item_size()]);
+    let mut told = (pasis::open_write(plan, 9).expect("opened"), Ok(Answer::Open));
+    for (node, time) in times.iter().enumerate() {
+        let mut reply = vec![0, 0, 0, 19, 1, 2, node as u8];
+        reply.extend(9u64.to_be_bytes());
+        reply.extend(time.to_be_bytes());
+        told = pasis::write_reply(plan, told.0, &reply, &mut desk, &item);
+    }
+    told
+}
+
+/// Document 02, Q-2: the second greatest of four replies counts where b is 1.
+#[test]
+fn one_lying_node_does_not_spend_the_clock() {
+    for (times, time) in [([u64::MAX, 9, 9, 4], 10), ([7, 9, 9, 4], 10), ([10, 4, 4, 4], 5)] {
+        let (session, answer) = told(&small(), &times);
+        assert_eq!((session.stage(), answer), (Some(Stage::Storing), Ok(Answer::Open)));
+        assert_eq!(session.writing().time(), time, "{times:?}");
+        let kept: Vec<Option<u64>> = (0..5).map(|node| session.time_told(node)).collect();
+        assert_eq!(kept, [&times[..], &[0]].concat().into_iter().map(Some).collect::<Vec<_>>());
+        assert_eq!((session.time_told(15), session.time_told(16)), (Some(0), None));
+    }
+}
+
 #[test]
 fn clock_spent() {
-    let plan = Plan { n: 1, t: 0, b: 0, q: 1, m: 1, ..small() };
-    let mut desk = vec![0; plan.desk_size()];
-    let session = pasis::open_write(&plan, 9).expect("opened");
-    let mut reply = vec![0, 0, 0, 19, 1, 2, 0];
-    reply.extend(9u64.to_be_bytes());
-    reply.extend(u64::MAX.to_be_bytes());
-    let (session, answer) = pasis::write_reply(&plan, session, &reply, &mut desk, b"leaf");
+    let (session, answer) = told(&small(), &[u64::MAX, 9, 4, u64::MAX]);
     assert_eq!((session.stage(), answer), (Some(Stage::Ended), Ok(Answer::ClockSpent)));
-    let (_, answer) = pasis::write_reply(&plan, session, &reply, &mut desk, b"leaf");
+    let plan = Plan { n: 1, t: 0, b: 0, q: 1, m: 1, ..small() };
+    let (session, answer) = told(&plan, &[u64::MAX]);
+    assert_eq!((session.stage(), answer), (Some(Stage::Ended), Ok(Answer::ClockSpent)));
+    let (_, answer) = pasis::write_reply(&plan, session, &[], &mut vec![0; plan.desk_size()], b"leaf");
     assert_eq!(answer, Err(Refusal::Ended));
 }
 

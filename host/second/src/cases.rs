@@ -12,8 +12,10 @@
 //! the call, or a dot where it is as lent. Bytes are lower-case hex, a minus where there are none; a call that is lent fewer than five
 //! slices has a minus, and after the call a dot, for each of the others. Every line stands by itself.
 
+use std::collections::BTreeSet;
+
 use crate::craft::Size;
-use crate::driver::{apart, hex, Maker, Outcome, Stop};
+use crate::driver::{apart, edges, hex, Maker, Outcome, Stop};
 use crate::gen::histories;
 use crate::library::{Call, Kind, Library, Second};
 
@@ -21,8 +23,8 @@ use crate::library::{Call, Kind, Library, Second};
 const SLICES: usize = 5;
 /// The most bytes lent in a stored case. The first of each answer of each call may be long, and has a plan with t above 0; the others are
 /// short, so that the files stay small. Where half of the calls looked at had no such case, any will do that is not long.
-const LONG: usize = 1400;
-const SHORT: usize = 450;
+const LONG: usize = 1520;
+const SHORT: usize = 570;
 /// The calls looked at, of histories: wishes come from a generator of their own, so they are not counted.
 const TRIED: usize = 200_000;
 
@@ -33,11 +35,13 @@ struct Stored {
     plan: Vec<u8>,
 }
 
-/// Picks cases, of each answer of each call about as many, so that rare answers are not crowded out; of each history few.
+/// Picks cases, of each answer of each call about as many, so that rare answers are not crowded out; of each history few. Beside these one
+/// of each edge of a time round that has none yet.
 struct Picker<'a> {
     count: usize,
     tried: usize,
     stored: Vec<Vec<Stored>>,
+    edges: BTreeSet<&'static str>,
     out: &'a mut dyn FnMut(&Call, &Outcome),
 }
 
@@ -60,9 +64,14 @@ impl Maker for Picker<'_> {
             0 => lent <= LONG && faults,
             _ => lent <= SHORT,
         };
-        if stored.cases < self.count && good && differs {
+        let wanted = stored.cases < self.count && good && differs;
+        if wanted {
             stored.cases += 1;
             stored.plan = call.plan.clone();
+        }
+        let met = edges(&call, &outcome);
+        if wanted || (lent <= LONG && met.iter().any(|edge| !self.edges.contains(edge))) {
+            self.edges.extend(met);
             (self.out)(&call, &outcome);
         }
         Ok(outcome)
@@ -72,7 +81,7 @@ impl Maker for Picker<'_> {
 /// Hands out up to `count` cases of each answer of each call.
 pub fn pick(seed: u64, count: usize, out: &mut dyn FnMut(&Call, &Outcome)) -> Stop {
     let stored = vec![vec![Stored::default(); 106]; Kind::ALL.len()];
-    histories(seed, Size::Small, &mut Picker { count, tried: 0, stored, out })
+    histories(seed, Size::Small, &mut Picker { count, tried: 0, stored, edges: BTreeSet::new(), out })
 }
 
 /// The line of a call.

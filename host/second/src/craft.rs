@@ -52,6 +52,19 @@ pub fn time(random: &mut Random) -> u64 {
     }
 }
 
+/// What the nodes might say in one time round: a great time from about b of them, which the (b+1)-th greatest passes over, and from the
+/// others times that are often equal.
+pub fn times(random: &mut Random, plan: &Plan) -> Vec<u64> {
+    let great = random.pick(&[u64::MAX, u64::MAX, u64::MAX - 1, 9]);
+    let many = random.pick(&[plan.b, plan.b, plan.b + 1, plan.b + 1, plan.b + 2]);
+    let few = random.pick(&[0, 4, 4, u64::MAX - 2]);
+    let mut times: Vec<u64> = (0..plan.n).map(|_| few + random.below(3) as u64).collect();
+    for _ in 0..many {
+        times[random.below(plan.n)] = great;
+    }
+    times
+}
+
 /// A time that a record may bear.
 pub fn record_time(random: &mut Random) -> u64 {
     time(random).max(1)

@@ -2,6 +2,7 @@
 //! The first library is lent each slice apart; the other has all of them in one area, with guard bytes between, at shifting places.
 
 use crate::library::{make, Call, Kind, Library};
+use crate::wire;
 use crate::wish::Wish;
 
 /// The answers counted: 0 to 14, 20 and 101 to 105.
@@ -75,7 +76,7 @@ pub struct Driver<'a> {
 }
 
 /// What an accepted call may do beside its answer, as its bytes tell.
-const TURNS: [&str; 10] = [
+const TURNS: [&str; 14] = [
     "record stored",
     "held record acknowledged",
     "record below a bound",
@@ -86,7 +87,42 @@ const TURNS: [&str; 10] = [
     "done without repair",
     "done after repair",
     "smallest plan of 16 nodes",
+    EDGES[0],
+    EDGES[1],
+    EDGES[2],
+    EDGES[3],
 ];
+
+/// How a time round may end under a plan with b above 0 (document 02, Q-2).
+pub const EDGES: [&str; 4] = [
+    "2^64-1 from b nodes, a write round opened",
+    "2^64-1 from b+1 nodes, the clock spent",
+    "the (b+1)-th greatest time equal to the b-th",
+    "a greater time in the entry of an unheard node",
+];
+
+/// Which of these the end of this time round is: none at any other call.
+pub fn edges(call: &Call, outcome: &Outcome) -> Vec<&'static str> {
+    let (before, after) = (&call.lent[0], &outcome.lent[0]);
+    let ended = outcome.number == 105 || (outcome.number == 0 && before.get(1) != after.get(1));
+    let b = call.plan.get(2).map_or(0, |b| usize::from(*b));
+    if call.kind != Kind::WriteReply || !ended || b == 0 {
+        return Vec::new();
+    }
+    let heard = |node: &usize| before[wire::MARKS + node] != 0 || call.lent[1][6] == *node as u8;
+    let time = |node: usize| &after[wire::TIMES + 8 * node..][..8];
+    let (told, other): (Vec<usize>, Vec<usize>) = (0..16).partition(heard);
+    let mut told: Vec<&[u8]> = told.into_iter().map(time).collect();
+    told.sort_unstable_by(|one, other| other.cmp(one));
+    let last = told.iter().filter(|time| **time == [255; 8]).count();
+    let met = [
+        last == b && outcome.number == 0,
+        last == b + 1 && outcome.number == 105,
+        told[b] == told[b - 1],
+        other.into_iter().any(|node| time(node) > told[b]),
+    ];
+    EDGES.into_iter().zip(met).filter(|(_, met)| *met).map(|(name, _)| name).collect()
+}
 
 /// Which of them this call did.
 fn turn(call: &Call, outcome: &Outcome) -> Option<&'static str> {
@@ -146,7 +182,7 @@ impl<'a> Driver<'a> {
         }
         let column = NUMBERS.iter().position(|other| *other == number).expect("every answer of a call is counted");
         self.counts[call.kind as usize][column] += 1;
-        if let Some(turn) = turn(call, outcome) {
+        for turn in turn(call, outcome).into_iter().chain(edges(call, outcome)) {
             self.turns[TURNS.iter().position(|name| *name == turn).expect("a turn")] += 1;
         }
         Ok(())

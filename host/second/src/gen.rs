@@ -37,6 +37,8 @@ struct Client {
     session: Vec<u8>,
     desk: Vec<u8>,
     item: Vec<u8>,
+    /// What its time round is told by each node, whatever the books hold.
+    told: Option<Vec<u64>>,
 }
 
 /// One item on N nodes, and the clients at work on it.
@@ -156,7 +158,8 @@ impl World<'_> {
                 // rounds that no history is long enough for
                 mutate::client::later_round(self.random, &self.plan, &mut session);
             }
-            self.clients.push(Client { session, desk, item });
+            let told = self.random.chance(60).then(|| craft::times(self.random, &self.plan));
+            self.clients.push(Client { session, desk, item, told });
         } else {
             self.ask = self.random.within(0, 1 << 20) as u64;
         }
@@ -173,7 +176,9 @@ impl World<'_> {
         if self.habits[node] == Habit::Silent {
             return Ok(());
         }
-        let reply = if self.habits[node] == Habit::Liar && self.random.chance(60) {
+        let reply = if let Some(reply) = self.told(client, node, &request) {
+            Some(reply)
+        } else if self.habits[node] == Habit::Liar && self.random.chance(60) {
             Some(self.lie(client, node))
         } else {
             self.node(maker, node, request)?
@@ -186,7 +191,7 @@ impl World<'_> {
 
     /// Mostly a node that this client has not heard.
     fn node_for(&mut self, client: usize) -> usize {
-        let marks = &self.clients[client].session[101..101 + self.plan.n];
+        let marks = &self.clients[client].session[wire::MARKS..][..self.plan.n];
         let unheard: Vec<usize> = (0..self.plan.n).filter(|node| marks[*node] == 0).collect();
         if unheard.is_empty() || self.random.chance(10) {
             return self.random.below(self.plan.n);
@@ -225,10 +230,39 @@ impl World<'_> {
         let kind = if session[0] == 0 { Kind::WriteReply } else { Kind::ReadReply };
         let ending = self.random.bytes(wire::ENDING);
         let lent = vec![session.clone(), frame, desk.clone(), item.clone(), ending];
+        self.time_rounds(maker, &lent)?;
         let outcome = self.call(maker, kind, 0, lent)?;
         let [session, _, desk, item, _] = <[Vec<u8>; 5]>::try_from(outcome.lent).expect("five slices");
-        self.clients[client] = Client { session, desk, item };
+        let told = self.clients[client].told.take();
+        self.clients[client] = Client { session, desk, item, told };
         Ok(())
+    }
+
+    /// Where this reply ends a time round, copies of it after other times, and with another time itself.
+    fn time_rounds(&mut self, maker: &mut dyn Maker, lent: &[Vec<u8>]) -> Result<(), Stop> {
+        let last = wire::session_from(&lent[0]).is_some_and(|session| session.heard() + 1 == self.plan.replies());
+        if !last || lent[0][..2] != [0, 0] {
+            return Ok(());
+        }
+        let copies = if self.plan.b > 0 { 24 } else { 2 };
+        for _ in 0..copies {
+            let mut lent = lent.to_vec();
+            mutate::client::times(self.random, &self.plan, &mut lent[0]);
+            if self.random.chance(50) {
+                let session = lent[0].clone();
+                mutate::frame::tied(self.random, &session, &mut lent[1]);
+            }
+            let plan = wire::plan_bytes(&self.plan).to_vec();
+            maker.make(Call { kind: Kind::WriteReply, plan, number: 0, lent })?;
+        }
+        Ok(())
+    }
+
+    /// The time reply that was settled for this client and node, to a time request.
+    fn told(&self, client: usize, node: usize, request: &[u8]) -> Option<Vec<u8>> {
+        let session = wire::session_from(&self.clients[client].session).filter(|_| request[5] == 1)?;
+        let told = self.clients[client].told.as_ref()?;
+        Some(craft::frame(node, session.ask().0, Body::TimeReply(told[node])))
     }
 
     /// A frame that this session awaits, with a body that its node made up.

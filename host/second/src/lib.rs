@@ -1,4 +1,4 @@
-//! A second program for document 01 and Q-1 of document 02, written from the documents alone: it shares no code, no table and no data
+//! A second program for document 01 and of document 02, written from the documents alone: it shares no code, no table and no data
 //! layout in memory with the proved library. The modules follow the documents; `wire` is the host interface on bytes; `library`, `craft`,
 //! `mutate`, `gen`, `wishes`, `driver` and `cases` make and compare calls.
 

@@ -35,8 +35,8 @@ pub struct Session {
     pub round: u16,
     pub bound: Option<Timestamp>,
     pub opening: Ask,
-    /// The greatest time so far, in a time round.
-    pub greatest: u64,
+    /// What each node answered in the time round (document 02, Q-2). Only those of heard nodes count; no other call changes them.
+    pub times: [u64; 16],
     /// The timestamp being written, in a write or repair round.
     pub stamp: Timestamp,
     pub marks: [Mark; 16],
@@ -97,7 +97,7 @@ pub fn open(plan: &Plan, operation: Operation, opening: Ask) -> Result<Session, 
         round: 1,
         bound: None,
         opening,
-        greatest: 0,
+        times: [0; 16],
         stamp: Timestamp::ZERO,
         marks: UNHEARD,
     })

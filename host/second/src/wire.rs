@@ -2,9 +2,9 @@
 //! are the refusals, 101 to 105 the endings.
 //!
 //! Plan, 11 bytes: N, t, b, Q, m, F (2), member (0 repairable, 1 non-repair), clients (0 crash, 1 Byzantine), W (2).
-//! Session, 117 bytes: operation (0 write, 1 read), stage (0 asking, 1 storing, 2 ended), round (2), bound (0 and forty zeros, or 1
-//! and the timestamp), opening ask number (8), greatest time (8), timestamp being written (40), 16 marks (0 unheard, 1 first triple,
-//! 2 record). Ending, 42 bytes, written at an ending only: timestamp (zero where it has none), rounds (2, zero for a write).
+//! Session, 237 bytes: operation (0 write, 1 read), stage (0 asking, 1 storing, 2 ended), round (2), bound (0 and forty zeros, or 1
+//! and the timestamp), opening ask number (8), 16 times by node number (8 each), timestamp being written (40), 16 marks (0 unheard,
+//! 1 first triple, 2 record). Ending, 42 bytes, written at an ending only: timestamp (zero where it has none), rounds (2, zero for a write).
 //! Counts, 2 bytes: N and Q. A plan slice of another length is refusal 1, a session, ending or counts slice of another length 2, bytes
 //! that code no session 9.
 
@@ -19,7 +19,11 @@ use crate::wish::Wish;
 use crate::writer;
 
 pub const PLAN: usize = 11;
-pub const SESSION: usize = 117;
+pub const SESSION: usize = 237;
+/// Where a session has its times, its timestamp and its marks.
+pub const TIMES: usize = 53;
+pub const STAMP: usize = 181;
+pub const MARKS: usize = 221;
 pub const ENDING: usize = 42;
 pub const COUNTS: usize = 2;
 
@@ -53,7 +57,7 @@ pub fn plan_bytes(plan: &Plan) -> [u8; PLAN] {
 pub fn session_from(bytes: &[u8]) -> Option<Session> {
     let number = |at: usize| u64::from_be_bytes(bytes[at..at + 8].try_into().expect("8 bytes"));
     let mut marks = session::UNHEARD;
-    for (mark, byte) in marks.iter_mut().zip(&bytes[101..SESSION]) {
+    for (mark, byte) in marks.iter_mut().zip(&bytes[MARKS..SESSION]) {
         *mark = *[Mark::Unheard, Mark::FirstTriple, Mark::Record].get(usize::from(*byte))?;
     }
     Some(Session {
@@ -62,8 +66,8 @@ pub fn session_from(bytes: &[u8]) -> Option<Session> {
         round: u16::from_be_bytes([bytes[2], bytes[3]]),
         bound: bound_from(&bytes[4..45])?,
         opening: Ask(number(45)),
-        greatest: number(53),
-        stamp: Timestamp::from_bytes(&bytes[61..101]),
+        times: std::array::from_fn(|node| number(TIMES + 8 * node)),
+        stamp: Timestamp::from_bytes(&bytes[STAMP..MARKS]),
         marks,
     })
 }
@@ -87,9 +91,11 @@ pub fn session_bytes(session: &Session) -> [u8; SESSION] {
         bytes[5..45].copy_from_slice(&bound.bytes());
     }
     bytes[45..53].copy_from_slice(&session.opening.0.to_be_bytes());
-    bytes[53..61].copy_from_slice(&session.greatest.to_be_bytes());
-    bytes[61..101].copy_from_slice(&session.stamp.bytes());
-    for (byte, mark) in bytes[101..].iter_mut().zip(session.marks) {
+    for (eight, time) in bytes[TIMES..STAMP].chunks_exact_mut(8).zip(session.times) {
+        eight.copy_from_slice(&time.to_be_bytes());
+    }
+    bytes[STAMP..MARKS].copy_from_slice(&session.stamp.bytes());
+    for (byte, mark) in bytes[MARKS..].iter_mut().zip(session.marks) {
         *byte = mark as u8;
     }
     bytes

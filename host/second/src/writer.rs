@@ -1,4 +1,4 @@
-//! Writing (document 01, "The client"; Figure 2 of the report): a time round, then a write round.
+//! Writing (document 01, "The client"; Figure 2 of the report): a time round, whose time is that of document 02, Q-2; then a write round.
 
 use crate::code::encode;
 use crate::frame::Body;
@@ -19,11 +19,11 @@ pub fn reply(
     let (mut next, over) = session.marked(plan, frame.node, Mark::Record);
     match frame.body {
         Body::TimeReply(time) => {
-            next.greatest = next.greatest.max(time);
+            next.times[frame.node] = time;
             if !over {
                 return Ok((next, Answer::Open));
             }
-            let Some(time) = next.greatest.checked_add(1) else {
+            let Some(time) = passed(plan, &next).checked_add(1) else {
                 return Ok((next.ended(), Answer::ClockSpent));
             };
             let stamp = prepare(plan, desk, item, time);
@@ -35,6 +35,15 @@ pub fn reply(
         }
         _ => Ok((next, Answer::Open)),
     }
+}
+
+/// The (b+1)-th greatest of the N-t time replies, "equal values counted each" (document 02, Q-2): in falling order, the one after b. There
+/// is one, since N-t is above b in every accepted plan.
+fn passed(plan: &Plan, session: &Session) -> u64 {
+    let heard = |node: &usize| session.marks[*node] != Mark::Unheard;
+    let mut times: Vec<u64> = (0..plan.n).filter(heard).map(|node| session.times[node]).collect();
+    times.sort_unstable_by(|one, other| other.cmp(one));
+    times[plan.b]
 }
 
 /// Fills the desk with all N records of the item at this time, and gives their timestamp.

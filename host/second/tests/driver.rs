@@ -15,13 +15,33 @@ type Fault = fn(&str, u32, &mut [u8]) -> u32;
 /// Another way to the smallest plan.
 type Smallest = fn(u8, u64, u64, u64, &mut [u8]) -> u32;
 
+/// Another rule for the time that a new one is above: of b, of the times heard, and of the entries of unheard nodes.
+type Rule = fn(usize, &[u64], &[u64]) -> u64;
+
 /// Our own program with a fault.
 struct Faulty {
     fault: Fault,
     smallest: Smallest,
+    rule: Option<Rule>,
 }
 
-const FAULTLESS: Faulty = Faulty { fault: |_, number, _| number, smallest: wire::smallest_plan };
+const FAULTLESS: Faulty = Faulty { fault: |_, number, _| number, smallest: wire::smallest_plan, rule: None };
+
+/// A session and a time reply with which our own program, too, comes to the time of another rule: all that were heard say it.
+fn by_rule(rule: Rule, b: u8, session: &[u8], reply: &[u8]) -> (Vec<u8>, Vec<u8>) {
+    let (mut session, mut reply) = (session.to_vec(), reply.to_vec());
+    let entry = |node: usize| wire::TIMES + 8 * node;
+    let time = |bytes: &[u8], at: usize| u64::from_be_bytes(bytes[at..at + 8].try_into().unwrap());
+    let (heard, unheard): (Vec<usize>, Vec<usize>) = (0..16).partition(|node| session[wire::MARKS + node] != 0);
+    let mut said: Vec<u64> = heard.iter().map(|node| time(&session, entry(*node))).collect();
+    said.push(time(&reply, 15));
+    let other = unheard.into_iter().filter(|node| *node != usize::from(reply[6]));
+    let other: Vec<u64> = other.map(|node| time(&session, entry(node))).collect();
+    let all = rule(usize::from(b), &said, &other).to_be_bytes();
+    heard.iter().for_each(|node| session[entry(*node)..][..8].copy_from_slice(&all));
+    reply[15..23].copy_from_slice(&all);
+    (session, reply)
+}
 
 impl Library for Faulty {
     fn fresh_book(&mut self, plan: &[u8], node: u64, book: &mut [u8]) -> u32 {
@@ -51,8 +71,21 @@ impl Library for Faulty {
         item: &[u8],
         ending: &mut [u8],
     ) -> u32 {
-        let number = Second.write_reply(plan, session, reply, desk, item, ending);
-        (self.fault)("write_reply", number, ending)
+        let timed =
+            session.len() == wire::SESSION && session[..2] == [0, 0] && reply.len() == 23 && plan.len() == wire::PLAN;
+        let Some(rule) = self.rule.filter(|_| timed) else {
+            let number = Second.write_reply(plan, session, reply, desk, item, ending);
+            return (self.fault)("write_reply", number, ending);
+        };
+        let mut times = session[wire::TIMES..wire::STAMP].to_vec();
+        let (mut other, told) = by_rule(rule, plan[2], session, reply);
+        let number = Second.write_reply(plan, &mut other, &told, desk, item, ending);
+        if number == 0 || number > 100 {
+            times[8 * usize::from(reply[6])..][..8].copy_from_slice(&reply[15..]);
+            session.copy_from_slice(&other);
+            session[wire::TIMES..wire::STAMP].copy_from_slice(&times);
+        }
+        number
     }
     fn read_reply(
         &mut self,
@@ -114,6 +147,34 @@ fn a_wrong_library_is_caught() {
     for fault in faults {
         let Stop::Wrong(why) = run(&mut Faulty { fault, ..FAULTLESS }, 200_000) else { panic!("a fault was not met") };
         assert!(why.starts_with("seed 5, call "), "{why}");
+    }
+}
+
+fn falling(mut times: Vec<u64>) -> Vec<u64> {
+    times.sort_unstable_by(|one, other| other.cmp(one));
+    times
+}
+
+/// Near misses of document 02's Q-2. By the rule itself the same detour agrees.
+#[test]
+fn a_wrong_time_is_caught() {
+    let right: Rule = |b, said, _| falling(said.to_vec()).get(b).copied().unwrap_or(0);
+    assert_eq!(run(&mut Faulty { rule: Some(right), ..FAULTLESS }, 30_000), Stop::Enough);
+    let wrong: [(&str, Rule); 6] = [
+        ("the greatest", |_, said, _| falling(said.to_vec())[0]),
+        ("the second greatest, whatever b", |_, said, _| falling(said.to_vec()).get(1).copied().unwrap_or(said[0])),
+        ("the b-th greatest", |b, said, _| falling(said.to_vec()).get(b.saturating_sub(1)).copied().unwrap_or(0)),
+        ("the (b+2)-th greatest", |b, said, _| falling(said.to_vec()).get(b + 1).copied().unwrap_or(0)),
+        ("equal values counted once", |b, said, _| {
+            let mut times = falling(said.to_vec());
+            times.dedup();
+            times.get(b).or(times.last()).copied().unwrap_or(0)
+        }),
+        ("entries of unheard nodes counted", |b, said, other| falling([said, other].concat())[b]),
+    ];
+    for (name, rule) in wrong {
+        let stop = run(&mut Faulty { rule: Some(rule), ..FAULTLESS }, 200_000);
+        assert!(matches!(stop, Stop::Wrong(_)), "{name} was not met");
     }
 }
 

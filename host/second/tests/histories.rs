@@ -189,7 +189,7 @@ fn rounds_spent_and_clock_spent() {
     let mut reader = Client::reader(&plan, u64::MAX - 2);
     assert_eq!(reader.run(&mut house, &[0, 1, 2, 3]), 104);
     assert_eq!((reader.end(), reader.stage(), reader.round()), ((Timestamp::ZERO, 2), 2, 2));
-    house.hold(&saved(&plan, u64::MAX - 1, &item(&plan, 0)), &[0]);
+    house.hold(&saved(&plan, u64::MAX - 1, &item(&plan, 0)), &[0, 2]);
     let mut writer = Client::writer(&plan, 9, &item(&plan, 5));
     assert_eq!(writer.run(&mut house, &[0, 1, 2, 3]), 101);
     assert_eq!(writer.end().0.time, u64::MAX);
@@ -197,7 +197,7 @@ fn rounds_spent_and_clock_spent() {
     assert_eq!(writer.run(&mut house, &[0, 1, 2, 4]), 105);
     assert_eq!((writer.end(), writer.stage()), ((Timestamp::ZERO, 0), 2));
     assert_eq!(writer.desk, vec![0xcc; plan.desk_length()]);
-    assert_eq!(wire::session_from(&writer.session).unwrap().greatest, u64::MAX);
+    assert_eq!(wire::session_from(&writer.session).unwrap().times[..5], [u64::MAX, u64::MAX, u64::MAX, 0, 3]);
     assert_eq!(writer.marks()[..5], [2, 2, 2, 0, 2]);
 }
 

@@ -286,9 +286,9 @@ fn replies_to_a_writer() {
     for node in 0..4 {
         assert_eq!(writer.hear(&frame(node, 30, Body::TimeReply(3))), 0);
     }
-    let stamp = Timestamp::from_bytes(&writer.session[61..101]);
+    let stamp = Timestamp::from_bytes(&writer.session[wire::STAMP..wire::MARKS]);
     assert_eq!((writer.stage(), stamp.time, writer.marks()), (1, 4, &[0; 16][..]));
-    assert_eq!(writer.session[53..61], 3u64.to_be_bytes(), "the greatest time stays");
+    assert_eq!(wire::session_from(&writer.session).unwrap().times[..5], [3, 3, 3, 3, 0], "the times stay");
     let other = Timestamp { time: 5, ..stamp };
     assert_eq!(hear(&writer, &frame(0, 31, Body::WriteReply(other))), 10, "another timestamp");
     assert_eq!(hear(&writer, &frame(0, 31, Body::WriteReply(Timestamp::ZERO))), 10);
@@ -352,7 +352,7 @@ fn sessions_out_of_range() {
         owed == Some(9)
     };
     assert!(!nine(&|_| {}));
-    for (at, byte) in [(0, 2), (1, 3), (2, 1), (3, 0), (3, 1), (3, 4), (4, 0), (4, 2), (101, 3), (106, 2), (116, 1)] {
+    for (at, byte) in [(0, 2), (1, 3), (2, 1), (3, 0), (3, 1), (3, 4), (4, 0), (4, 2), (221, 3), (226, 2), (236, 1)] {
         assert!(nine(&|client| client.session[at] = byte), "byte {at} is {byte}");
     }
     assert!(!nine(&|client| client.session[3] = 3), "round W");
@@ -360,10 +360,13 @@ fn sessions_out_of_range() {
     assert!(nine(&|client| put(&mut client.session, 5, 0)), "a bound of time 0");
     assert!(!nine(&|client| put(&mut client.session, 45, u64::MAX - 3)));
     assert!(nine(&|client| put(&mut client.session, 45, u64::MAX - 2)), "the opening ask");
-    assert!(nine(&|client| client.session[104] = 2), "the slot of node 3 holds the record of round 1: at the bound");
-    assert!(!nine(&|client| client.session[103..105].fill(1)), "three heard");
-    assert!(nine(&|client| client.session[103..106].fill(1)), "four heard, N-t, and open");
-    assert!(!nine(&|client| client.session[53..101].fill(9)), "fields not in use");
+    assert!(
+        nine(&|client| client.session[wire::MARKS + 3] = 2),
+        "the slot of node 3 holds the record of round 1: at the bound"
+    );
+    assert!(!nine(&|client| client.session[223..225].fill(1)), "three heard");
+    assert!(nine(&|client| client.session[223..226].fill(1)), "four heard, N-t, and open");
+    assert!(!nine(&|client| client.session[wire::TIMES..wire::MARKS].fill(9)), "fields not in use");
     assert!(nine(&|client| put(&mut client.desk, 0, 0)), "a slot of time 0");
     assert!(nine(&|client| put(&mut client.desk, 0, 6)), "a slot above the bound");
     let bound = good.session[5..45].to_vec();
@@ -377,32 +380,32 @@ fn sessions_that_store_or_have_ended() {
     let (plan, good) = second_round();
     let mut storing = good.clone();
     storing.session[1] = 1;
-    storing.session[61..101].copy_from_slice(&good.desk[..40]);
+    storing.session[wire::STAMP..wire::MARKS].copy_from_slice(&good.desk[..40]);
     storing.desk.fill(0);
     assert!(storing.owed(1).is_ok(), "no rule on slots in a repair round");
-    let ack = |ask| frame(1, ask, Body::WriteReply(Timestamp::from_bytes(&storing.session[61..101])));
+    let ack = |ask| frame(1, ask, Body::WriteReply(Timestamp::from_bytes(&storing.session[wire::STAMP..wire::MARKS])));
     assert_eq!((hear(&storing, &ack(32)), hear(&storing, &ack(31))), (0, 10), "opening 30, round 2: it asks 32");
     let mut other = storing.clone();
-    put(&mut other.session, 61, 0);
+    put(&mut other.session, wire::STAMP, 0);
     assert_eq!(other.owed(1), Err(9), "a timestamp of time 0");
     let mut other = storing.clone();
-    other.session[102] = 1;
+    other.session[wire::MARKS + 1] = 1;
     assert_eq!(other.owed(1), Err(9), "a first triple mark in a repair round");
     let mut ended = storing.clone();
     ended.session[1] = 2;
-    ended.session[61..101].fill(0);
-    ended.session[101..106].fill(1);
+    ended.session[wire::STAMP..wire::MARKS].fill(0);
+    ended.session[221..226].fill(1);
     assert_eq!((ended.owed(9), hear(&ended, &[])), (Err(14), 14), "none of these rules for an ended session");
-    for (at, byte) in [(3, 1), (3, 4), (45, 255), (106, 1)] {
+    for (at, byte) in [(3, 1), (3, 4), (45, 255), (226, 1)] {
         let mut other = ended.clone();
         let change = if at == 45 { vec![255; 8] } else { vec![byte] };
         other.session[at..at + change.len()].copy_from_slice(&change);
         assert_eq!((other.owed(1), hear(&other, &[])), (Err(9), 9), "byte {at}");
     }
     let mut writer = Client::writer(&plan, 30, &item(&plan, 1));
-    writer.session[101] = 1;
+    writer.session[wire::MARKS] = 1;
     assert_eq!(writer.owed(1), Err(9), "a first triple mark in a time round");
-    writer.session[101] = 2;
+    writer.session[wire::MARKS] = 2;
     assert!(writer.owed(1).is_ok());
     assert_eq!(writer.owed(0), Err(11));
     assert_eq!(writer.owed(5), Err(4));

@@ -124,7 +124,10 @@ pub fn save(folder: &Path, file: &OsStr, down: &[usize], stop_after: Option<usiz
     let stamp = run.stamp.map(|stamp| stamp.to_string()).unwrap_or_default();
     let (code, line) = match run.answer {
         Answer::Done { timestamp, .. } => (Code::Done, format!("saved: {timestamp}, stored at {at}")),
-        Answer::ClockSpent => (Code::ClockSpent, "clock spent: a node says that the last time is reached".to_string()),
+        Answer::ClockSpent => {
+            let line = format!("clock spent: {} or more nodes say that the last time is reached", plan.b + 1);
+            (Code::ClockSpent, line)
+        }
         _ if run.cut_off && run.stored.is_empty() => {
             (Code::NoEnd, "cut off before any node stored it; nothing was stored".to_string())
         }

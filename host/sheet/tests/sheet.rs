@@ -165,6 +165,28 @@ fn clock_spent_and_full_books() {
     assert_eq!(place.code("save s leaf"), 6);
 }
 
+/// Document 02, Q-2: the plan has b 1, so that one book that tells the last time stops no save, and two do.
+#[test]
+fn one_book_does_not_spend_the_clock() {
+    let place = five("last");
+    assert_eq!(place.code("save s one"), 0);
+    let last = |node: usize| {
+        let name = format!("s/book-{node}");
+        let mut book = place.get(&name);
+        let at = 11 + 204 * (usize::from(book[10]) - 1);
+        book[at..at + 8].fill(0xff);
+        place.put(&name, book);
+    };
+    last(0);
+    let (code, out, _) = place.sheet("save s two");
+    assert!(code == 0 && out.starts_with("saved: 2:"), "{out}");
+    assert_eq!(place.code("open s out --down 0"), 0);
+    assert_eq!(place.get("out"), b"two leaf");
+    last(1);
+    let (code, out, _) = place.sheet("save s one");
+    assert_eq!((code, out.as_str()), (6, "clock spent: 2 or more nodes say that the last time is reached\n"));
+}
+
 #[test]
 fn too_few_nodes() {
     let place = five("few");
@@ -351,7 +373,7 @@ fn help_at_each_verb() {
         assert_eq!((code, err.as_str()), (0, ""), "{words}");
         assert!(out.contains("Exit codes:\n  0  done\n") && out.contains("  9  system"), "{words}");
     }
-    assert_eq!(place.sheet("--version").1, "sheet 1.0.0, interface 2 of libpasis\n");
+    assert_eq!(place.sheet("--version").1, "sheet 1.0.0, interface 3 of libpasis\n");
     assert!(Path::new(env!("CARGO_BIN_EXE_sheet")).is_file());
 }
 

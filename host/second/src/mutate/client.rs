@@ -11,7 +11,7 @@ use crate::wire;
 pub fn aim(session: &[u8]) -> Option<Timestamp> {
     match session {
         _ if session.len() != wire::SESSION => None,
-        _ if session[1] == 1 => Some(Timestamp::from_bytes(&session[61..101])),
+        _ if session[1] == 1 => Some(Timestamp::from_bytes(&session[wire::STAMP..wire::MARKS])),
         _ => (session[4] == 1).then(|| Timestamp::from_bytes(&session[5..45])),
     }
 }
@@ -28,7 +28,7 @@ pub fn keepsake(random: &mut Random, plan: &Plan, kept: &mut [u8], slots: &mut [
 /// One field of the session.
 pub fn session(random: &mut Random, plan: &Plan, bytes: &mut [u8]) {
     let w = plan.w as u16;
-    match random.below(14) {
+    match random.below(16) {
         0 => bytes[0] = random.pick(&[0, 1, 2, 255]),
         1 | 2 => bytes[1] = random.pick(&[0, 1, 2, 2, 3, 255]),
         3 => bytes[2..4].copy_from_slice(&random.pick(&[0, 1, 2, w, w.wrapping_add(1)]).to_be_bytes()),
@@ -40,10 +40,11 @@ pub fn session(random: &mut Random, plan: &Plan, bytes: &mut [u8]) {
             let last = u64::MAX - plan.w as u64;
             put(bytes, 45, random.pick(&[0, last, last + 1, u64::MAX]));
         }
-        9 => put(bytes, 53, craft::time(random)),
-        10 => put(bytes, 61, random.pick(&[0, 1])),
-        11 => bytes[101 + random.below(16)] = random.pick(&[0, 1, 2, 3, 255]),
+        9 => put(bytes, wire::TIMES + 8 * random.below(16), craft::time(random)),
+        10 => put(bytes, wire::STAMP, random.pick(&[0, 1])),
+        11 => bytes[wire::MARKS + random.below(16)] = random.pick(&[0, 1, 2, 3, 255]),
         12 => marks(random, plan, bytes),
+        13 | 14 => times(random, plan, bytes),
         _ => flip(random, bytes),
     }
 }
@@ -64,8 +65,19 @@ fn marks(random: &mut Random, plan: &Plan, bytes: &mut [u8]) {
     let heard = plan.replies() - random.below(2);
     let mark = random.pick(&[1, 2, 2]);
     let from = random.below(plan.t + 1);
-    bytes[101..117].fill(0);
-    bytes[101 + from..101 + from + heard].fill(mark);
+    bytes[wire::MARKS..wire::SESSION].fill(0);
+    bytes[wire::MARKS + from..wire::MARKS + from + heard].fill(mark);
+}
+
+/// The times of all nodes, or those of unheard nodes alone, which count for nothing and are handed back.
+pub fn times(random: &mut Random, plan: &Plan, bytes: &mut [u8]) {
+    let (drawn, unheard) = (craft::times(random, plan), random.chance(60));
+    for node in 0..16 {
+        let time = drawn.get(node).copied().unwrap_or_else(|| craft::time(random));
+        if !unheard || bytes[wire::MARKS + node] == 0 {
+            put(bytes, wire::TIMES + 8 * node, time);
+        }
+    }
 }
 
 /// One slot of the desk.

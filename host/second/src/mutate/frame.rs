@@ -6,6 +6,7 @@ use crate::plan::Plan;
 use crate::random::Random;
 use crate::record::Timestamp;
 use crate::sha256::sha256;
+use crate::wire;
 
 /// One field of a frame, or another frame in its place.
 pub fn change(random: &mut Random, view: &View, seen: &[Vec<u8>], aim: Option<Timestamp>, bytes: &mut Vec<u8>) {
@@ -68,6 +69,12 @@ pub fn near(random: &mut Random, aim: Option<Timestamp>, bytes: &mut [u8]) {
         let time = aim.time;
         put(bytes, 15, random.pick(&[time, time, time.wrapping_sub(1), time.wrapping_add(1)]));
     }
+}
+
+/// A time reply that says what another node said, or a time next to that, or the last.
+pub fn tied(random: &mut Random, session: &[u8], bytes: &mut [u8]) {
+    let said = get(session, wire::TIMES + 8 * random.below(16));
+    put(bytes, 15, random.pick(&[said, said, said.wrapping_add(1), said.wrapping_sub(1), u64::MAX]));
 }
 
 /// A record in the body: one of its hashes made wrong, or a change after which both are right again.

@@ -33,6 +33,13 @@ pub fn change(random: &mut Random, view: &View, call: &mut Call) {
             let aim = aim(random, view.plan, call);
             frame::near(random, aim, &mut call.lent[1]);
         }
+        6 if call.kind == Kind::WriteReply => {
+            let session = call.lent[0].clone();
+            frame::tied(random, &session, &mut call.lent[1]);
+        }
+        7 if call.kind == Kind::WriteReply && call.lent[0].len() == wire::SESSION => {
+            client::times(random, view.plan, &mut call.lent[0]);
+        }
         _ => inside(random, view, call),
     }
 }

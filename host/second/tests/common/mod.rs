@@ -179,7 +179,7 @@ impl Client {
     }
 
     pub fn marks(&self) -> &[u8] {
-        &self.session[101..]
+        &self.session[wire::MARKS..]
     }
 
     /// The timestamp and the rounds of the ending.

@@ -23,11 +23,11 @@ ghost use Rattle.terms.specs.Terms.{planOk, recordLength};
 // What books and the item buffer hold before they are written: no last byte of a record here is this one.
 pub const BLANK: u8 = 170;
 
-// The places of N 5 and F 4: a session of 117 bytes, a desk of 5 times 204, two frames of R+15, an ending of 42, an item of 8, and five
+// The places of N 5 and F 4: a session of 237 bytes, a desk of 5 times 204, two frames of R+15, an ending of 42, an item of 8, and five
 // books of 1,030, one byte short of room for five records each. All of these a refused call leaves as they came. Then the plan's 11 bytes,
 // the number of the last answer, and what the kept places held before the last step. Session, ending and plan are as host/pasis.h has
 // them: a session's stage, round, opening ask number, timestamp and marks have names here, and an ending's verifier and rounds.
-pub type World = [u8; 13600];
+pub type World = [u8; 13840];
 
 pub const SESSION: usize = 0;
 
@@ -37,39 +37,39 @@ pub const ROUND: usize = 2;
 
 const OPENING: usize = 45;
 
-pub const STAMP: usize = 61;
+pub const STAMP: usize = 181;
 
-const MARKS: usize = 101;
+const MARKS: usize = 221;
 
-pub const DESK: usize = 117;
+pub const DESK: usize = 237;
 
-pub const REQUEST: usize = 1137;
+pub const REQUEST: usize = 1257;
 
-pub const REQUEST_TIME: usize = 1159;
+pub const REQUEST_TIME: usize = 1279;
 
-pub const REPLY: usize = 1356;
+pub const REPLY: usize = 1476;
 
-pub const ENDING: usize = 1575;
+pub const ENDING: usize = 1695;
 
-pub const VERIFIER: usize = 1583;
+pub const VERIFIER: usize = 1703;
 
-pub const ROUNDS: usize = 1615;
+pub const ROUNDS: usize = 1735;
 
-pub const ITEM: usize = 1617;
+pub const ITEM: usize = 1737;
 
-pub const BOOKS: usize = 1625;
+pub const BOOKS: usize = 1745;
 
-pub const BOOK_3: usize = 4715;
+pub const BOOK_3: usize = 4835;
 
-pub const KEPT: usize = 6775;
+pub const KEPT: usize = 6895;
 
-pub const PLAN: usize = 6775;
+pub const PLAN: usize = 6895;
 
-pub const ANSWER: usize = 6786;
+pub const ANSWER: usize = 6906;
 
-pub const OLD: usize = 6787;
+pub const OLD: usize = 6907;
 
-pub const OLD_BOOKS: usize = 8412;
+pub const OLD_BOOKS: usize = 8652;
 
 // ---- changes
 
@@ -82,7 +82,7 @@ pub fn laid(from: World, at: usize, x: &[u8]) -> World {
 
 pub fn set(from: World, at: usize, x: u8) -> World {
     let mut w = from;
-    if at < 13600 {
+    if at < 13840 {
         w[at] = x;
     }
     w
@@ -90,11 +90,11 @@ pub fn set(from: World, at: usize, x: u8) -> World {
 
 // One bit of byte number k after `at` turned over.
 pub fn flip(w: World, at: usize, k: u64) -> World {
-    if at > 13600 {
+    if at > 13840 {
         return w;
     }
     let i = k as usize;
-    if i < 13600 - at {
+    if i < 13840 - at {
         return set(w, at + i, w[at + i] ^ 1);
     }
     w
@@ -157,12 +157,12 @@ fn frame_at(w: &[u8], at: usize) -> &[u8] {
 // Where the book of a node lies; a node that there is not has the place after all books.
 pub fn book_at(i: u64) -> usize {
     match i {
-        0 => 1625,
-        1 => 2655,
-        2 => 3685,
-        3 => 4715,
-        4 => 5745,
-        _ => 6775,
+        0 => 1745,
+        1 => 2775,
+        2 => 3805,
+        3 => 4835,
+        4 => 5865,
+        _ => 6895,
     }
 }
 
@@ -305,7 +305,7 @@ fn opening(op: u64, plan: &[u8], ask: u64, session: &mut [u8]) -> u32 {
 // Opens an operation, by its number.
 pub fn open(w: World, op: u64, ask: u64) -> World {
     let s: &[u8] = &w;
-    let mut session = [0u8; 117];
+    let mut session = [0u8; 237];
     take(s, SESSION, &mut session);
     let a = opening(op, part(s, PLAN, 11), ask, &mut session);
     says(laid(w, SESSION, &session), a)
@@ -324,7 +324,7 @@ pub fn owe(w: World, i: u64) -> World {
     take(s, REQUEST, &mut request);
     let a = client::pasis_owed(
         part(s, PLAN, 11),
-        part(s, SESSION, 117),
+        part(s, SESSION, 237),
         i,
         part(s, DESK, 1020),
         &mut request,
@@ -341,7 +341,7 @@ fn left(w: World, session: &[u8], desk: &[u8], item: &[u8], ending: &[u8]) -> Wo
 // The reply, heard by a writer (0) or a reader.
 pub fn hear(w: World, op: u64) -> World {
     let s: &[u8] = &w;
-    let mut session = [0u8; 117];
+    let mut session = [0u8; 237];
     let mut desk = [0u8; 1020];
     let mut item = [0u8; 8];
     let mut ending = [0u8; 42];
@@ -410,7 +410,7 @@ pub fn under(w: World, x: u64) -> World {
 // A client with no session, and books that are not made.
 fn bare() -> World {
     let blank = [BLANK; 5158];
-    laid([0u8; 13600], ITEM, &blank)
+    laid([0u8; 13840], ITEM, &blank)
 }
 
 // Five fresh books, under plan 2.

@@ -15,8 +15,7 @@ use mathlib.Core.Logic.{_⊎_, inl, inr}
 use native.Mathlib.Omega.{arith}
 use borrow.Author.Tests.{eq-eqb, ne-eqb, not-false, ltb-true}
 use lib.Dec.{eqb, ltb}
-use lib.ListN.{length, take, drop}
-use lib.Seq.{take-at}
+use lib.ListN.{length, take}
 use Rattle.octets.specs.Bytes.{num, be, over}
 use Rattle.octets.proofs.Laws.{length-part, length-be, part-part, slot-room}
 use Rattle.terms.specs.Ladder.{Rung, on, Given, _and_}
@@ -62,6 +61,7 @@ use Rattle.store.specs.Deliver.{Among}
 use Rattle.store.specs.History.{AllPass}
 use Rattle.store.proofs.Order as order
 use Rattle.store.proofs.Node as calls
+use Rattle.store.proofs.Times.{cut-off}
 use Rattle.client.specs.Held.{Passed}
 use Rattle.report.specs.Together.{NoneOf}
 
@@ -83,11 +83,6 @@ quiet-given ks l q k g = go (oneOf k ks) refl
     go false e = refl
 
 -- ---- frames
--- a frame that was written into a buffer, cut off by its length
-pub cut-off : (f y y₂ : List ℕ) (n : ℕ) → y₂ ≡ over f y → n ≡ length f → take n y₂ ≡ f
-unfolding over
-cut-off f y y₂ n e l = ap (take n) e ∙ take-at f (drop (length f) y) n (sym l)
-
 -- what a node asks of a request, and a client of a reply
 pub record AtNode (p : Plan) (S : ℕ) (f : List ℕ) : Type 0 where
   pub good : goodRequest p S f ≡ true

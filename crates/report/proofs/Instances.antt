@@ -38,7 +38,8 @@ use Rattle.standing.specs.Standing.{lengthsOk, askIn, awaitsIn, roundRules}
 use Rattle.session.specs.Reply.{awaited, isHeard, bears}
 use Rattle.session.specs.Reader.{Outcome, outcome, actOn, actFor, settled, heard, accepted, readReply, ReadReplyCall}
 use Rattle.standing.specs.declared.Stage.the-variants.{Storing}
-use Rattle.session.specs.Writer.{Leaves, leaves, timeEnd, timeTurn, acceptedWrite, writeReply, WriteReplyCall}
+use Rattle.clock.specs.Clock.{timesHeard, orMore, greatestWith}
+use Rattle.session.specs.Writer.{Leaves, leaves, kthReply, timeEnd, timeTurn, acceptedWrite, writeReply, WriteReplyCall}
 use Rattle.book.specs.Records.{timed, rising, some}
 use Rattle.book.specs.Book.{bookHead, recordsFrom, header, joined, laidAs, laidOut, headed, filled, goodBook}
 use Rattle.node.specs.declared.Answer.the-variants.{Refused, Replied}
@@ -165,7 +166,7 @@ pub after-time : Leaves
 after-time = writeReply plan start-to-write time-reply desk (7 ∷ [])
 
 still-is : after-time .said ≡ stillOpen
-unfolding after-time time-reply desk writeReply acceptedWrite timeTurn timeEnd first planOk countsOk limitsOk columnOf all recordLength lengthsOk inRange standingRules roundRules openRules every heardCount slotsFit slotFits goodReply goodFrame suits shaped forParty oneOf bodyFits awaited askIn awaitsIn isHeard num numFrom part be beOnto
+unfolding after-time time-reply desk writeReply acceptedWrite timeTurn timeEnd first planOk countsOk limitsOk columnOf all recordLength lengthsOk inRange standingRules roundRules openRules every heardCount slotsFit slotFits goodReply goodFrame suits shaped forParty oneOf bodyFits awaited askIn awaitsIn isHeard num numFrom part be beOnto kthReply greatestWith orMore timesHeard
 still-is = refl
 
 pub write-call : turns.Turn
@@ -187,7 +188,7 @@ write-so = opened-write plan ask opened-to-write desk (write-call ∷ []) opens-
 
 -- and its write round is open
 storing-is : after-time .session .round .stage ≡ Storing
-unfolding after-time time-reply desk writeReply acceptedWrite timeTurn timeEnd first planOk countsOk limitsOk columnOf all recordLength lengthsOk inRange standingRules roundRules openRules every heardCount slotsFit slotFits goodReply goodFrame suits shaped forParty oneOf bodyFits awaited askIn awaitsIn isHeard num numFrom part be beOnto
+unfolding after-time time-reply desk writeReply acceptedWrite timeTurn timeEnd first planOk countsOk limitsOk columnOf all recordLength lengthsOk inRange standingRules roundRules openRules every heardCount slotsFit slotFits goodReply goodFrame suits shaped forParty oneOf bodyFits awaited askIn awaitsIn isHeard num numFrom part be beOnto kthReply greatestWith orMore timesHeard
 storing-is = refl
 
 -- ---- a node

@@ -15,18 +15,14 @@ use Rattle.book.specs.Records.{rising, above, timed, lastOf, lastBelow}
 use Rattle.report.specs.Triple.{Triple, suchThat, each, MAX}
 use Rattle.report.specs.Figure1.{initial, stamps, RECEIVE-TIME-REQUEST, Latest, RECEIVE-READ-LATEST, PreHistory, RECEIVE-READ-PREVIOUS}
 use Rattle.report.specs.Ours.{tripleOf}
+use Rattle.store.proofs.Order.{among-first}
+use Rattle.store.proofs.Times as times
 use Rattle.report.proofs.Lists.{larger-low, larger-high}
 use Rattle.report.proofs.Triples.{stamp-none, none-is, stamp-low}
 
 -- ---- a rising list: its last is its greatest
 last-high : (x : List ℕ) (rs : List (List ℕ)) → above (stamp x) rs ≡ true → stamp x ≤ stamp (lastOf (x ∷ rs))
-unfolding above lastOf
-last-high x [] a = omega arith
-last-high x (y ∷ rs) a =
-    let q = both (ltb (stamp x) (stamp y)) (above (stamp y) rs) a in
-    let l : stamp x < stamp y = ltb-true _ _ (q .0) in
-    let h = last-high y rs (q .1) in
-    omega arith
+last-high x rs a = times.last-high x (x ∷ rs) (unfold rising in a) (among-first x x rs refl) .0
 
 module _ (p : Plan) where
   abbrev triples : List (List ℕ) → List Triple

@@ -11,6 +11,8 @@ pub mod Gathers
 pub mod Hears
 pub mod Run
 pub mod Write
+pub mod Votes
+pub mod NewTime
 pub mod Sent
 pub mod Exchange
 pub mod Sendable

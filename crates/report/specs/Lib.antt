@@ -7,6 +7,7 @@ pub mod Ours
 pub mod Decides
 pub mod Run
 pub mod WriteRun
+pub mod NewTime
 pub mod Acts
 pub mod Sent
 pub mod Together

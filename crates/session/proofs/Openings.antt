@@ -6,7 +6,7 @@ use mathlib.Core.Bool.{Bool, true, false, not}
 use mathlib.Core.List.{List}
 use native.Mathlib.Omega.{arith}
 use borrow.Author.Tests.{leb-true, not-false}
-use Rattle.terms.specs.Ladder.{first, all, _and_, _or_}
+use Rattle.terms.specs.Ladder.{first, rung, all, _and_, _or_}
 use Rattle.terms.specs.Terms.{planOk, openingOk, slotsOf}
 use Rattle.terms.specs.declared.Ask.{Ask}
 use Rattle.terms.specs.declared.Plan.{Plan}
@@ -75,8 +75,12 @@ module _ (op : Operation) (p : Plan) (a : Ask) (r : Opened) (call : OpenCall op 
         ap (λ (o : Opens). o .session)
         (call .is ∙ sym (goes-on (λ (k : ℕ). opens k (noSession op)) (opens 0 (freshOf op 1 Free a)) (openingLadder p (a .0)) refl nothing-refuses))
 
+    past : (k : ℕ) → rung k (openingLadder p (a .0)) ≡ false
+    past = clear (openingLadder p (a .0)) (none-applies (openingLadder p (a .0)) refl nothing-refuses)
+
+    pub accepted-plan : planOk p ≡ true
+    accepted-plan = not-false (planOk p) (past 1)
+
     -- it is in its ranges, with any desk
     pub accepted-in-range : (d : List ℕ) → inRange p (r .session) d ≡ true
-    accepted-in-range d =
-        let past = clear (openingLadder p (a .0)) (none-applies (openingLadder p (a .0)) refl nothing-refuses) in
-        rw accepted-session (fresh-in-range op p a d (not-false (planOk p) (past 1)) (not-false (openingOk p (a .0)) (past 13)))
+    accepted-in-range d = rw accepted-session (fresh-in-range op p a d accepted-plan (not-false (openingOk p (a .0)) (past 13)))

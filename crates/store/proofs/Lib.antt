@@ -3,6 +3,7 @@ pub mod Node
 pub mod One
 pub mod Run
 pub mod Kept
+pub mod Times
 pub mod Passed
 pub mod Books
 pub mod Instances

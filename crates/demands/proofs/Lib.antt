@@ -1,6 +1,7 @@
 pub mod Edges
 pub mod Unique
 pub mod Wishes
+pub mod NewTime
 pub mod Hosts
 pub mod Demand1
 pub mod Refusals

@@ -21,4 +21,5 @@ pub mod Together
 pub mod Instances
 pub mod RunInstances
 pub mod TogetherInstances
+pub mod NewTimeInstances
 pub mod Examples

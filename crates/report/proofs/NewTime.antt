@@ -163,17 +163,21 @@ spent-by-an-honest-reply p w lies few =
     (run-apart p (w .opened .session) (w .desk) (w .first ∷ w .rest)) (q .1) lies few)
 
 -- ---- where b is 0
-max-enough : (x : ℕ) (l : List ℕ) → 1 ≤ orMore (MAX (x ∷ l)) (x ∷ l)
-unfolding orMore MAX
-max-enough x l = go (leb (MAX l) x) refl (rest l)
-  where
-    rest : (m : List ℕ) → (0 < MAX m) → 1 ≤ orMore (MAX m) m
-    rest [] h = absurd (omega arith)
-    rest (y ∷ m) h = max-enough y m
+some-there : (l : List ℕ) → 0 < MAX l → 1 ≤ length l
+unfolding MAX
+some-there [] h = h
+some-there (x ∷ l) h = omega arith
 
-    go : (t : Bool) → leb (MAX l) x ≡ t → (0 < MAX l → 1 ≤ orMore (MAX l) l) → 1 ≤ cond (leb (larger (MAX l) x) x) 1 0 + orMore (larger (MAX l) x) l
+max-enough : (l : List ℕ) → 1 ≤ length l → 1 ≤ orMore (MAX l) l
+unfolding orMore MAX
+max-enough [] h = absurd (omega arith)
+max-enough (x ∷ l) h = go (leb (MAX l) x) refl (max-enough l)
+  where
+    go : (t : Bool) → leb (MAX l) x ≡ t → (1 ≤ length l → 1 ≤ orMore (MAX l) l) → 1 ≤ cond (leb (larger (MAX l) x) x) 1 0 + orMore (larger (MAX l) x) l
     go true e ih = rw (larger-high (MAX l) x (leb-true (MAX l) x e), le-leb x x (omega arith)) (omega arith)
-    go false e ih = let h = leb-false (MAX l) x e in rw (larger-low (MAX l) x (omega arith)) (omega (arith, ih (omega arith)))
+    go false e ih =
+        let k = leb-false (MAX l) x e in
+        rw (larger-low (MAX l) x (omega arith)) (omega (arith, ih (some-there l (omega arith))))
 
 max-most : (l : List ℕ) (v : ℕ) → 1 ≤ orMore v l → v ≤ MAX l
 unfolding orMore MAX
@@ -189,7 +193,7 @@ unfolding greatestWith MAX
 first-greatest [] = refl
 first-greatest (x ∷ l) =
     kth-one 1 (x ∷ l) (kthGreatest 1 (x ∷ l)) (MAX (x ∷ l)) (kth-is 1 (x ∷ l) (omega arith) (omega arith))
-    (record { enough = max-enough x l; greatest = λ v h. max-most (x ∷ l) v h })
+    (record { enough = max-enough (x ∷ l) (omega arith); greatest = λ v h. max-most (x ∷ l) v h })
 
 pub figure-2-itself : (p : Plan) → p .b ≡ 0 → family p ≡ reported p
 figure-2-itself p e = λ i. familyWith (λ (l : List ℕ). (ap (λ (b : ℕ). kthGreatest (b + 1) l) e ∙ first-greatest l) i) p

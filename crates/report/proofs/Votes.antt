@@ -29,6 +29,11 @@ unfolding numberOf
 number-same a b zero e = refl
 number-same a b (suc n) e = (λ i. one-if (e n (omega arith) i) + number-same a b n (λ k h. e k (omega arith)) i)
 
+number-none : (n : ℕ) → numberOf (λ (k : ℕ). false) n ≡ 0
+unfolding numberOf
+number-none zero = refl
+number-none (suc n) = omega (arith, number-none n)
+
 -- of two tests some hold together
 number-both : (a b : ℕ → Bool) (n : ℕ) → numberOf a n + numberOf b n ≤ n + numberOf (λ (k : ℕ). a k and b k) n
 unfolding numberOf
@@ -127,14 +132,10 @@ not-reaching v (x ∷ R) k e = go (eqb (x .S) k) e (not-reaching v R k)
 
 reach-count : (v n : ℕ) (R : List Clock) → Apart n R → numberOf (reaching v R) n ≡ orMore v (Times R)
 unfolding reaching Times each orMore
-reach-count v n [] a = none n
-  where
-    none : (m : ℕ) → numberOf (λ (k : ℕ). false) m ≡ 0
-    none zero = unfold numberOf in refl
-    none (suc m) = unfold numberOf in omega (arith, none m)
+reach-count v n [] a = number-none n
 reach-count v n (x ∷ R) a =
-    number-one (reaching v R) (x .S) (leb v (x .Time)) (not-reaching v R (x .S) (a .1 .0)) n (a .0)
-    ∙ ap (λ (m : ℕ). one-if (leb v (x .Time)) + m) (reach-count v n R (a .1 .1))
+    number-one (reaching v R) (x .S) (leb v (x .Time)) (not-reaching v R (x .S) (a .1)) n (a .0)
+    ∙ ap (λ (m : ℕ). one-if (leb v (x .Time)) + m) (reach-count v n R (a .2))
 
 record Found (R : List Clock) (k : ℕ) : Type 0 where
   reply : Clock

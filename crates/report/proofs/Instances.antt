@@ -2,17 +2,18 @@
 -- time 1, whose hashes antt computes. A fresh book takes it (executed); a read that hears it is done with its timestamp in one round (read-so); a
 -- write that hears a time goes on to its write round (write-so). Assumes nothing.
 use Prim.{tt}
-use Prim.Native.Nat.{ℕ, _+_}
+use Prim.Native.Nat.{ℕ, _+_, _<_}
 use mathlib.Core.Path.{_≡_, refl, sym, ap, _∙_, subst}
 use mathlib.Core.Bool.{true, cond}
 use mathlib.Core.List.{List, [], _∷_}
 use mathlib.Core.Logic.{inl, inr}
+use native.Mathlib.Omega.{arith}
 use lib.Dec.{ltb}
-use lib.ListN.{length, replicate}
+use lib.ListN.{length, replicate, take}
 use Rattle.octets.specs.Bytes.{part, put, over, num, numFrom, be, beOnto, alike}
 use Rattle.sha256.specs.Sha256.{sha256, after, compressOf, addedOf, roundsOf, roundOf, T1, T2, scheduleOf, words, padding, bigEndian, K}
 use Rattle.terms.specs.Ladder.{first, all}
-use Rattle.terms.specs.Stamp.{stampAt, stampNumber, then}
+use Rattle.terms.specs.Stamp.{time, stampAt, stampNumber, then}
 use Rattle.terms.specs.Terms.{planOk, countsOk, limitsOk, columnOf, recordLength, classOf, decided}
 use Rattle.terms.specs.declared.Ask.{Ask}
 use Rattle.terms.specs.declared.Plan.{Plan}
@@ -20,7 +21,7 @@ use Rattle.terms.specs.declared.Member.the-variants.{Repairable}
 use Rattle.terms.specs.declared.Clients.the-variants.{Byzantine}
 use Rattle.terms.specs.declared.Refusal.the-variants.{WrongBook}
 use Rattle.fragments.specs.Fragments.{among, regenerated}
-use Rattle.frame.specs.Frame.{timeReplyKind, writeRequestKind, readReplyKind, kindOf, frame, goodRequest, shaped, bodyFits, forParty, oneOf, suits, goodFrame, goodReply}
+use Rattle.frame.specs.Frame.{timeRequestKind, timeReplyKind, bodyOf, writeRequestKind, readReplyKind, kindOf, frame, goodRequest, shaped, bodyFits, forParty, oneOf, suits, goodFrame, goodReply}
 use Rattle.record.specs.Record.{fragmentHash, hashesOk, timeZero, prefixOf}
 use Rattle.record.specs.Desk.{row, crossMade}
 use Rattle.rounds.specs.declared.Bound.the-variants.{Free}
@@ -40,8 +41,8 @@ use Rattle.session.specs.Reader.{Outcome, outcome, actOn, actFor, settled, hear
 use Rattle.standing.specs.declared.Stage.the-variants.{Storing}
 use Rattle.clock.specs.Clock.{timesHeard, orMore, greatestWith}
 use Rattle.session.specs.Writer.{Leaves, leaves, kthReply, timeEnd, timeTurn, acceptedWrite, writeReply, WriteReplyCall}
-use Rattle.book.specs.Records.{timed, rising, some}
-use Rattle.book.specs.Book.{bookHead, recordsFrom, header, joined, laidAs, laidOut, headed, filled, goodBook}
+use Rattle.book.specs.Records.{timed, rising, above, some, lastOf, insertRecord}
+use Rattle.book.specs.Book.{bookHead, recordsFrom, header, joined, laidAs, laidOut, headed, filled, goodBook, nodeOf}
 use Rattle.node.specs.declared.Answer.the-variants.{Refused, Replied}
 use Rattle.node.specs.Node as node
 use Rattle.node.specs.Node.{NodeCall, served, answered, sends, replyTo, replied, timeFails, hashFails, otherHeld, noRoom}
@@ -49,13 +50,16 @@ use Rattle.node.specs.declared.Made.the-variants.{Fresh}
 use Rattle.node.specs.Fresh.{FreshCall, freshened}
 use Rattle.store.specs.History.{Call}
 use Rattle.store.proofs.Node as theorems
-use Rattle.report.specs.Triple.{Message, Same}
+use Rattle.report.specs.Triple.{Message, Same, In}
+use Rattle.report.specs.Figure2.{Clock, in-set, GATHERED}
 use Rattle.report.specs.Figure1.{INITIALIZE}
 use Rattle.report.specs.Ours.{family, verifierIn, history}
 use Rattle.client.specs.Turns as turns
 use Rattle.terms.proofs.Small.{small, small-octets}
 use Rattle.report.specs.Run.{received, Polled, unpolled, messageOf, polls, polledOver, EachTells, AllFull, Apart, AllApart}
-use Rattle.report.specs.WriteRun.{noneOf, untimed, EachWrites}
+use Rattle.report.specs.WriteRun.{noneOf, untimed, clockOf, timing, EachWrites}
+use Rattle.report.specs.NewTime.{numberOf, ToWrite, newTimeOf, timeReplies, AnswersAfter}
+use Rattle.report.proofs.NewTime.{passes-what-is-complete}
 use Rattle.report.proofs.Node.{write-acts, fresh-run}
 use Rattle.report.proofs.Run.{opened-read}
 use Rattle.report.proofs.Write.{opened-write}
@@ -156,7 +160,7 @@ unfolding opened-to-write openWith first planOk countsOk limitsOk columnOf all
 opens-to-write = record { is = refl }
 
 time-reply : List ℕ
-time-reply = frame timeReplyKind 0 5 (be 8 3)
+time-reply = frame timeReplyKind 0 5 (be 8 1)
 
 time-small : small time-reply ≡ true
 unfolding time-reply small be beOnto
@@ -267,3 +271,90 @@ node-so =
     fresh-run plan 0 (replicate (bookHead 1 + 73) 0) book (other-call ∷ node-call ∷ []) made-so
     (small-octets book book-small, record { is = sym other-said }, (small-octets book book-small, node-met, tt))
     (small-octets request request-small, (small-octets request request-small, tt))
+
+-- ---- the new time: node 0, which executed that request, of time 1, tells its time to a write, which comes to its write round
+time-request : List ℕ
+time-request = frame timeRequestKind 0 5 []
+
+pub asked : node.ServedOutcome
+asked = served plan time-request (taken .book) (replicate 88 0)
+
+asked-is : (asked .answer ≡ replied 23) × (take 23 (asked .reply) ≡ time-reply) × (small (taken .book) ≡ true)
+unfolding asked time-request time-reply small taken request book rec served first planOk countsOk limitsOk columnOf all recordLength node.bookReplyOk goodBook headed filled rising above timed recordsFrom goodRequest goodFrame suits shaped forParty oneOf bodyFits timeFails hashFails otherHeld noRoom some fragmentHash prefixOf hashesOk timeZero answered sends replyTo node.bookAfter insertRecord lastOf over laidAs header joined num numFrom part be beOnto alike sha256 after compressOf addedOf roundsOf roundOf T1 T2 scheduleOf words padding bigEndian K
+asked-is = (refl, refl, refl)
+
+asked-met : NodeCall plan time-request (taken .book) (replicate 88 0) (Replied 23) (asked .book) (asked .reply)
+unfolding asked
+asked-met = record { is = λ j. node.servedOutcome (sym (asked-is .0) j) (asked .book) (asked .reply) }
+
+is-time : kindOf time-request ≡ 1
+unfolding time-request num numFrom part be beOnto
+is-time = refl
+
+of-node-0 : nodeOf book ≡ 0
+unfolding book over laidAs header joined num numFrom part be beOnto
+of-node-0 = refl
+
+of-time-1 : (time (bodyOf request) ≡ 1) × (clockOf time-reply ≡ record { S = 0; Time = 1 })
+unfolding request time-reply rec num numFrom part be beOnto
+of-time-1 = (refl, refl)
+
+-- the theorem on complete writes at this node and this write
+answers-after : AnswersAfter plan 1 (record { S = 0; Time = 1 })
+answers-after =
+    record {
+      book = book;
+      good = added .book;
+      own = of-node-0;
+      bytes = small-octets book book-small;
+      write = request;
+      is-write = kind-is;
+      of = of-time-1 .0;
+      room = replicate 88 0;
+      size = 55;
+      bookLeft = taken .book;
+      roomLeft = taken .reply;
+      executed = node-met;
+      later = [];
+      history = tt;
+      last-bytes = small-octets (taken .book) (asked-is .2);
+      request = time-request;
+      is-time = is-time;
+      buffer = replicate 88 0;
+      length = 23;
+      bookAfter = asked .book;
+      bufferLeft = asked .reply;
+      answered = asked-met;
+      is = ap clockOf (asked-is .1) ∙ of-time-1 .1;
+    }
+
+pub to-write : ToWrite plan
+to-write =
+    record {
+      ask = ask;
+      opened = opened-to-write;
+      opens = opens-to-write;
+      accepted = unfold opened-to-write in refl;
+      desk = desk;
+      turns = write-call ∷ [];
+      calls = unfold opened-to-write in write-calls;
+      stores = unfold write-call in storing-is;
+    }
+
+-- the one time reply that it counted
+replies-are : timeReplies to-write ≡ record { S = 0; Time = 1 } ∷ []
+unfolding to-write write-call opened-to-write timing noneOf in-set GATHERED time-reply desk planOk countsOk limitsOk columnOf all recordLength lengthsOk inRange standingRules roundRules openRules every heardCount slotsFit slotFits goodReply goodFrame suits shaped forParty oneOf bodyFits awaited askIn awaitsIn num numFrom part be beOnto
+replies-are = refl
+
+executed-by : numberOf (λ (k : ℕ). true) 1 ≡ 1
+unfolding numberOf
+executed-by = refl
+
+pub passed-so : 1 < newTimeOf to-write
+passed-so =
+    passes-what-is-complete plan to-write (λ (k : ℕ). true) 1 (omega (arith, executed-by))
+    (λ x i e. only x (subst (In x) replies-are i))
+  where
+    only : (x : Clock) → In x (record { S = 0; Time = 1 } ∷ []) → AnswersAfter plan 1 x
+    only x (inl q) = subst (AnswersAfter plan 1) (sym q) answers-after
+    only x (inr q) = absurd q

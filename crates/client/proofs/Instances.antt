@@ -6,3 +6,4 @@ pub mod Stamp
 pub mod Done
 pub mod Round
 pub mod Orders
+pub mod Times

@@ -38,7 +38,7 @@ module _ (p : Plan) (s : Session) (f d i : List ℕ) where
   one-ladder = refl
 
   module _ (n : None (writeLadder p s f d (length i))) where
-    is-accepted : writeReply p s f d i ≡ acceptedWrite p s f d i
+    pub is-accepted : writeReply p s f d i ≡ acceptedWrite p s f d i
     is-accepted = one-ladder ∙ ladders.is-passed (writeLadder p s f d (length i)) refuse (acceptedWrite p s f d i) n
 
     -- ---- the write round

@@ -1,6 +1,7 @@
 pub mod Endings
 pub mod Turns
 pub mod Round
+pub mod TimeRound
 pub mod Repair
 pub mod Sessions
 pub mod Asks

@@ -1,13 +1,14 @@
 -- The replies of a read round in whichever order they come: the words of the third demand, for read rounds. "From one session, desk and
 -- sheet buffer, a read round that opens there and hears the same N - t acceptable replies, one a node, ends alike in whichever order they
--- come." The sheet buffer is document 01's item buffer.
---   roundAt, ending, saidInTurn   a round as it opens; reply frames heard one after another: what the last call leaves, the saidInTurn in turn
+-- come." The sheet buffer is document 01's item buffer. What is said of calls of any kind serves time rounds too (TimeRound.antt).
+--   ReplyCall, endingBy, saidBy   a reply call of any kind; reply frames heard one after another: what the last call leaves, the answers in turn
+--   roundAt, ending, saidInTurn   a round as it opens; the same two of a reader's calls
 --   openUntil                 answers of which all but the last are "open"
 --   RoundOpens                a read round that opens
 --   Accepted                  no answer of a list is a refusal
---   Acceptable                a reply is accepted where the round opens
+--   AcceptableBy, Acceptable  a reply is accepted where the round opens, by a call of any kind, by a reader's
 --   Each, OneANode            what holds of each reply of a list; no two of them are of one node
---   allMarked, allSlotted     the session and the desk after all of a list
+--   allOf, allMarked, allSlotted   what all of a list leave; of a session, of a desk
 --   times, SameReplies        how often a reply comes; the same replies, in whichever order
 --   Lent, repliesOf, answersOf, leftBy   the calls themselves: the item that each is lent; replies, answers and last outcome
 -- Assumes nothing.
@@ -30,14 +31,25 @@ use Rattle.client.specs.Turns.{Turn}
 abbrev pub roundAt : Session → List ℕ → List ℕ → Outcome
 roundAt s d i = outcome stillOpen s d i
 
--- what the last call leaves: its answer, the session, the desk and the item; where there is no call, what the round opened with
-unfoldable pub ending : Plan → Outcome → List (List ℕ) → Outcome
-ending p o [] = o
-ending p o (f ∷ fs) = ending p (readReply p (o .session) f (o .desk) (o .item)) fs
+-- a call: session, reply, desk and item, and what it hands back
+abbrev pub ReplyCall : Type 0
+ReplyCall = Session → List ℕ → List ℕ → List ℕ → Outcome
 
-unfoldable pub saidInTurn : Plan → Outcome → List (List ℕ) → List Said
-saidInTurn p o [] = []
-saidInTurn p o (f ∷ fs) = readReply p (o .session) f (o .desk) (o .item) .said ∷ saidInTurn p (readReply p (o .session) f (o .desk) (o .item)) fs
+-- what the last call leaves: its answer, the session, the desk and the item; where there is no call, what the round opened with
+unfoldable pub endingBy : ReplyCall → Outcome → List (List ℕ) → Outcome
+endingBy c o [] = o
+endingBy c o (f ∷ fs) = endingBy c (c (o .session) f (o .desk) (o .item)) fs
+
+unfoldable pub saidBy : ReplyCall → Outcome → List (List ℕ) → List Said
+saidBy c o [] = []
+saidBy c o (f ∷ fs) = c (o .session) f (o .desk) (o .item) .said ∷ saidBy c (c (o .session) f (o .desk) (o .item)) fs
+
+-- of a reader
+abbrev pub ending : Plan → Outcome → List (List ℕ) → Outcome
+ending p o fs = endingBy (readReply p) o fs
+
+abbrev pub saidInTurn : Plan → Outcome → List (List ℕ) → List Said
+saidInTurn p o fs = saidBy (readReply p) o fs
 
 -- every answer but the last is "open"
 abbrev pub openUntil : ℕ → Said → List Said
@@ -57,8 +69,11 @@ Accepted [] = Unit {0}
 Accepted (a ∷ rest) = (isRefused a ≡ false) × Accepted rest
 
 -- accepted as the first reply of the round
+abbrev pub AcceptableBy : ReplyCall → Session → List ℕ → List ℕ → List ℕ → Type 0
+AcceptableBy c s d i f = isRefused (c s f d i .said) ≡ false
+
 abbrev pub Acceptable : Plan → Session → List ℕ → List ℕ → List ℕ → Type 0
-Acceptable p s d i f = isRefused (readReply p s f d i .said) ≡ false
+Acceptable p s d i f = AcceptableBy (readReply p) s d i f
 
 abbrev pub Each : (List ℕ → Type 0) → List (List ℕ) → Type 0
 Each P [] = Unit {0}
@@ -68,14 +83,17 @@ abbrev pub OneANode : List (List ℕ) → Type 0
 OneANode [] = Unit {0}
 OneANode (f ∷ fs) = Each (λ (g : List ℕ). frameNode g ≡ frameNode f → ⊥) fs × OneANode fs
 
--- ---- what accepted replies leave: each a mark, and a record in its slot; "A first triple leaves its slot"
-unfoldable pub allMarked : Plan → Session → List (List ℕ) → Session
-allMarked p s [] = s
-allMarked p s (f ∷ fs) = allMarked p (afterReply p s f) fs
+-- ---- what accepted replies leave, one step each
+unfoldable pub allOf : {A : Type 0} → (A → List ℕ → A) → A → List (List ℕ) → A
+allOf step x [] = x
+allOf step x (f ∷ fs) = allOf step (step x f) fs
 
-unfoldable pub allSlotted : Plan → List ℕ → List (List ℕ) → List ℕ
-allSlotted p d [] = d
-allSlotted p d (f ∷ fs) = allSlotted p (deskAfter p f d) fs
+-- of a read round: each a mark, and a record in its slot; "A first triple leaves its slot"
+abbrev pub allMarked : Plan → Session → List (List ℕ) → Session
+allMarked p s fs = allOf (afterReply p) s fs
+
+abbrev pub allSlotted : Plan → List ℕ → List (List ℕ) → List ℕ
+allSlotted p d fs = allOf (λ (x f : List ℕ). deskAfter p f x) d fs
 
 -- ---- the same replies
 unfoldable pub times : List ℕ → List (List ℕ) → ℕ

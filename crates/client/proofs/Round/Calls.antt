@@ -12,13 +12,13 @@ use Rattle.standing.specs.Standing.{replies}
 use Rattle.session.specs.Session.{Said, saidOf}
 use Rattle.session.specs.Reader.{Outcome, outcome, readReply}
 use Rattle.client.specs.Turns.{Turn, ReadTurn, Calls}
-use Rattle.client.specs.Round.{roundAt, ending, saidInTurn, RoundOpens, Accepted, Acceptable, Each, OneANode, SameReplies, Lent, repliesOf, answersOf, leftBy}
+use Rattle.client.specs.Round.{roundAt, endingBy, saidBy, ending, saidInTurn, RoundOpens, Accepted, Acceptable, Each, OneANode, SameReplies, Lent, repliesOf, answersOf, leftBy}
 use Rattle.client.proofs.Round.AnyOrder.{in-turn, any-order-read, any-order-answers}
 
 -- what calls that met their contracts leave and answer is what the definition gives
 calls-are : (p : Plan) (ts : List Turn) (o : Outcome) → Calls (ReadTurn p) (o .session) (o .desk) ts → Lent (o .item) ts
     → (leftBy o ts ≡ ending p o (repliesOf ts)) × (answersOf ts ≡ saidInTurn p o (repliesOf ts))
-unfolding ending saidInTurn
+unfolding endingBy saidBy
 calls-are p [] o h l = (refl, refl)
 calls-are p (t ∷ ts) o h l =
     let u : Outcome = outcome (saidOf (t .took .answer)) (t .took .session) (t .deskLeft) (t .itemLeft) in

@@ -1,4 +1,4 @@
--- What an accepted reply of a read round leaves: one mark more (count-marked, heard-same, heard-other), the same asked of other replies
+-- What an accepted reply of a read round leaves: one mark more (count-marked, heard-other), the same asked of other replies
 -- (fits-later, fits-before), and a session and a desk that are in their ranges while the round is open (next). Assumes nothing.
 use mathlib.Core.Path.{_≡_, refl, sym, ap, _∙_}
 use mathlib.Core.Bool.{Bool, true, false, cond}
@@ -6,9 +6,7 @@ use mathlib.Core.List.{List}
 use Prim.Native.Nat.{ℕ, _+_, _*_, _<_}
 use native.Mathlib.Omega.{arith}
 use borrow.Author.Tests.{not-false}
-use lib.Dec.{eqb}
-use lib.ListN.{length, length-set}
-use lib.Seq.{getD-set-same, getD-set-other}
+use lib.ListN.{length}
 use Rattle.terms.specs.Terms.{recordLength, slotsOf}
 use Rattle.terms.specs.Stamp.{stamp}
 use Rattle.terms.specs.declared.Plan.{Plan}
@@ -17,9 +15,7 @@ use Rattle.frame.specs.Frame.{frameNode, bodyOf}
 use Rattle.frame.proofs.Frames.{reply-is}
 use Rattle.rounds.specs.declared.Heard.{Heard}
 use Rattle.rounds.specs.declared.Heard.the-variants.{First, Record}
-use Rattle.rounds.specs.declared.Mark.{Mark}
-use Rattle.rounds.specs.Rounds.{heardCount, bitOf, markOf, unheard, underOf, slotsFit}
-use Rattle.rounds.proofs.Laws.{count-set, not-heard}
+use Rattle.rounds.specs.Rounds.{heardCount, bitOf, underOf, slotsFit}
 use Rattle.session.specs.declared.Session.{Session}
 use Rattle.session.specs.Session.{markedOf, roundOpen}
 use Rattle.standing.specs.Standing.{lengthsOk, askIn, awaitsIn}
@@ -28,36 +24,26 @@ use Rattle.standing.proofs.Rules.{lengths-are}
 use Rattle.session.proofs.Made.{rest-set}
 use Rattle.session.proofs.Slots.{slots-after}
 use Rattle.client.specs.Endings.{heardAs, afterReply, deskAfter}
+use Rattle.client.proofs.Round.Run.{one-more, others-stay}
 use Rattle.client.proofs.Round.Order.{length-after}
 use Rattle.client.proofs.Round.Reply.{Fits, Ready, Taken}
 
 -- ---- marks
-bit-mark : (p : Plan) (f : List ℕ) → bitOf (heardAs p f) ≡ 1
+pub bit-mark : (p : Plan) (f : List ℕ) → bitOf (heardAs p f) ≡ 1
 bit-mark p f = go (bears p f)
   where
     go : (t : Bool) → bitOf (cond t Record First) ≡ 1
     go true = refl
     go false = refl
 
-module _ (p : Plan) (s : Session) (f : List ℕ) (l : length (s .marks) ≡ 16) (h : frameNode f < 16) where
-  pub count-marked : isHeard s (frameNode f) ≡ false → heardCount (afterReply p s f .marks) ≡ heardCount (s .marks) + 1
-  unfolding isHeard
-  count-marked e =
-      count-set (s .marks) (frameNode f) (record { is = heardAs p f }) (omega arith) (not-heard (markOf (s .marks) (frameNode f)) e) (bit-mark p f) ∙ omega arith
+pub count-marked : (p : Plan) (s : Session) (f : List ℕ) → length (s .marks) ≡ 16 → frameNode f < 16 → isHeard s (frameNode f) ≡ false
+    → heardCount (afterReply p s f .marks) ≡ heardCount (s .marks) + 1
+unfolding isHeard
+count-marked p s f l h e = one-more (s .marks) (frameNode f) (heardAs p f) (bit-mark p f) (omega arith) e
 
-  pub length-marked : length (afterReply p s f .marks) ≡ 16
-  length-marked = length-set (s .marks) (frameNode f) (record { is = heardAs p f }) ∙ l
-
-  -- the node is heard now, and no other
-  pub heard-same : isHeard (afterReply p s f) (frameNode f) ≡ true
-  unfolding isHeard
-  heard-same =
-      ap (λ (m : Mark). eqb (bitOf (m .is)) 1) (getD-set-same (s .marks) (frameNode f) (record { is = heardAs p f }) unheard (omega arith))
-      ∙ ap (λ (n : ℕ). eqb n 1) (bit-mark p f)
-
-  pub heard-other : (k : ℕ) → (k ≡ frameNode f → ⊥) → isHeard (afterReply p s f) k ≡ isHeard s k
-  unfolding isHeard
-  heard-other k n = ap (λ (m : Mark). eqb (bitOf (m .is)) 1) (getD-set-other (s .marks) (frameNode f) k (record { is = heardAs p f }) unheard n)
+pub heard-other : (p : Plan) (s : Session) (f : List ℕ) (k : ℕ) → (k ≡ frameNode f → ⊥) → isHeard (afterReply p s f) k ≡ isHeard s k
+unfolding isHeard
+heard-other p s f k n = others-stay (s .marks) (frameNode f) (heardAs p f) k n
 
 -- a mark changes nothing of what the round asks of another reply
 pub fits-later : (p : Plan) (s : Session) (k : ℕ) (h : Heard) (f : List ℕ) → Fits p s f → Fits p (markedOf s k h) f

@@ -19,7 +19,7 @@ use Rattle.session.specs.declared.Session.{Session}
 use Rattle.session.specs.Reply.{bears}
 use Rattle.session.proofs.Slots.{long-body, long-after}
 use Rattle.client.specs.Endings.{heardAs, afterReply, deskAfter}
-use Rattle.client.specs.Round.{Each, OneANode, allMarked, allSlotted}
+use Rattle.client.specs.Round.{Each, OneANode, allOf, allMarked, allSlotted}
 use Rattle.terms.proofs.Small.{strict}
 use Rattle.client.proofs.Round.Swaps.{Reordered, same, swap, keep, chain, each-kept, one-kept}
 
@@ -57,6 +57,15 @@ slots-comm d x y a b n r ha hb ne l lx ly = go (ltb a b) refl
         let w = fits a ha in
         sym (put-comm d (b * r) y (a * r) x (omega arith) (omega arith))
 
+-- ---- steps that commute two by two, of different nodes, come to the same in every order
+pub same-all : {A : Type 0} (step : A → List ℕ → A) → ((x : A) (f g : List ℕ) → (frameNode g ≡ frameNode f → ⊥) → step (step x f) g ≡ step (step x g) f)
+    → {l m : List (List ℕ)} → Reordered l m → (x : A) → OneANode l → allOf step x l ≡ allOf step x m
+unfolding allOf
+same-all step c same x a = refl
+same-all {A} step c (swap f g {l}) x a = ap (λ (y : A). allOf step y l) (c x f g (a .0 .0))
+same-all step c (keep f r) x a = same-all step c r (step x f) (a .1)
+same-all step c (chain r q) x a = same-all step c r x a ∙ same-all step c q x (one-kept r a)
+
 -- ---- two replies
 marks-comm : (p : Plan) (s : Session) (f g : List ℕ) → (frameNode g ≡ frameNode f → ⊥) → afterReply p (afterReply p s f) g ≡ afterReply p (afterReply p s g) f
 marks-comm p s f g n = ap (withMarks s) (set-comm (s .marks) (frameNode f) (frameNode g) (record { is = heardAs p f }) (record { is = heardAs p g }) (λ e. n (sym e)))
@@ -87,18 +96,14 @@ module _ (p : Plan) where
 
   -- ---- all replies
   pub same-marks : {l m : List (List ℕ)} → Reordered l m → (s : Session) → OneANode l → allMarked p s l ≡ allMarked p s m
-  unfolding allMarked
-  same-marks same s a = refl
-  same-marks (swap f g {l}) s a = ap (λ (x : Session). allMarked p x l) (marks-comm p s f g (a .0 .0))
-  same-marks (keep f r) s a = same-marks r (afterReply p s f) (a .1)
-  same-marks (chain r q) s a = same-marks r s a ∙ same-marks q s (one-kept r a)
+  same-marks r s a = same-all (afterReply p) (marks-comm p) r s a
 
   abbrev Low : List (List ℕ) → Type 0
   Low = Each (λ (f : List ℕ). frameNode f < p .n)
 
   pub same-slots : {l m : List (List ℕ)} → Reordered l m → (d : List ℕ) → length d ≡ p .n * recordLength p → OneANode l → Low l
       → allSlotted p d l ≡ allSlotted p d m
-  unfolding allSlotted
+  unfolding allOf
   same-slots same d e a h = refl
   same-slots (swap f g {l}) d e a h = ap (λ (x : List ℕ). allSlotted p x l) (desks-comm d f g (h .0) (h .1 .0) (a .0 .0) e)
   same-slots (keep f r) d e a h = same-slots r (deskAfter p f d) (length-after d f (h .0) e) (a .1) (h .1)

@@ -1,5 +1,5 @@
--- DEMAND 3. Order of arrival does not matter: at the nodes' books (books-in-any-order), and in a read round (replies-in-any-order).
--- Assumes nothing.
+-- DEMAND 3. Order of arrival does not matter: at the nodes' books (books-in-any-order), and in a read round (replies-in-any-order); nor does it in a time
+-- round, whose replies decide the new time (times-in-any-order; document 02, Q-2). Assumes nothing.
 use Prim.Native.Nat.{ℕ, _<_}
 use mathlib.Core.Path.{_≡_}
 use mathlib.Core.List.{List}
@@ -8,10 +8,14 @@ use Rattle.terms.specs.declared.Plan.{Plan}
 use Rattle.session.specs.declared.Session.{Session}
 use Rattle.standing.specs.Standing.{replies}
 use Rattle.store.specs.Deliver.{Delivery, Setting, delivered, finalBook, Contents}
-use Rattle.client.specs.Turns.{Turn, ReadTurn, Calls}
+use Rattle.session.specs.Session.{stillOpen}
+use Rattle.session.specs.Writer.{leaves}
+use Rattle.client.specs.Turns.{Turn, ReadTurn, WriteTurn, Calls}
 use Rattle.client.specs.Round.{roundAt, RoundOpens, Acceptable, Each, OneANode, SameReplies, Lent, repliesOf, answersOf, leftBy}
+use Rattle.client.specs.TimeRound.{TimeRoundOpens, AcceptableTime, LentEach, lastLeaves}
 use Rattle.store.proofs.Books.{every-book, what-is-left, any-order}
 use Rattle.client.proofs.Round.Calls.{any-order-acceptable-calls}
+use Rattle.client.proofs.Round.Times.{any-order-times}
 
 -- "Take good books and a set of write requests. Each book and reply buffer has room, and at one node no two requests that pass the checks,
 -- and no such request and held record, share a timestamp but not the record (Setting). Then delivering all of them, in any order and with
@@ -31,3 +35,11 @@ pub replies-in-any-order : (p : Plan) (s : Session) (desk item : List ℕ) (one 
     → OneANode (repliesOf one) → SameReplies (repliesOf one) (repliesOf other)
     → (leftBy (roundAt s desk item) other ≡ leftBy (roundAt s desk item) one) × (answersOf other ≡ answersOf one)
 replies-in-any-order = any-order-acceptable-calls
+
+-- The same of a time round: from one session and desk, a time round that opens there and hears the same N - t acceptable replies, one a node, each call lent
+-- the same item, ends alike in whichever order they come: the same answers in turn, and at the end the same session and desk.
+pub times-in-any-order : (p : Plan) (s : Session) (desk item : List ℕ) (one other : List Turn) → TimeRoundOpens s → Calls (WriteTurn p) s desk one → LentEach item one
+    → Calls (WriteTurn p) s desk other → LentEach item other → length (repliesOf one) ≡ replies p → Each (AcceptableTime p s desk item) (repliesOf one)
+    → OneANode (repliesOf one) → SameReplies (repliesOf one) (repliesOf other)
+    → (lastLeaves (leaves stillOpen s desk) other ≡ lastLeaves (leaves stillOpen s desk) one) × (answersOf other ≡ answersOf one)
+times-in-any-order = any-order-times

@@ -1,18 +1,17 @@
 -- The theorems on the new time at runs of calls. Document 02, Q-2: "Replies 2^64-1, 9, 9, 4 with b = 1 now give 10."
 --   ten-so near-so     a write on five nodes, b 1, of which node 0 lies and tells 2^64-1: it stores at 10, at most one above an honest reply
 --   spent-so           node 1 tells it too, and is taken for honest: the clock is spent, by an honest reply
---   passed-so          the node of Instances.antt, which executed a write of time 1, tells its time; the next write is above it
+-- That a node tells the time of what it executed, and the next write is above it: passed-so of Instances.antt.
 -- Assumes nothing.
 use Prim.{tt}
-use Prim.Native.Nat.{ℕ, _≤_, _<_}
-use mathlib.Core.Path.{_≡_, refl, sym, ap, _∙_, subst}
+use Prim.Native.Nat.{ℕ, _+_, _≤_}
+use mathlib.Core.Path.{_≡_, refl}
 use mathlib.Core.Bool.{Bool, true}
 use mathlib.Core.List.{List, [], _∷_}
-use mathlib.Core.Logic.{inl, inr}
 use native.Mathlib.Omega.{arith}
-use lib.Dec.{eqb, ltb, lit<}
-use lib.ListN.{replicate, take}
-use Rattle.octets.specs.Bytes.{part, num, numFrom, be, beOnto, over}
+use lib.Dec.{eqb, lit<}
+use lib.ListN.{replicate}
+use Rattle.octets.specs.Bytes.{part, num, numFrom, be, beOnto}
 use Rattle.terms.specs.Ladder.{first, all}
 use Rattle.terms.specs.Stamp.{top, stampAt}
 use Rattle.terms.specs.Terms.{planOk, countsOk, limitsOk, columnOf, recordLength}
@@ -148,3 +147,40 @@ one-lies = omega arith
 
 pub near-so : NearHonest lies (timeReplies to-write) (newTimeOf to-write)
 near-so = near-an-honest-reply plan to-write lies one-lies
+
+-- ---- node 1 tells it too: b + 1 of the replies are 2^64-1, and the clock is spent
+spent-2 : WriteReplyCall plan told-1 (time-reply 1 top) desk item (record { answer = Open; session = told-2 top }) desk
+unfolding time-reply desk writeReply first planOk countsOk limitsOk columnOf all recordLength lengthsOk inRange standingRules roundRules openRules heardCount every num numFrom part
+    goodReply goodFrame suits shaped forParty oneOf bodyFits awaited askIn awaitsIn isHeard be beOnto acceptedWrite timeTurn
+spent-2 = record { is = refl }
+
+spent-3 : WriteReplyCall plan (told-2 top) (time-reply 2 9) desk item (record { answer = Open; session = told-3 top }) desk
+unfolding time-reply desk writeReply first planOk countsOk limitsOk columnOf all recordLength lengthsOk inRange standingRules roundRules openRules heardCount every num numFrom part
+    goodReply goodFrame suits shaped forParty oneOf bodyFits awaited askIn awaitsIn isHeard be beOnto acceptedWrite timeTurn
+spent-3 = record { is = refl }
+
+spent-4 : WriteReplyCall plan (told-3 top) (time-reply 3 4) desk item (record { answer = ClockSpent; session = endedOf (told-4 top) }) desk
+unfolding time-reply desk writeReply first planOk countsOk limitsOk columnOf all recordLength lengthsOk inRange standingRules roundRules openRules heardCount every num numFrom part
+    goodReply goodFrame suits shaped forParty oneOf bodyFits awaited askIn awaitsIn isHeard be beOnto acceptedWrite timeTurn timeEnd kthReply greatestWith orMore timesHeard
+spent-4 = record { is = refl }
+
+spent-small : small (time-reply 1 top) ≡ true
+unfolding small time-reply be beOnto
+spent-small = refl
+
+pub to-spent : ToSpent plan
+to-spent =
+    record {
+      ask = ask;
+      opened = opened;
+      opens = opened-so;
+      accepted = refl;
+      desk = desk;
+      first = turn (time-reply 0 top) Open told-1 desk;
+      rest = turn (time-reply 1 top) Open (told-2 top) desk ∷ turn (time-reply 2 9) Open (told-3 top) desk ∷ turn (time-reply 3 4) ClockSpent (endedOf (told-4 top)) desk ∷ [];
+      calls = ((small-octets _ small-1, met-1), ((small-octets _ spent-small, spent-2), ((small-octets _ small-3, spent-3), ((small-octets _ small-4, spent-4), tt))));
+      says = refl;
+    }
+
+pub spent-so : NearHonest lies (spentReplies to-spent) (top + 1)
+spent-so = spent-by-an-honest-reply plan to-spent lies one-lies

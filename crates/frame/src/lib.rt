@@ -96,7 +96,7 @@ pub fn header_of(f: &[u8]) -> Header
     let version = octets::get(f, 4, 1);
     let kind = octets::get(f, 5, 1);
     let node = octets::get(f, 6, 1);
-    let ask = Ask(octets::get(f, 7, 8));
+    let ask = Ask(octets::word(f, 7));
     Header {
         version: version,
         kind: kind,
@@ -261,7 +261,7 @@ fn head(y: &mut [u8], h: Header, n: usize) -> usize
     octets::put_num(y, 4, 1, h.version);
     octets::put_num(y, 5, 1, h.kind);
     octets::put_num(y, 6, 1, h.node);
-    octets::put_num(y, 7, 8, ask.0);
+    octets::put_word(y, 7, ask.0);
     end
 }
 
@@ -289,7 +289,7 @@ pub fn with_time(y: &mut [u8], h: Header, time: Time) -> usize
     ensures { λ r. ⌜ Wrote h (be 8 (time .0)) (now (y .entry)) r (now (y .exit)) ⌝ }
 {
     let end = head(y, h, 8);
-    octets::put_num(y, end - 8, 8, time.0);
+    octets::put_word(y, end - 8, time.0);
     end
 }
 

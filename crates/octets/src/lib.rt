@@ -5,6 +5,7 @@ ghost use Prim.Native.Nat.{_+_, _≤_, _<_, _^_};
 ghost use lib.Dec.{ltb};
 ghost use lib.ListN.{length};
 ghost use Rattle.octets.specs.Bytes.{part, put, num, be, alike};
+ghost use Rattle.octets.specs.Inside.{le};
 
 // The big-endian number of the n bytes at `at`, n at most 8. The third fact is for those who write the number again.
 pub fn get(b: &[u8], at: usize, n: usize) -> u64
@@ -32,6 +33,53 @@ pub fn put_num(b: &mut [u8], at: usize, n: usize, x: u64)
         b[at + i] = (y % 256) as u8;
         y = y / 256;
     }
+}
+
+// The big-endian number of the 8 bytes at `at`, as `get` gives it. In two halves it compiles to one load and one byte swap; the loop of 8
+// turns stays eight loads.
+pub fn word(b: &[u8], at: usize) -> u64
+    requires { ⌜ at + 8 ≤ length (now b) ⌝ }
+    ensures { λ r. ⌜ (r ≡ num (part (now (b .entry)) at 8)) × (r < 256 ^ 8) × (be 8 r ≡ part (now (b .entry)) at 8) ⌝ }
+{
+    get(b, at, 4) * 4294967296 + get(b, at + 4, 4)
+}
+
+// x with its 8 bytes in the other order: one byte swap.
+fn turned(x: u64) -> u64
+    ensures { λ r. ⌜ le 8 r ≡ be 8 x ⌝ }
+{
+    let mut z: u64 = 0;
+    let mut y = x;
+    let mut i: usize = 0;
+    while i < 8 {
+        z = z * 256 + y % 256;
+        y = y / 256;
+        i += 1;
+    }
+    z
+}
+
+// The 8 bytes of z at `at`, the lowest first: one store.
+fn put_low(b: &mut [u8], at: usize, z: u64)
+    requires { ⌜ at + 8 ≤ length (now b) ⌝ }
+    ensures { λ _. ⌜ now (b .exit) ≡ put (now (b .entry)) at (le 8 z) ⌝ }
+{
+    let mut y = z;
+    let mut i: usize = 0;
+    while i < 8 {
+        b[at + i] = (y % 256) as u8;
+        y = y / 256;
+        i += 1;
+    }
+}
+
+// x as 8 bytes, big-endian, at `at`, as `put_num` lays it out. It compiles to one byte swap and one store, several in a row too, where
+// `put_num` becomes byte stores or vector shifts.
+pub fn put_word(b: &mut [u8], at: usize, x: u64)
+    requires { ⌜ at + 8 ≤ length (now b) ⌝ }
+    ensures { λ _. ⌜ now (b .exit) ≡ put (now (b .entry)) at (be 8 x) ⌝ }
+{
+    put_low(b, at, turned(x));
 }
 
 // n bytes of src from `from` into dst at `at`.

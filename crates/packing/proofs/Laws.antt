@@ -1,5 +1,5 @@
 -- Laws of a plan and a session as bytes, for the functions that read and write them. Assumes nothing.
-use Prim.Native.Nat.{ℕ, suc, _+_, _-_, _*_, _/_, _%_, _≤_, _<_}
+use Prim.Native.Nat.{ℕ, suc, _+_, _*_, _≤_, _<_}
 use mathlib.Core.Path.{_≡_, refl, sym, ap, _∙_}
 use mathlib.Core.Bool.{Bool, true, false, cond}
 use mathlib.Core.List.{List, [], _∷_, _++_, append-assoc, append-nil}
@@ -9,9 +9,9 @@ use borrow.Author.Tests.{le-leb, lt-leb, eq-eqb, ne-eqb, eqb-true}
 use lib.ListN.{length, getD, take, drop, set, drop-of-length-le, length-append}
 use lib.Seq.{drop-cons, take-suc, take-all, take-suc-set, length-take-le}
 use lib.Dec.{eqb}
-use Rattle.octets.specs.Bytes.{part, put, be, beOnto}
-use Rattle.octets.proofs.Laws.{length-part, length-be, put-snoc, put-nil, put-then}
-use Rattle.octets.proofs.Meaning.{num-append, part-add, over-start, over-whole}
+use Rattle.octets.specs.Bytes.{put, be}
+use Rattle.octets.proofs.Laws.{length-be, put-snoc, put-nil, put-then}
+use Rattle.octets.proofs.Meaning.{over-start, over-whole}
 use Rattle.terms.specs.Ladder.{all}
 use Rattle.terms.specs.Stamp.{stampNumber, stampAt, zeroStamp}
 use Rattle.terms.specs.declared.Time.{Time}
@@ -27,7 +27,6 @@ use Rattle.standing.proofs.Rules.{or-holds, or-last, and-fails, and-last}
 use Rattle.terms.specs.declared.Member.{Member}
 use Rattle.wish.specs.declared.Wish.{Wish}
 use Rattle.packing.specs.PlanBytes.{field, memberOf, planShaped}
-use Rattle.packing.specs.Inside.{le}
 use Rattle.packing.specs.SessionBytes.{sessionLength, operationByte, stageByte, markByte, boundBytes, timesBytes, markBytes, roundBytes, askBytes, heardBytes, sessionBytes, heardOf, boundShaped, marksShaped, marksOf, sessionShaped}
 
 -- ---- a case by its number
@@ -121,57 +120,6 @@ write-turn x x₀ ms at i v d h k f e =
     rw (e, f, add-one, take-suc ms i d h, mark-bytes-snoc, ← put-snoc x₀ at s (markByte (getD ms i d .is)) (rw l k), l)
 
 -- ---- times
--- a number in two halves
-pub halves : (x : List ℕ) (at a b : ℕ) → at + 8 ≤ length x → a ≡ field x at 4 → b ≡ field x (at + 4) 4 → a * 4294967296 + b ≡ field x at 8
-halves x at a b h e f =
-    let l : length (part x (at + 4) 4) ≡ 4 = length-part x (at + 4) 4 (omega arith) in
-    rw (e, f, part-add x at 4 4, num-append (part x at 4) (part x (at + 4) 4), l)
-
--- a number turned, and its bytes laid out lowest first
-le-more : (i z d : ℕ) → d < 256 → le (suc i) (z * 256 + d) ≡ d ∷ le i z
-unfolding le
-le-more i z d h =
-    let m : (z * 256 + d) % 256 ≡ d = omega arith in
-    let q : (z * 256 + d) / 256 ≡ z = omega arith in
-    λ j. m j ∷ le i (q j)
-
-pub turned-turn : (t i z y : ℕ) → i < 8 → beOnto (8 - i) y (le i z) ≡ be 8 t → beOnto (8 - (i + 1)) (y / 256) (le (i + 1) (z * 256 + y % 256)) ≡ be 8 t
-turned-turn t i z y h e =
-    let k : 8 - i ≡ suc (8 - (i + 1)) = omega arith in
-    let o : beOnto (suc (8 - (i + 1))) y (le i z) ≡ beOnto (8 - (i + 1)) (y / 256) (y % 256 ∷ le i z) = unfold beOnto in refl in
-    rw (add-one, le-more i z (y % 256) (omega arith), ← add-one i) (sym o ∙ ap (λ (n : ℕ). beOnto n y (le i z)) (sym k) ∙ e)
-
-pub turned-end : (t i z y : ℕ) → i ≡ 8 → beOnto (8 - i) y (le i z) ≡ be 8 t → le 8 z ≡ be 8 t
-turned-end t i z y k e = let o : beOnto 0 y (le 8 z) ≡ le 8 z = unfold beOnto in refl in sym o ∙ (rw k at e)
-
--- b is b₀ with the first i bytes s of z put at a place, and y is what is left to put
-pub record Laid (b₀ b : List ℕ) (at z i y : ℕ) : Type 0 where
-  pub s : List ℕ
-  pub now : b ≡ put b₀ at s
-  pub long : length s ≡ i
-  pub rest : s ++ le (8 - i) y ≡ le 8 z
-
-pub laid-start : (b : List ℕ) (at z : ℕ) → Laid b b at z 0 z
-laid-start b at z = record { s = []; now = sym (put-nil b at); long = refl; rest = refl }
-
-pub laid-turn : (b₀ b : List ℕ) (at z i y : ℕ) → i < 8 → at + 8 ≤ length b₀ → Laid b₀ b at z i y → Laid b₀ (set b (at + i) (y % 256)) at z (i + 1) (y / 256)
-unfolding le
-laid-turn b₀ b at z i y h k p =
-    let d : 8 - i ≡ suc (8 - (i + 1)) = omega arith in
-    let r : p .s ++ le (suc (8 - (i + 1))) y ≡ le 8 z = ap (λ (n : ℕ). p .s ++ le n y) (sym d) ∙ p .rest in
-    record {
-      s = p .s ++ (y % 256 ∷ []);
-      now = rw (p .now, ← p .long) (put-snoc b₀ at (p .s) (y % 256) (rw (p .long) (omega arith)));
-      long = length-append (p .s) (y % 256 ∷ []) ∙ ap (λ (n : ℕ). n + 1) (p .long);
-      rest = append-assoc (p .s) (y % 256 ∷ []) (le (8 - (i + 1)) (y / 256)) ∙ r;
-    }
-
-pub laid-end : (b₀ b : List ℕ) (at z i y : ℕ) → i ≡ 8 → Laid b₀ b at z i y → b ≡ put b₀ at (le 8 z)
-unfolding le
-laid-end b₀ b at z i y k p =
-    let r : p .s ++ [] ≡ le 8 z = ap (λ (n : ℕ). p .s ++ le (8 - n) y) (sym k) ∙ p .rest in
-    p .now ∙ ap (put b₀ at) (sym (append-nil (p .s)) ∙ r)
-
 times-bytes-snoc : (ts : List Time) (t : Time) → timesBytes (ts ++ (t ∷ [])) ≡ timesBytes ts ++ be 8 (t .0)
 unfolding timesBytes
 times-bytes-snoc [] t = append-nil (be 8 (t .0))
@@ -182,12 +130,12 @@ unfolding timesBytes
 length-times [] = refl
 length-times (t ∷ ts) = simp (length-append, length-be, length-times ts) (omega arith)
 
-pub write-time : (x x₀ x₁ s : List ℕ) (ts : List Time) (at i : ℕ) (d : Time) → i < length ts → at ≤ length x₀ → x ≡ put x₀ at (timesBytes (take i ts))
-    → s ≡ be 8 (getD ts i d .0) → x₁ ≡ put x (at + 8 * i) s → x₁ ≡ put x₀ at (timesBytes (take (i + 1) ts))
-write-time x x₀ x₁ s ts at i d h k e f g =
+pub write-time : (x x₀ x₁ : List ℕ) (ts : List Time) (at i : ℕ) (d : Time) → i < length ts → at ≤ length x₀ → x ≡ put x₀ at (timesBytes (take i ts))
+    → x₁ ≡ put x (at + 8 * i) (be 8 (getD ts i d .0)) → x₁ ≡ put x₀ at (timesBytes (take (i + 1) ts))
+write-time x x₀ x₁ ts at i d h k e g =
     let r : List ℕ = timesBytes (take i ts) in
     let l : length r ≡ 8 * i = length-times (take i ts) ∙ ap (λ (n : ℕ). 8 * n) (length-take-le i ts (omega arith)) in
-    g ∙ rw (e, f, put-then x₀ at (at + 8 * i) r (be 8 (getD ts i d .0)) (ap (λ (n : ℕ). at + n) l) k, add-one, take-suc ts i d h, times-bytes-snoc)
+    g ∙ rw (e, put-then x₀ at (at + 8 * i) r (be 8 (getD ts i d .0)) (ap (λ (n : ℕ). at + n) l) k, add-one, take-suc ts i d h, times-bytes-snoc)
 
 -- ---- the bound
 pub length-bound : (b : Bound) → length (boundBytes b) ≡ 41

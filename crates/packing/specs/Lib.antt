@@ -1,3 +1,2 @@
 pub mod PlanBytes
 pub mod SessionBytes
-pub mod Inside

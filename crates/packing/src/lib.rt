@@ -21,7 +21,6 @@ ghost use lib.ListN.{length};
 ghost use Rattle.octets.specs.Bytes.{put, be};
 ghost use Rattle.terms.specs.Stamp.{stampNumber, stampAt};
 ghost use Rattle.packing.specs.PlanBytes.{field, memberOf, clientsOf, planShaped, planAt, noPlan, planOf, wishOf};
-ghost use Rattle.packing.specs.Inside.{le};
 ghost use Rattle.packing.specs.SessionBytes.{sessionLength, operationByte, stageByte, markByte, boundBytes, timesBytes, markBytes, roundBytes, askBytes, heardBytes, sessionBytes, operationOf, stageOf, heardOf, boundShaped, boundOf, timesAt, marksShaped, marksOf, sessionShaped, roundAt, sessionAt, sessionOf};
 
 // The bytes of a session.
@@ -195,12 +194,12 @@ fn bound_at(x: &[u8]) -> Bound
     Bound::Under(t)
 }
 
-// The time of 8 bytes, as octets::get gives it. In two halves it compiles to one load and one byte swap.
+// The time of 8 bytes.
 fn time_at(x: &[u8], at: usize) -> Time
     requires { ⌜ at + 8 ≤ length (now x) ⌝ }
     ensures { λ r. ⌜ r .0 ≡ field (now (x .entry)) at 8 ⌝ }
 {
-    Time(octets::get(x, at, 4) * 4294967296 + octets::get(x, at + 4, 4))
+    Time(octets::word(x, at))
 }
 
 // The 16 times of a session's bytes. They are written out: a loop would fill an array and then copy it.
@@ -300,7 +299,7 @@ fn session_at(x: &[u8]) -> Session
 {
     let operation = operation_of(octets::get(x, 0, 1));
     let round = round_at(x);
-    let opening = Ask(octets::get(x, 45, 8));
+    let opening = Ask(octets::word(x, 45));
     let times = times_at(x);
     let stamp = terms::stamp_at(x, 181);
     let from: usize = 221;
@@ -380,35 +379,6 @@ fn write_bound(x: &mut [u8], b: Bound)
     }
 }
 
-// A number of 8 bytes with its bytes in the other order.
-fn turned(t: u64) -> u64
-    ensures { λ r. ⌜ le 8 r ≡ be 8 t ⌝ }
-{
-    let mut z: u64 = 0;
-    let mut y = t;
-    let mut i: usize = 0;
-    while i < 8 {
-        z = z * 256 + y % 256;
-        y = y / 256;
-        i += 1;
-    }
-    z
-}
-
-// The 8 bytes of a number, the lowest first. Of a turned one it compiles to one byte swap and one store, as octets::put_num does not.
-fn put_low(x: &mut [u8], at: usize, z: u64)
-    requires { ⌜ at + 8 ≤ length (now x) ⌝ }
-    ensures { λ _. ⌜ now (x .exit) ≡ put (now (x .entry)) at (le 8 z) ⌝ }
-{
-    let mut y = z;
-    let mut i: usize = 0;
-    while i < 8 {
-        x[at + i] = (y % 256) as u8;
-        y = y / 256;
-        i += 1;
-    }
-}
-
 // The times, in their place. The second fact is for the session that they are of.
 fn write_times(x: &mut [u8], times: [Time; 16])
     requires { ⌜ 181 ≤ length (now x) ⌝ }
@@ -417,7 +387,7 @@ fn write_times(x: &mut [u8], times: [Time; 16])
     let mut i: usize = 0;
     while i < 16 {
         let t = times[i];
-        put_low(x, 53 + 8 * i, turned(t.0));
+        octets::put_word(x, 53 + 8 * i, t.0);
         i += 1;
     }
 }
@@ -458,7 +428,7 @@ fn write_asks(x: &mut [u8], s: Session)
     let opening = s.opening;
     octets::put_num(x, 0, 1, operation_byte(operation));
     write_round(x, round);
-    octets::put_num(x, 45, 8, opening.0);
+    octets::put_word(x, 45, opening.0);
 }
 
 // What it has heard: the other 184. The second and third facts are for the length of the whole.

@@ -16,6 +16,6 @@ head-spec =
     let n2 = n3 .before .before .before .before in
     let n1 = n2 .before .before .before .before in
     let h = n1 .before .before .before .head-bytes .ensures in (
-      built.head-is _ _ _ _ _ _ _ _ _ (omega (arith, h)) (n1 .put-num .ensures) (n2 .put-num2 .ensures) (n3 .put-num3 .ensures) (n4 .put-num4 .ensures) (n5 .put-num5 .ensures),
+      built.head-is _ _ _ _ _ _ _ _ _ (omega (arith, h)) (n1 .put-num .ensures) (n2 .put-num2 .ensures) (n3 .put-num3 .ensures) (n4 .put-num4 .ensures) (n5 .put-word .ensures),
       omega (arith, h),
     )))

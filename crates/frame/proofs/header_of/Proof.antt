@@ -12,7 +12,7 @@ header-of-spec =
         version = c .before .before .before .get .ensures .0 i;
         kind = c .before .before .get2 .ensures .0 i;
         node = c .before .get3 .ensures .0 i;
-        ask = record { 0 = c .get4 .ensures .0 i };
+        ask = record { 0 = c .word .ensures .0 i };
       }),
       c .before .before .get2 .ensures .1,
       c .before .get3 .ensures .1,

@@ -15,4 +15,4 @@ with-time-spec =
     (λ c. search needs)
     (λ c.
     let h = c .before .before .before .before .before .before .head in
-    built.whole-is _ _ _ _ _ _ _ _ (length-be _ _) (h .ensures .1) (omega (arith, h .ensures .1)) (h .ensures .0) (c .before .before .put-num .ensures)))
+    built.whole-is _ _ _ _ _ _ _ _ (length-be _ _) (h .ensures .1) (omega (arith, h .ensures .1)) (h .ensures .0) (c .before .before .put-word .ensures)))

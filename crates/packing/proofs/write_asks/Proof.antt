@@ -13,4 +13,4 @@ write-asks-spec =
     let mid = late .before .before .before .before in
     let early = mid .before .before .before .before in
     let start = early .before .before .before .before .before .before in
-    laws.asks-put (start .args .s) _ _ _ _ _ (early .before .operation-byte .ensures) (early .put-num .ensures) (mid .write-round .ensures) (late .put-num2 .ensures)))
+    laws.asks-put (start .args .s) _ _ _ _ _ (early .before .operation-byte .ensures) (early .put-num .ensures) (mid .write-round .ensures) (late .put-word .ensures)))

@@ -22,14 +22,14 @@ write-times-spec =
     Inv-loop
     μ-loop
     (λ c. (omega arith, refl, laws.write-start timesBytes _ (c .before .args .t2) _ (unfold timesBytes in refl)))
-    (λ c. omega arith) (λ c. omega arith) (λ c. omega arith) (λ c. omega arith) (λ c κs. search needs) (λ c κs. omega arith) (λ c. omega arith) (λ c. omega arith)
+    (λ c. omega arith) (λ c. omega arith) (λ c. omega arith) (λ c. omega arith) (λ c κs. omega arith) (λ c. omega arith) (λ c. omega arith)
     (λ c.
-    let here = c .before .before .before .before .before .before .before in
+    let here = c .before .before .before .before .before .before in
     let ts = here .before .before .args .t2 in
     let e : length ts ≡ 16 = search needs in (
       omega arith,
       search needs,
-      laws.write-time _ _ _ _ ts 53 (here .loop .i) (record { 0 = 0 }) (omega arith) (omega arith) (here .loop .inv .2) (c .before .before .before .turned .ensures) (c .before .before .put-low .ensures),
+      laws.write-time _ _ _ ts 53 (here .loop .i) (record { 0 = 0 }) (omega arith) (omega arith) (here .loop .inv .2) (c .before .before .put-word .ensures),
     ))
     (λ c. c .before .loop .inv .1)
     (λ c.

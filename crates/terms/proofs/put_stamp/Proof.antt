@@ -19,4 +19,4 @@ put-stamp-spec =
     let s = n1 .before .before .before .before .before in
     let words = s .good .1 .1 .0 .1 .1 .1 .0 .1 in
     laws.stamp-put (s .args .t) _ _ _ _ _ _ _ (record { w1 = omega (arith, words); w2 = omega (arith, words); w3 = omega (arith, words) }) (omega arith) (omega arith)
-    (n1 .put-num .ensures) (n2 .put-num2 .ensures) (n3 .put-num3 .ensures) (n4 .put-num4 .ensures) (n5 .put-num5 .ensures)))
+    (n1 .put-word .ensures) (n2 .put-word2 .ensures) (n3 .put-word3 .ensures) (n4 .put-word4 .ensures) (n5 .put-word5 .ensures)))

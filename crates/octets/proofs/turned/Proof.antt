@@ -1,18 +1,18 @@
-use Rattle.packing.proofs.Laws as laws
-use Rattle.packing.specs.Inside.{le}
+use Rattle.octets.proofs.Words as laws
+use Rattle.octets.specs.Inside.{le}
 use Rattle.octets.specs.Bytes.{be, beOnto}
 use Rattle.octets.proofs.Laws.{room, room-more}
 use mathlib.Core.Path.{_≡_, refl}
 use Prim.Native.Nat.{_-_, _≤_, _<_, _^_}
 use native.Mathlib.Omega.{arith}
-use Rattle.packing.proofs.turned.Statement.{statement}
-use Rattle.packing.proofs.turned.Tie as tie
+use Rattle.octets.proofs.turned.Statement.{statement}
+use Rattle.octets.proofs.turned.Tie as tie
 
 abbrev Inv-loop : tie.InvT-loop
-Inv-loop t z₀ y₀ i₀ z y i = (i ≤ 8) × (z < 256 ^ i) × (beOnto (8 - i) y (le i z) ≡ be 8 t)
+Inv-loop x z₀ y₀ i₀ z y i = (i ≤ 8) × (z < 256 ^ i) × (beOnto (8 - i) y (le i z) ≡ be 8 x)
 
 abbrev μ-loop : tie.MeasureT-loop
-μ-loop t z₀ y₀ i₀ z y i = 8 - i
+μ-loop x z₀ y₀ i₀ z y i = 8 - i
 
 loop-holds : tie.Need-loop-holds Inv-loop μ-loop
 unfolding be le

@@ -1,16 +1,16 @@
-use Rattle.packing.proofs.Laws as laws
+use Rattle.octets.proofs.Words as laws
 use mathlib.Core.Path.{_≡_, refl}
 use Prim.Native.Nat.{_-_, _≤_}
 use lib.ListN.{length, length-set}
 use native.Mathlib.Omega.{arith}
-use Rattle.packing.proofs.put_low.Statement.{statement}
-use Rattle.packing.proofs.put_low.Tie as tie
+use Rattle.octets.proofs.put_low.Statement.{statement}
+use Rattle.octets.proofs.put_low.Tie as tie
 
 abbrev Inv-loop : tie.InvT-loop
-Inv-loop x₀ at z y₀ i₀ x y i = (i ≤ 8) × (length x ≡ length x₀) × laws.Laid x₀ x at z i y
+Inv-loop b₀ at z y₀ i₀ b y i = (i ≤ 8) × (length b ≡ length b₀) × laws.Laid b₀ b at z i y
 
 abbrev μ-loop : tie.MeasureT-loop
-μ-loop x₀ at z y₀ i₀ x y i = 8 - i
+μ-loop b₀ at z y₀ i₀ b y i = 8 - i
 
 pub put-low-spec : {M : Type 1} → statement M
 put-low-spec =

@@ -98,7 +98,7 @@ module _ (op : Operation) (x : List ℕ) (a : ℕ) (s₀ s : List ℕ) (c : Open
       record {
         plan = not-false (planOk (planOf x)) (past 1);
         opened = ap (opens 0) session-is ∙ sym opens-fresh;
-        held = λ d o. record { long = ap length bytes-are ∙ length-session fresh refl; lasts = subst (λ (u : Session). Lasts u d) (sym session-is) (lasting d o) };
+        held = λ d o. record { long = ap length bytes-are ∙ length-session fresh refl refl; lasts = subst (λ (u : Session). Lasts u d) (sym session-is) (lasting d o) };
       }
 
 -- ---- the request owed
@@ -143,7 +143,7 @@ module _ (s e : List ℕ) (o : Outcome) (long : length s ≡ sessionLength) (c :
 
   session-long : length (sessionAfter (o .said) (o .session) s) ≡ sessionLength
   unfolding sessionAfter
-  session-long = either (λ (l : List ℕ). length l ≡ sessionLength) (isRefused (o .said)) long (length-session (o .session) (c .lasts .fits .marks))
+  session-long = either (λ (l : List ℕ). length l ≡ sessionLength) (isRefused (o .said)) long (length-session (o .session) (c .lasts .fits .times .nodes) (c .lasts .fits .marks))
 
   answer-kept : saidOf (answerOf (answerNumber (o .said)) (endingAfter (o .said) e)) ≡ o .said
   answer-kept =

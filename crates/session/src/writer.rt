@@ -30,7 +30,7 @@ fn time_in(h: Header, reply: &[u8]) -> Time
     ensures { λ r. ⌜ r .0 ≡ time (bodyOf (now (reply .entry))) ⌝ }
 {
     let at = frame::head_bytes(h.version);
-    Time(octets::get(reply, at, 8))
+    Time(octets::word(reply, at))
 }
 
 impl Session {

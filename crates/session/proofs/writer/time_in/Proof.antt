@@ -9,5 +9,5 @@ time-in-spec =
     tie.close
     (tie.spec
     (λ c κs. search needs)
-    (λ c κs. (omega (arith, c .head-bytes .ensures), omega arith))
-    (λ c. laws.time-at _ _ _ (c .before .head-bytes .ensures) (c .get .ensures .0)))
+    (λ c κs. omega (arith, c .head-bytes .ensures))
+    (λ c. laws.time-at _ _ _ (c .before .head-bytes .ensures) (c .word .ensures .0)))

@@ -1,7 +1,7 @@
 -- The hypotheses of HostRuns can be met. Every run of calls below is a host's (hosted-reads, hosted-writes): so are the runs of
 -- client/proofs/Instances, a read of two rounds that ends with a repair (host-counted-so) and a whole write (host-write-so). A read in bytes, with a
 -- call that is lent a wrong ending and a frame that is refused: host-run, host-read-so, host-kept-so, host-owed-so. A write that has just been opened:
--- host-time-so. Assumes nothing.
+-- host-time-so. One that has come to its write round: host-near-so. Assumes nothing.
 use Prim.{tt}
 use Prim.Native.Nat.{ℕ, _*_, _≤_}
 use mathlib.Core.Path.{_≡_, refl, sym, ap, _∙_, subst}
@@ -20,6 +20,7 @@ use Rattle.terms.proofs.Small.{small, small-octets}
 use Rattle.frame.specs.Frame.{readReplyKind, readLatestKind, timeRequestKind, frame, shaped, bodyFits, forParty, oneOf, suits, goodFrame, goodReply}
 use Rattle.rounds.specs.Rounds.{heardCount, every, slotsFit, slotFits, leadOf, stepOf, aheadOf, closeWith}
 use Rattle.standing.specs.declared.Operation.the-variants.{Write, Read}
+use Rattle.standing.specs.declared.Stage.the-variants.{Storing}
 use Rattle.session.specs.declared.Session.{Session}
 use Rattle.standing.specs.Standing.{askIn, awaitsIn, roundRules, lengthsOk, roomOk, readRequest}
 use Rattle.session.specs.Session.{askNow, saidOf, isRefused}
@@ -38,18 +39,20 @@ use Rattle.report.specs.Figure3.{VALIDATE, in-time, has, with-it, receives, DO-
 use Rattle.report.specs.Ours.{family}
 use Rattle.report.specs.Sent.{Commands, WriteCommands, inResponseSet, inWriteSet, Owes}
 use Rattle.report.specs.Run.{Polled, unpolled, messageOf, polls, polledOver, EachTells, AllFull, Apart, AllApart}
-use Rattle.report.specs.WriteRun.{noneOf, untimed, EachWrites}
+use Rattle.report.specs.WriteRun.{noneOf, untimed, timedOver, EachWrites}
+use Rattle.report.specs.Figure2.{clocks}
+use Rattle.report.specs.NewTime.{numberOf, NearHonest}
 use Rattle.client.specs.Sessions.{lastSession, lastDesk}
 use Rattle.packing.specs.PlanBytes.{memberOf, clientsOf, planBytes, planShaped, planAt, planOf}
-use Rattle.packing.specs.SessionBytes.{sessionLength, boundBytes, markBytes, roundBytes, askBytes, heardBytes, sessionBytes, operationOf, stageOf, heardOf, boundShaped, boundOf, marksShaped, marksOf, sessionShaped, roundAt, sessionAt, sessionOf}
+use Rattle.packing.specs.SessionBytes.{sessionLength, boundBytes, timesBytes, markBytes, roundBytes, askBytes, heardBytes, sessionBytes, operationOf, stageOf, heardOf, boundShaped, boundOf, timesAt, marksShaped, marksOf, sessionShaped, roundAt, sessionAt, sessionOf}
 use Rattle.packing.proofs.Inverse.{plan-back, session-back}
 use Rattle.packing.proofs.Laws.{length-session}
 use Rattle.answers.specs.Answers.{bothFit, lentLadder, answerNumber, endingBytes, endingAfter, answerOf}
 use Rattle.pasis.specs.Client.{sessionAfter, withItem, openBytes, OpenServes, owedBytes, OwedServes, readBytes, ReadServes}
 use Rattle.pasis.proofs.Laws.{Lent, Handed, read-served, write-served}
 use Rattle.pasis.proofs.Carried.{Lasts, Carried, opened-lasts, read-carried, write-carried}
-use Rattle.demands.specs.HostRuns.{HostTurn, HostReads, HostWrites, HostCalls, below, HostOwes}
-use Rattle.demands.proofs.HostRuns.{host-read-as-the-report, host-write-as-the-report, host-counted-rounds, host-every-session, host-read-requests-as-the-report, host-write-requests-as-the-report}
+use Rattle.demands.specs.HostRuns.{HostTurn, HostReads, HostWrites, HostCalls, hostSession, below, HostOwes}
+use Rattle.demands.proofs.HostRuns.{host-read-as-the-report, host-write-as-the-report, host-counted-rounds, host-every-session, host-read-requests-as-the-report, host-write-requests-as-the-report, host-near-honest}
 
 -- ---- every run of calls is a host's
 -- each call with an ending of 42 zeros
@@ -79,7 +82,7 @@ module _ (p : Plan) (ok : planOk p ≡ true) (s : Session) (d : List ℕ) (w : L
   lent =
       record {
         came = is-passed (lentLadder (planOf (planBytes p)) (bothFit (length (sessionBytes s)) 42)) (λ (k : ℕ). k) 0
-            (ap (λ (q : Plan). not (planOk q)) back ∙ ap not ok, (rw (eq-eqb (length (sessionBytes s)) sessionLength (length-session s (w .fits .marks))), tt));
+            (ap (λ (q : Plan). not (planOk q)) back ∙ ap not ok, (rw (eq-eqb (length (sessionBytes s)) sessionLength (length-session s (w .fits .times .nodes) (w .fits .marks))), tt));
       }
 
   -- the bytes that a call leaves, and what it keeps
@@ -184,16 +187,35 @@ pub host-write-so : EachWrites (planOf x) (sessionOf (sessionBytes writes.start)
 host-write-so =
     host-write-as-the-report x 5 (replicate sessionLength 0) (sessionBytes writes.start) reads.desk (hostsOf write-calls) write-opens write-run
 
+-- of its first two calls: the time in the session that the host holds then is at most one above an honest reply
+abbrev timed-calls : List Turn
+timed-calls = writes.call-1 ∷ writes.call-2 ∷ []
+
+timed-run : HostCalls (HostWrites x) (sessionBytes writes.start) reads.desk (hostsOf timed-calls)
+unfolding hostsOf
+timed-run = (write-run .0, (write-run .1 .0, tt))
+
+storing-so : sessionOf (hostSession (sessionBytes writes.start) (hostsOf timed-calls)) .round .stage ≡ Storing
+unfolding hostsOf sessionBytes askBytes roundBytes boundBytes heardBytes timesBytes markBytes sessionOf sessionShaped sessionAt timesAt roundAt operationOf stageOf heardOf boundShaped boundOf marksShaped marksOf
+    all num numFrom part be beOnto stampNumber then
+storing-so = refl
+
+pub host-near-so : (lies : ℕ → Bool) → numberOf lies (planOf x .n) ≤ planOf x .b
+    → NearHonest lies (clocks (timedOver (planOf x) (sessionOf (sessionBytes writes.start)) reads.desk untimed (below (hostsOf timed-calls)) .times))
+    (sessionOf (hostSession (sessionBytes writes.start) (hostsOf timed-calls)) .stamp .time .0)
+host-near-so =
+    host-near-honest x 5 (replicate sessionLength 0) (sessionBytes writes.start) reads.desk (hostsOf timed-calls) write-opens timed-run storing-so
+
 -- ---- a read of real bytes, at N1 t0 b0 Q1 m1 F1 W1: a call with 41 bytes for its ending is answered 2; one with a frame that bears another ask number
 -- 10; node 0 has nothing: 102, never written, in one round
 unfoldable pub y : List ℕ
 y = 1 ∷ 0 ∷ 0 ∷ 1 ∷ 1 ∷ 0 ∷ 1 ∷ 0 ∷ 1 ∷ 0 ∷ 1 ∷ []
 
 unfoldable pub session-1 : List ℕ
-session-1 = 1 ∷ 0 ∷ 0 ∷ 1 ∷ (replicate 48 0 ++ (5 ∷ replicate 64 0))
+session-1 = 1 ∷ 0 ∷ 0 ∷ 1 ∷ (replicate 48 0 ++ (5 ∷ replicate 184 0))
 
 unfoldable pub session-2 : List ℕ
-session-2 = 1 ∷ 2 ∷ 0 ∷ 1 ∷ (replicate 48 0 ++ (5 ∷ (replicate 48 0 ++ (1 ∷ replicate 15 0))))
+session-2 = 1 ∷ 2 ∷ 0 ∷ 1 ∷ (replicate 48 0 ++ (5 ∷ (replicate 168 0 ++ (1 ∷ replicate 15 0))))
 
 unfoldable pub desk : List ℕ
 desk = replicate 73 0
@@ -213,7 +235,7 @@ host-calls =
 
 module _ where
   opens-so : OpenServes Read y 5 (replicate sessionLength 0) 0 session-1
-  unfolding y session-1 openBytes openWith first planOk countsOk limitsOk columnOf all planOf planShaped planAt memberOf clientsOf num numFrom part sessionBytes askBytes roundBytes boundBytes heardBytes markBytes be beOnto stampNumber then
+  unfolding y session-1 openBytes openWith first planOk countsOk limitsOk columnOf all planOf planShaped planAt memberOf clientsOf num numFrom part sessionBytes askBytes roundBytes boundBytes heardBytes timesBytes markBytes be beOnto stampNumber then
   opens-so = record { is = refl }
 
   small-5 : small (nothing-held 5) ≡ true
@@ -237,11 +259,11 @@ module _ where
   unlent-so = record { is = refl }
 
   refused-so : ReadServes y session-1 (nothing-held 9) desk (0 ∷ []) (replicate 42 0) 10 session-1 desk (0 ∷ []) (replicate 42 0)
-  unfolding y session-1 nothing-held desk readBytes bothFit first planOk countsOk limitsOk columnOf all planOf planShaped planAt memberOf clientsOf num numFrom part sessionOf sessionShaped sessionAt roundAt boundShaped boundOf marksShaped marksOf operationOf stageOf heardOf stampAt readReply recordLength lengthsOk inRange roundRules standingRules openRules every heardCount slotsFit slotFits goodReply goodFrame suits shaped forParty oneOf bodyFits awaited askIn awaitsIn isHeard be beOnto sessionAfter endingAfter
+  unfolding y session-1 nothing-held desk readBytes bothFit first planOk countsOk limitsOk columnOf all planOf planShaped planAt memberOf clientsOf num numFrom part sessionOf sessionShaped sessionAt timesAt roundAt boundShaped boundOf marksShaped marksOf operationOf stageOf heardOf stampAt readReply recordLength lengthsOk inRange roundRules standingRules openRules every heardCount slotsFit slotFits goodReply goodFrame suits shaped forParty oneOf bodyFits awaited askIn awaitsIn isHeard be beOnto sessionAfter endingAfter
   refused-so = record { is = refl }
 
   never-so : ReadServes y session-1 (nothing-held 5) desk (0 ∷ []) (replicate 42 0) 102 session-2 desk (0 ∷ []) (replicate 41 0 ++ (1 ∷ []))
-  unfolding y session-1 session-2 nothing-held desk readBytes bothFit first planOk countsOk limitsOk columnOf all planOf planShaped planAt memberOf clientsOf num numFrom part sessionOf sessionShaped sessionAt roundAt boundShaped boundOf marksShaped marksOf operationOf stageOf heardOf stampAt readReply recordLength lengthsOk inRange roundRules standingRules openRules every heardCount slotsFit slotFits goodReply goodFrame suits shaped forParty oneOf bodyFits awaited askIn awaitsIn isHeard be beOnto sessionAfter endingAfter bears accepted heard settled closeWith leadOf stepOf aheadOf actFor endingBytes sessionBytes askBytes roundBytes boundBytes heardBytes markBytes stampNumber then
+  unfolding y session-1 session-2 nothing-held desk readBytes bothFit first planOk countsOk limitsOk columnOf all planOf planShaped planAt memberOf clientsOf num numFrom part sessionOf sessionShaped sessionAt timesAt roundAt boundShaped boundOf marksShaped marksOf operationOf stageOf heardOf stampAt readReply recordLength lengthsOk inRange roundRules standingRules openRules every heardCount slotsFit slotFits goodReply goodFrame suits shaped forParty oneOf bodyFits awaited askIn awaitsIn isHeard be beOnto sessionAfter endingAfter bears accepted heard settled closeWith leadOf stepOf aheadOf actFor endingBytes sessionBytes askBytes roundBytes boundBytes heardBytes timesBytes markBytes stampNumber then
   never-so = record { is = refl }
 
 pub host-run : HostCalls (HostReads y) session-1 desk host-calls
@@ -259,7 +281,7 @@ unfolding y nothing-held planOf planShaped planAt memberOf clientsOf all READ DO
 gathered = refl
 
 one-round : polledOver (planOf y) (sessionOf session-1) desk unpolled (below host-calls) .rounds ≡ (message ∷ []) ∷ []
-unfolding below y session-1 session-2 nothing-held desk polls noneOf planOk countsOk limitsOk columnOf all planOf planShaped planAt memberOf clientsOf num numFrom part sessionOf sessionShaped sessionAt roundAt boundShaped boundOf marksShaped marksOf operationOf stageOf heardOf stampAt recordLength lengthsOk inRange roundRules standingRules openRules every heardCount slotsFit slotFits goodReply goodFrame suits shaped forParty oneOf bodyFits awaited askIn awaitsIn isHeard be beOnto bears answerOf READ DO-READ receives VALIDATE in-time has with-it alike
+unfolding below y session-1 session-2 nothing-held desk polls noneOf planOk countsOk limitsOk columnOf all planOf planShaped planAt memberOf clientsOf num numFrom part sessionOf sessionShaped sessionAt timesAt roundAt boundShaped boundOf marksShaped marksOf operationOf stageOf heardOf stampAt recordLength lengthsOk inRange roundRules standingRules openRules every heardCount slotsFit slotFits goodReply goodFrame suits shaped forParty oneOf bodyFits awaited askIn awaitsIn isHeard be beOnto bears answerOf READ DO-READ receives VALIDATE in-time has with-it alike
 one-round = refl
 
 apart : Apart (message ∷ [])
@@ -284,11 +306,11 @@ abbrev two-calls : List HostTurn
 two-calls = turn 5 (replicate 41 0) 2 session-1 (replicate 41 0) ∷ turn 9 (replicate 42 0) 10 session-1 (replicate 42 0) ∷ []
 
 owed-so : OwedServes y session-1 0 desk (replicate 88 0) 0 (over (frame readLatestKind 0 5 []) (replicate 88 0))
-unfolding y session-1 desk owedBytes owedTo roomOk requestOf readRequest first planOk countsOk limitsOk columnOf all planOf planShaped planAt memberOf clientsOf num numFrom part sessionOf sessionShaped sessionAt roundAt boundShaped boundOf marksShaped marksOf operationOf stageOf heardOf stampAt recordLength inRange roundRules standingRules openRules every heardCount slotsFit slotFits askIn isHeard
+unfolding y session-1 desk owedBytes owedTo roomOk requestOf readRequest first planOk countsOk limitsOk columnOf all planOf planShaped planAt memberOf clientsOf num numFrom part sessionOf sessionShaped sessionAt timesAt roundAt boundShaped boundOf marksShaped marksOf operationOf stageOf heardOf stampAt recordLength inRange roundRules standingRules openRules every heardCount slotsFit slotFits askIn isHeard
 owed-so = record { is = refl }
 
 no-round : polledOver (planOf y) (sessionOf session-1) desk unpolled (below two-calls) .rounds ≡ []
-unfolding below y session-1 nothing-held desk polls noneOf planOk countsOk limitsOk columnOf all planOf planShaped planAt memberOf clientsOf num numFrom part sessionOf sessionShaped sessionAt roundAt boundShaped boundOf marksShaped marksOf operationOf stageOf heardOf stampAt recordLength lengthsOk inRange roundRules standingRules openRules every heardCount slotsFit slotFits goodReply goodFrame suits shaped forParty oneOf bodyFits awaited askIn awaitsIn isHeard be beOnto bears
+unfolding below y session-1 nothing-held desk polls noneOf planOk countsOk limitsOk columnOf all planOf planShaped planAt memberOf clientsOf num numFrom part sessionOf sessionShaped sessionAt timesAt roundAt boundShaped boundOf marksShaped marksOf operationOf stageOf heardOf stampAt recordLength lengthsOk inRange roundRules standingRules openRules every heardCount slotsFit slotFits goodReply goodFrame suits shaped forParty oneOf bodyFits awaited askIn awaitsIn isHeard be beOnto bears
 no-round = refl
 
 abbrev at : Session
@@ -306,15 +328,15 @@ host-owed-so =
 
 -- ---- a write at the same plan, before any reply: the request owed to node 0 is TIME
 unfoldable pub session-w : List ℕ
-session-w = 0 ∷ 0 ∷ 0 ∷ 1 ∷ (replicate 48 0 ++ (5 ∷ replicate 64 0))
+session-w = 0 ∷ 0 ∷ 0 ∷ 1 ∷ (replicate 48 0 ++ (5 ∷ replicate 184 0))
 
 module _ where
   write-opens-so : OpenServes Write y 5 (replicate sessionLength 0) 0 session-w
-  unfolding y session-w openBytes openWith first planOk countsOk limitsOk columnOf all planOf planShaped planAt memberOf clientsOf num numFrom part sessionBytes askBytes roundBytes boundBytes heardBytes markBytes be beOnto stampNumber then
+  unfolding y session-w openBytes openWith first planOk countsOk limitsOk columnOf all planOf planShaped planAt memberOf clientsOf num numFrom part sessionBytes askBytes roundBytes boundBytes heardBytes timesBytes markBytes be beOnto stampNumber then
   write-opens-so = record { is = refl }
 
   time-owed-so : OwedServes y session-w 0 desk (replicate 88 0) 0 (over (frame timeRequestKind 0 5 []) (replicate 88 0))
-  unfolding y session-w desk owedBytes owedTo roomOk requestOf first planOk countsOk limitsOk columnOf all planOf planShaped planAt memberOf clientsOf num numFrom part sessionOf sessionShaped sessionAt roundAt boundShaped boundOf marksShaped marksOf operationOf stageOf heardOf stampAt recordLength inRange roundRules standingRules openRules every heardCount slotsFit slotFits askIn isHeard
+  unfolding y session-w desk owedBytes owedTo roomOk requestOf first planOk countsOk limitsOk columnOf all planOf planShaped planAt memberOf clientsOf num numFrom part sessionOf sessionShaped sessionAt timesAt roundAt boundShaped boundOf marksShaped marksOf operationOf stageOf heardOf stampAt recordLength inRange roundRules standingRules openRules every heardCount slotsFit slotFits askIn isHeard
   time-owed-so = record { is = refl }
 
 pub host-time-so : HostOwes (Owes (WriteCommands (planOf y) (sessionOf session-w .round .stage) untimed 0 (askNow (sessionOf session-w)))

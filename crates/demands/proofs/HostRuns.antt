@@ -6,15 +6,18 @@
 --   host-counted-rounds     the rounds that a host's read reports are those that it closed, at most W
 --   host-every-session      every session that a host is handed is in its ranges with its desk
 --   host-read-requests-as-the-report host-write-requests-as-the-report   what pasis_owed writes for a node is what READ or WRITE has to send to it
+--   host-near-honest host-complete-is-passed   the new time of a host's write (document 02, Q-2)
 -- A desk is bytes, as every slice of u8 is, and a frame. Assumes nothing.
-use Prim.Native.Nat.{ℕ, _*_, _≤_}
-use mathlib.Core.Path.{_≡_, refl, subst}
+use Prim.Native.Nat.{ℕ, _*_, _≤_, _<_}
+use mathlib.Core.Path.{_≡_, refl, ap, _∙_, subst}
+use mathlib.Core.Bool.{Bool, true}
 use mathlib.Core.List.{List, _∷_}
 use lib.ListN.{length}
 use Rattle.octets.specs.Bytes.{Octets}
 use Rattle.terms.specs.Terms.{recordLength}
 use Rattle.standing.specs.declared.Operation.{Operation}
 use Rattle.standing.specs.declared.Operation.the-variants.{Write, Read}
+use Rattle.standing.specs.declared.Stage.the-variants.{Storing}
 use Rattle.session.specs.declared.Session.{Session}
 use Rattle.session.specs.Session.{askNow}
 use Rattle.session.specs.Owed.{owedLadder, dueOf}
@@ -25,7 +28,10 @@ use Rattle.client.proofs.Counting.{counted-rounds}
 use Rattle.client.proofs.Sessions.{every-session}
 use Rattle.report.specs.Run.{unpolled, polledOver, AllApart, AllFull, EachTells}
 use Rattle.report.specs.WriteRun.{untimed, EachWrites, timedOver}
+use Rattle.report.specs.Triple.{In}
+use Rattle.report.specs.Figure2.{Clock, clocks}
 use Rattle.report.specs.Figure3.{READ}
+use Rattle.report.specs.NewTime.{numberOf, ToWrite, NearHonest, AnswersAfter}
 use Rattle.report.specs.Ours.{family}
 use Rattle.report.specs.Sent.{Commands, WriteCommands, inResponseSet, inWriteSet, Owes}
 use Rattle.packing.specs.PlanBytes.{planOf}
@@ -34,6 +40,7 @@ use Rattle.pasis.specs.Client.{OpenServes, OwedServes}
 use Rattle.pasis.proofs.Below.{opened-below, owed-below}
 use Rattle.demands.specs.HostRuns.{HostTurn, HostReads, HostWrites, HostEither, HostCalls, openedOf, below, hostSession, hostDesk, RunBelow, HostOwes}
 use Rattle.demands.proofs.Hosted.{Ran, reads, writes, eithers, owed-at}
+use Rattle.demands.proofs.NewTime.{near-honest, complete-is-passed}
 use Rattle.demands.proofs.Demand2.{read-as-the-report, write-as-the-report, read-requests-as-the-report, write-requests-as-the-report}
 
 -- ---- THE THEOREM: from an opening that was answered 0 on, whatever frames come, whatever is answered
@@ -118,3 +125,32 @@ module _ (x : List ℕ) (a : ℕ) (s₀ s d : List ℕ) (ts : List HostTurn) whe
         owes = write-requests-as-the-report (planOf x) (record { 0 = a }) (openedOf s) d (below ts) (record { is = g .opened }) refl (z .calls) S q (y .owed) q₂
             (owed-at (z .session) (z .desk) (y .call));
       }
+
+  -- A host's write that has come to its write round, by the session bytes that it holds: near-honest and complete-is-passed of NewTime, of the time in them.
+  abbrev to-write : OpenServes Write x a s₀ 0 s → HostCalls (HostWrites x) s d ts → sessionOf (hostSession s ts) .round .stage ≡ Storing → ToWrite (planOf x)
+  to-write c h e =
+      let q = host-writes-are-writes c h in
+      record {
+        ask = record { 0 = a };
+        opened = openedOf s;
+        opens = q .opens;
+        accepted = refl;
+        desk = d;
+        turns = below ts;
+        calls = q .calls;
+        stores = ap (λ (u : Session). u .round .stage) (q .session) ∙ e;
+      }
+
+  abbrev told : List Clock
+  told = clocks (timedOver (planOf x) (sessionOf s) d untimed (below ts) .times)
+
+  pub host-near-honest : OpenServes Write x a s₀ 0 s → HostCalls (HostWrites x) s d ts → sessionOf (hostSession s ts) .round .stage ≡ Storing
+      → (lies : ℕ → Bool) → numberOf lies (planOf x .n) ≤ planOf x .b → NearHonest lies told (sessionOf (hostSession s ts) .stamp .time .0)
+  host-near-honest c h e lies few =
+      subst (λ (u : Session). NearHonest lies told (u .stamp .time .0)) (host-writes-are-writes c h .session) (near-honest (planOf x) (to-write c h e) lies few)
+
+  pub host-complete-is-passed : OpenServes Write x a s₀ 0 s → HostCalls (HostWrites x) s d ts → sessionOf (hostSession s ts) .round .stage ≡ Storing
+      → (executed : ℕ → Bool) (written : ℕ) → planOf x .q ≤ numberOf executed (planOf x .n)
+      → ((c : Clock) → In c told → executed (c .S) ≡ true → AnswersAfter (planOf x) written c) → written < sessionOf (hostSession s ts) .stamp .time .0
+  host-complete-is-passed c h e executed written many k =
+      subst (λ (u : Session). written < u .stamp .time .0) (host-writes-are-writes c h .session) (complete-is-passed (planOf x) (to-write c h e) executed written many k)

@@ -112,9 +112,9 @@ module _ (p : Plan) (ok : planOk p ≡ true) (R : List Clock) (apart : Apart (p 
 answers-high : (p : Plan) (written : ℕ) (x : Clock) → AnswersAfter p written x → written ≤ x .Time
 answers-high p written x a =
     let held = stored-for-good p (a .write) (a .book) (a .room) (a .size) (a .bookLeft) (a .roomLeft) (a .later) (a .good) (a .bytes) (a .executed)
-        (eq-eqb (kindOf (a .write)) writeRequestKind (a .is-write)) (a .history) in
+    (eq-eqb (kindOf (a .write)) writeRequestKind (a .is-write)) (a .history) in
     let told = tells-every-time p (a .request) (lastBook (a .bookLeft) (a .later)) (a .buffer) (a .is-time) (a .length) (a .bookAfter) (a .bufferLeft) (a .answered)
-        (a .last-bytes) (bodyOf (a .write)) held in
+    (a .last-bytes) (bodyOf (a .write)) held in
     subst (λ (t : ℕ). t ≤ x .Time) (a .of) (subst (λ (c : Clock). time (bodyOf (a .write)) ≤ c .Time) (a .is) told)
 
 -- ---- a write that came to its write round

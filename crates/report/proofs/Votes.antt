@@ -171,8 +171,15 @@ pub enough-reach : (executed : ℕ → Bool) (n w : ℕ) (R : List Clock) → Ap
     → numberOf executed n + length R ≤ n + orMore w (Times R)
 unfolding Times
 enough-reach executed n w R a h =
-    omega (arith, number-both executed (reaching 0 R) n, reach-count 0 n R a, more-all (Times R), length-each (λ (x : Clock). x .Time) R, reach-count w n R a,
-    number-more (λ (k : ℕ). executed k and reaching 0 R k) (reaching w R) n reaches)
+    omega (
+      arith,
+      number-both executed (reaching 0 R) n,
+      reach-count 0 n R a,
+      more-all (Times R),
+      length-each (λ (x : Clock). x .Time) R,
+      reach-count w n R a,
+      number-more (λ (k : ℕ). executed k and reaching 0 R k) (reaching w R) n reaches,
+    )
   where
     reaches : (k : ℕ) → (executed k and reaching 0 R k) ≡ true → reaching w R k ≡ true
     reaches k e =

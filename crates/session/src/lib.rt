@@ -29,7 +29,7 @@ ghost use Rattle.session.specs.Session.{roundOpen, markedOf, endedOf, ne
 ghost use Rattle.session.specs.Ranges.{standingRules, openRules, inRange};
 ghost use Rattle.session.specs.Reply.{awaited, isHeard, awaitedLadder, replyLadder, takenNumber, headed};
 
-// What a client knows between two replies. The fields not in use are zero, and no call looks at them.
+// What a client knows between two replies. A field that is not in use is zero, or as its round left it, and no call looks at it.
 pub struct Session {
     pub operation: Operation,
     pub round: Round,

@@ -6,7 +6,6 @@ use mathlib.Core.List.{List, [], _∷_}
 use lib.Dec.{leb, ltb, eqb, lit<}
 use lib.ListN.{set}
 use Rattle.fragments.specs.Fragments.{All}
-use Rattle.terms.specs.Terms.{larger}
 use Rattle.terms.specs.declared.Time.{Time}
 use Rattle.rounds.specs.declared.Mark.{Mark}
 use Rattle.rounds.specs.Rounds.{bitOf}

@@ -19,7 +19,6 @@ use Rattle.terms.proofs.Small.{larger-is}
 use Rattle.clock.specs.Clock.{orMore, greatestWith, kthGreatest, IsKth}
 use Rattle.clock.proofs.Kth.{kth-is, kth-one}
 use Rattle.standing.specs.declared.Stage.{Stage}
-use Rattle.standing.specs.declared.Stage.the-variants.{Storing}
 use Rattle.session.specs.declared.Session.{Session}
 use Rattle.session.specs.Session.{Said, clockSpent}
 use Rattle.session.specs.Reply.{replyLadder}

@@ -1,14 +1,14 @@
 -- How many nodes a test holds of, and the time replies by node: as many nodes reach a time as replies are that or more (reach-count). So where
 -- more replies are v or more than nodes lie, one that does not lie is among them (some-honest); and where Q nodes executed a write and N-t replied,
 -- Q-t replies are of its time or more (enough-reach). Assumes nothing.
-use Prim.{Unit, tt}
+use Prim.{Unit}
 use Prim.Native.Nat.{ℕ, zero, suc, _+_, _-_, _≤_, _<_}
 use mathlib.Core.Path.{_≡_, refl, sym, ap, _∙_}
 use mathlib.Core.Bool.{Bool, true, false, cond}
 use mathlib.Core.List.{List, [], _∷_}
 use mathlib.Core.Logic.{inl, inr}
 use native.Mathlib.Omega.{arith}
-use borrow.Author.Tests.{leb-true, leb-false, le-leb, eqb-true, eqb-false, eq-eqb, ne-eqb}
+use borrow.Author.Tests.{leb-true, leb-false, le-leb, eqb-true, eqb-false, ne-eqb}
 use lib.Dec.{leb, eqb}
 use lib.ListN.{length}
 use Rattle.terms.specs.Ladder.{_and_}
@@ -16,7 +16,7 @@ use Rattle.terms.proofs.Rungs.{both, clash}
 use Rattle.clock.specs.Clock.{orMore}
 use Rattle.clock.proofs.Kth.{more-all}
 use Rattle.report.specs.Triple.{each, In}
-use Rattle.report.specs.Figure2.{in-set, GATHERED, Clock, clocks, Times}
+use Rattle.report.specs.Figure2.{in-set, Clock, Times}
 use Rattle.report.specs.NewTime.{numberOf, NearHonest}
 use Rattle.report.proofs.Lists.{length-each}
 

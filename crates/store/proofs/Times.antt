@@ -2,8 +2,8 @@
 -- (last-high), and a greater timestamp has no lower time (time-order). A frame cut off by its length (cut-off). Assumes nothing.
 use Prim.Native.Nat.{ℕ, zero, suc, _+_, _*_, _^_, _≤_, _<_}
 use mathlib.Core.Path.{_≡_, refl, sym, ap, _∙_, subst}
-use mathlib.Core.Bool.{Bool, true, false, cond}
-use mathlib.Core.List.{List, [], _∷_, _++_}
+use mathlib.Core.Bool.{Bool, true, false}
+use mathlib.Core.List.{List, [], _∷_}
 use mathlib.Core.Logic.{_⊎_, inl, inr}
 use native.Mathlib.Nat.{mul-le-mul-right, suc-mul}
 use native.Mathlib.Omega.{arith}
@@ -21,7 +21,7 @@ use Rattle.terms.specs.declared.Plan.{Plan}
 use Rattle.terms.proofs.Places.{record-length}
 use Rattle.frame.specs.Frame.{timeRequestKind, timeReplyKind, kindOf, headerIn, bodyOf, frameOf, framed, replying}
 use Rattle.frame.proofs.Built as built
-use Rattle.book.specs.Records.{rising, above, lastOf}
+use Rattle.book.specs.Records.{rising, lastOf}
 use Rattle.book.specs.Book.{recordsFrom, recordsOf, countOf, bookHead}
 use Rattle.book.proofs.Lists.{above-rising}
 use Rattle.book.proofs.Laid as laid

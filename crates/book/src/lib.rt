@@ -58,7 +58,7 @@ pub fn lent(n: usize) -> bool
 }
 
 // The header as a value: version 1 has no more than the fixed bytes.
-fn header_of(p: Plan, book: &[u8]) -> Book
+pub fn header_of(p: Plan, book: &[u8]) -> Book
     requires { ⌜ (planOk p ≡ true) × (bookHead 1 ≤ length (now book)) ⌝ }
     ensures { λ k. ⌜ (k ≡ bookIn p (now (book .entry))) × (k .count < 65536) × (k .each ≤ 1576) × (73 ≤ k .each) ⌝ }
 {

@@ -1,4 +1,5 @@
 -- For the functions below the call: what its door leaves, and the rest of its ladder. Assumes nothing.
+--   Open               a book that may be asked, and room for a reply
 --   Fitting Admitted   a request that may go on, and everything that is known with it
 --   finished           the last two refusals, and the answer
 use Prim.Native.Nat.{ℕ, _≤_, _<_}
@@ -13,8 +14,15 @@ use Rattle.frame.specs.declared.Header.{Header}
 use Rattle.frame.specs.declared.Party.the-variants.{Node}
 use Rattle.frame.specs.Frame.{headBytes, longest, headerIn, suits}
 use Rattle.book.specs.Book.{Sound}
+use Rattle.book.specs.declared.Book.{Book}
 use Rattle.node.specs.declared.Asked.{Asked}
-use Rattle.node.specs.Node.{workLadder, refused, ServedOutcome, servedOutcome, answered}
+use Rattle.node.specs.Node.{bookReplyOk, workLadder, refused, ServedOutcome, servedOutcome, answered}
+
+-- what refusals 1 to 3 leave: k is the header of a good book
+pub record Open (p : Plan) (k : Book) (b y : List ℕ) : Type 0 where
+  pub plan : planOk p ≡ true
+  pub lengths : bookReplyOk p (length b) (length y) ≡ true
+  pub book : Sound p k b
 
 -- h is the header of f, of a kind for a node, with a body of its kind, and for a node of the plan
 pub record Fitting (p : Plan) (h : Header) (f : List ℕ) : Type 0 where

@@ -11,7 +11,7 @@ ghost use Rattle.frame.specs.Frame.{timeReplyKind, writeRequestKind, writeReply
 ghost use Rattle.record.specs.Record.{stampOf};
 ghost use Rattle.book.specs.Records.{lastOf, lastBelow};
 ghost use Rattle.book.specs.Book.{recordsIn, Holds};
-ghost use Rattle.node.specs.Inside.{finished, Fitting, Admitted};
+ghost use Rattle.node.specs.Inside.{finished, Open, Fitting, Admitted};
 ghost use Rattle.node.specs.Node.{bookReplyOk, timeFails, hashFails, servedOutcome, saidServed, responded, NodeCall};
 ghost use Rattle.node.specs.Fresh.{FreshCall};
 use book::Book;
@@ -183,6 +183,21 @@ pub fn respond(p: Plan, a: Asked, request: &[u8], book: &mut [u8], reply: &mut [
     by_kind(p, a, request, book, reply)
 }
 
+// The node's call from refusal 4 on: a request at a good book, whose header is k. A run of frames is served by this, frame by frame.
+pub fn serve_at(p: Plan, k: Book, request: &[u8], book: &mut [u8], reply: &mut [u8]) -> Answer
+    requires { ⌜ Open p k (now book) (now reply) ⌝ }
+    ensures { λ a. ⌜ NodeCall p (now (request .entry)) (now (book .entry)) (now (reply .entry)) a (now (book .exit)) (now (reply .exit)) ⌝ }
+{
+    let door = frame::request_at(p, k.node, request);
+    match door {
+        Door::Bad => Answer::Refused(Refusal::WrongFrame),
+        Door::Open(h) => {
+            let a = Asked { frame: h, book: k };
+            respond(p, a, request, book, reply)
+        }
+    }
+}
+
 // The node's call: one request frame, the book and a reply buffer. Its first part is the door, refusals 1 to 4.
 pub fn serve(p: Plan, request: &[u8], book: &mut [u8], reply: &mut [u8]) -> Answer
     ensures { λ a. ⌜ NodeCall p (now (request .entry)) (now (book .entry)) (now (reply .entry)) a (now (book .exit)) (now (reply .exit)) ⌝ }
@@ -196,16 +211,7 @@ pub fn serve(p: Plan, request: &[u8], book: &mut [u8], reply: &mut [u8]) -> Answ
     let shape = book::good(p, book);
     match shape {
         Shape::Bad => Answer::Refused(Refusal::WrongBook),
-        Shape::Good(k) => {
-            let door = frame::request_at(p, k.node, request);
-            match door {
-                Door::Bad => Answer::Refused(Refusal::WrongFrame),
-                Door::Open(h) => {
-                    let a = Asked { frame: h, book: k };
-                    respond(p, a, request, book, reply)
-                }
-            }
-        }
+        Shape::Good(k) => serve_at(p, k, request, book, reply),
     }
 }
 

@@ -10,7 +10,7 @@ use borrow.Author.Tests.{eqb-true, eqb-false}
 use Rattle.terms.specs.Ladder.{Rung, on, first, None}
 use Rattle.terms.specs.Terms.{refusalNumber, refusalAt}
 use Rattle.terms.specs.declared.Refusal.{Refusal}
-use Rattle.terms.specs.declared.Refusal.the-variants.{OutsidePlan, WrongLength, WrongBook, WrongFrame, TimeZero, HashFails, OtherBytes, NoRoom, OutOfRange, NotAwaited, AlreadyHeard, NotBelow, AskTooHigh, HasEnded, NoPlan}
+use Rattle.terms.specs.declared.Refusal.the-variants.{OutsidePlan, WrongLength, WrongBook, WrongFrame, TimeZero, HashFails, OtherBytes, NoRoom, OutOfRange, NotAwaited, AlreadyHeard, NotBelow, AskTooHigh, HasEnded, NoPlan, ShortForRun}
 
 pub clash : true ≡ false → ⊥
 clash e = let z : _≡_ {A = ℕ} 0 1 = cc in omega arith
@@ -84,6 +84,7 @@ refusal-back NotBelow = refl
 refusal-back AskTooHigh = refl
 refusal-back HasEnded = refl
 refusal-back NoPlan = refl
+refusal-back ShortForRun = refl
 
 pub refusal-one : (r s : Refusal) → refusalNumber r ≡ refusalNumber s → r ≡ s
 refusal-one r s e = sym (refusal-back r) ∙ ap refusalAt e ∙ refusal-back s

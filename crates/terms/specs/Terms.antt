@@ -27,7 +27,7 @@ use Rattle.terms.specs.declared.Class.the-variants as class
 use Rattle.terms.specs.declared.Verdict.{Verdict}
 use Rattle.terms.specs.declared.Verdict.the-variants as verdict
 use Rattle.terms.specs.declared.Refusal.{Refusal}
-use Rattle.terms.specs.declared.Refusal.the-variants.{OutsidePlan, WrongLength, WrongBook, WrongFrame, TimeZero, HashFails, OtherBytes, NoRoom, OutOfRange, NotAwaited, AlreadyHeard, NotBelow, AskTooHigh, HasEnded, NoPlan}
+use Rattle.terms.specs.declared.Refusal.the-variants.{OutsidePlan, WrongLength, WrongBook, WrongFrame, TimeZero, HashFails, OtherBytes, NoRoom, OutOfRange, NotAwaited, AlreadyHeard, NotBelow, AskTooHigh, HasEnded, NoPlan, ShortForRun}
 
 abbrev pub larger : ℕ → ℕ → ℕ
 larger a b = cond (ltb a b) b a
@@ -116,10 +116,11 @@ refusalNumber NotBelow = 12
 refusalNumber AskTooHigh = 13
 refusalNumber HasEnded = 14
 refusalNumber NoPlan = 20
+refusalNumber ShortForRun = 21
 
 abbrev pub refusals : List Refusal
 refusals =
-    OutsidePlan ∷ WrongLength ∷ WrongBook ∷ WrongFrame ∷ TimeZero ∷ HashFails ∷ OtherBytes ∷ NoRoom ∷ OutOfRange ∷ NotAwaited ∷ AlreadyHeard ∷ NotBelow ∷ AskTooHigh ∷ HasEnded ∷ NoPlan ∷ []
+    OutsidePlan ∷ WrongLength ∷ WrongBook ∷ WrongFrame ∷ TimeZero ∷ HashFails ∷ OtherBytes ∷ NoRoom ∷ OutOfRange ∷ NotAwaited ∷ AlreadyHeard ∷ NotBelow ∷ AskTooHigh ∷ HasEnded ∷ NoPlan ∷ ShortForRun ∷ []
 
 -- a number that no refusal has gives the first
 abbrev pub refusalIn : List Refusal → ℕ → Refusal

@@ -216,13 +216,21 @@ pub fn answers(h: Header, ask: Ask) -> bool
     a.0 == ask.0
 }
 
+// The most bytes that a frame of this version and plan has: R+15.
+pub fn longest(version: u64, p: Plan) -> usize
+    requires { ⌜ planOk p ≡ true ⌝ }
+    ensures { λ r. ⌜ (r ≡ longest version p) × (r ≤ 1591) ⌝ }
+{
+    let r = terms::record_length(p);
+    r + head_bytes(version)
+}
+
 // Refusal 2: whether a buffer of n bytes holds any frame of this version and plan.
 pub fn holds_any(version: u64, p: Plan, n: usize) -> bool
     requires { ⌜ planOk p ≡ true ⌝ }
     ensures { λ r. ⌜ r ≡ leb (longest version p) n ⌝ }
 {
-    let r = terms::record_length(p);
-    r + head_bytes(version) <= n
+    longest(version, p) <= n
 }
 
 // The header of a request of version 1.

@@ -13,15 +13,16 @@ use Rattle.octets.specs.Bytes.{alike, Octets}
 use Rattle.octets.proofs.Meaning.{alike-is}
 use Rattle.terms.specs.Ladder.{None}
 use Rattle.terms.specs.Stamp.{stamp}
-use Rattle.terms.specs.Terms.{recordLength}
+use Rattle.terms.specs.Terms.{planOk, recordLength}
 use Rattle.terms.specs.declared.Plan.{Plan}
 use Rattle.terms.proofs.Rungs.{clash}
+use Rattle.terms.proofs.Ladders as ladders
 use Rattle.frame.specs.Frame.{bodyOf, headerIn}
 use Rattle.book.specs.Records.{some, holds, holdsOther, kept}
-use Rattle.book.specs.Book.{recordsOf, nodeOf, countOf, usedOf, goodBook, bookHead}
+use Rattle.book.specs.Book.{recordsOf, nodeOf, countOf, usedOf, goodBook, bookHead, Itself}
 use Rattle.book.proofs.Lists.{length-insert}
 use Rattle.book.proofs.Laid as laid
-use Rattle.node.specs.Node.{served, answered, ServedOutcome, servedOutcome, replied, nodeLadder, writes, otherHeld, noRoom, NodeCall}
+use Rattle.node.specs.Node.{served, answered, ServedOutcome, servedOutcome, refused, replied, nodeLadder, writes, otherHeld, noRoom, NodeCall}
 use Rattle.node.specs.declared.Answer.{Answer}
 use Rattle.node.specs.declared.Answer.the-variants.{Refused, Replied}
 use Rattle.node.proofs.Laws as nodes
@@ -57,11 +58,8 @@ same-after : (p : Plan) (b b₂ : List ℕ) → goodBook p b ≡ true → b₂ �
 same-after p b b₂ g e =
     record { good = ap (λ (x : List ℕ). goodBook p x) e ∙ g; keeps = λ z h. subst (λ (x : List ℕ). Among z (recordsOf p x)) (sym e) h }
 
-module _ (p : Plan) (f b y : List ℕ) (g : goodBook p b ≡ true) (o : Octets b) (n : theorems.Clear p f b y) (w : writes (headerIn f) ≡ true) where
+module _ (p : Plan) (f b y : List ℕ) (start : one.Laid p (nodeOf b) b b (recordsOf p b)) (n : theorems.Clear p f b y) (w : writes (headerIn f) ≡ true) where
   -- a write request that none of the refusals meets
-  start : one.Laid p (nodeOf b) b b (recordsOf p b)
-  start = one.itself p b (n .plan) g o (nodes.lengths-are p (length b) (length y) (n .lengths) .high)
-
   own-it : one.Own (bodyOf f) (recordsOf p b)
   unfolding otherHeld
   own-it = own (bodyOf f) (recordsOf p b) (rw w at (n .other))
@@ -94,7 +92,35 @@ module _ (p : Plan) (f b y : List ℕ) (g : goodBook p b ≡ true) (o : Octets b
       let k = order.kept-is (recordsOf p b) (bodyOf f) (start .rise) own-it in
       (record { good = one.is-good executed; keeps = λ z h. rw e (k .keeps z h) }, rw e (k .has))
 
+-- ---- a run of requests looks at the shape of a book once: whatever a request is, a good book that is laid out is so after it, and as long
+pub record StaysGood (p : Plan) (b b₂ : List ℕ) : Type 0 where
+  pub good : goodBook p b₂ ≡ true
+  pub laid : Itself p b₂
+  pub size : length b₂ ≡ length b
+
+pub served-stays : (p : Plan) (f b y : List ℕ) → planOk p ≡ true → goodBook p b ≡ true → Itself p b → length b ≤ 65536 → StaysGood p b (served p f b y .book)
+unfolding served
+served-stays p f b y pk g l h =
+    ladders.by-ladder (λ (o : ServedOutcome). StaysGood p b (o .book)) (nodeLadder p f b y) refuse (answered p (headerIn f) (bodyOf f) b y)
+    (λ k _. as-it-was b refl) (λ n. go (writes (headerIn f)) refl n)
+  where
+    refuse : ℕ → ServedOutcome
+    refuse k = servedOutcome (refused k) b y
+
+    as-it-was : (b₂ : List ℕ) → b₂ ≡ b → StaysGood p b b₂
+    as-it-was b₂ e = subst (StaysGood p b) (sym e) (record { good = g; laid = l; size = refl })
+
+    go : (t : Bool) → writes (headerIn f) ≡ t → None (nodeLadder p f b y) → StaysGood p b (answered p (headerIn f) (bodyOf f) b y .book)
+    go true w n =
+        let q = executed p f b y (one.start p b pk g l h) (theorems.clear p f b y n) w in
+        subst (StaysGood p b) (ap (λ (o : ServedOutcome). o .book) (ladders.is-passed (nodeLadder p f b y) refuse (answered p (headerIn f) (bodyOf f) b y) n)) (record { good = one.is-good q; laid = one.is-itself q; size = one.is-length q })
+    go false w n = as-it-was _ (one.answered-book p f b y ∙ nodes.after-other p (headerIn f) (bodyOf f) b w)
+
 module _ (p : Plan) (f b y : List ℕ) (g : goodBook p b ≡ true) (o : Octets b) where
+  -- its records laid out over it, where a call is not refused
+  pub start-of : None (nodeLadder p f b y) → one.Laid p (nodeOf b) b b (recordsOf p b)
+  start-of n = let c = theorems.clear p f b y n in one.itself p b (c .plan) g o (nodes.lengths-are p (length b) (length y) (c .lengths) .high)
+
   -- Whatever a call answers, it leaves a good book good and with all its records.
   pub call-keeps : (a : Answer) (b₂ y₂ : List ℕ) → NodeCall p f b y a b₂ y₂ → After p b b₂
   call-keeps (Refused r) b₂ y₂ c = same-after p b b₂ g (theorems.refused-is p f b y r b₂ y₂ c .1)
@@ -104,14 +130,15 @@ module _ (p : Plan) (f b y : List ℕ) (g : goodBook p b ≡ true) (o : Octets b
       q = theorems.replied-is p f b y n b₂ y₂ c
 
       go : (t : Bool) → writes (headerIn f) ≡ t → After p b b₂
-      go true w = subst (After p b) (sym (ap (λ (o : ServedOutcome). o .book) (c .is))) (written p f b y g o (theorems.clear p f b y (q .0)) w .0)
+      go true w = subst (After p b) (sym (ap (λ (o : ServedOutcome). o .book) (c .is))) (written p f b y (start-of (q .0)) (theorems.clear p f b y (q .0)) w .0)
       go false w = same-after p b b₂ g (ap (λ (o : ServedOutcome). o .book) (q .1) ∙ one.answered-book p f b y ∙ nodes.after-other p (headerIn f) (bodyOf f) b w)
 
   -- A write request that was acknowledged is in the book.
   pub call-stores : (n : ℕ) (b₂ y₂ : List ℕ) → NodeCall p f b y (Replied n) b₂ y₂ → writes (headerIn f) ≡ true → Among (bodyOf f) (recordsOf p b₂)
   call-stores n b₂ y₂ c w =
+      let m = theorems.replied-is p f b y n b₂ y₂ c .0 in
       subst (λ (x : List ℕ). Among (bodyOf f) (recordsOf p x)) (sym (ap (λ (o : ServedOutcome). o .book) (c .is)))
-      (written p f b y g o (theorems.clear p f b y (theorems.replied-is p f b y n b₂ y₂ c .0)) w .1)
+      (written p f b y (start-of m) (theorems.clear p f b y m) w .1)
 
 -- A call under another plan does no harm: it is refused, or its plan has the same N and F.
 pub any-call-keeps : (p q : Plan) (f b y : List ℕ) (a : Answer) (b₂ y₂ : List ℕ) → goodBook p b ≡ true → Octets b → NodeCall q f b y a b₂ y₂

@@ -22,7 +22,7 @@ use Rattle.frame.specs.Frame.{kindOf, bodyOf, goodRequest, headerIn, longest, w
 use Rattle.frame.proofs.Frames as frames
 use Rattle.record.specs.Record.{timeZero}
 use Rattle.book.specs.Records.{rising, some, holds, holdsOther, insertRecord, timed, kept}
-use Rattle.book.specs.Book.{recordsOf, nodeOf, countOf, blank, laidOut, goodBook, bookHead}
+use Rattle.book.specs.Book.{recordsOf, nodeOf, countOf, blank, laidOut, goodBook, bookHead, Itself}
 use Rattle.book.proofs.Lists.{length-insert}
 use Rattle.book.proofs.Laid as laid
 use Rattle.book.proofs.Back as back
@@ -118,21 +118,24 @@ pub record Laid (p : Plan) (node : ℕ) (old b : List ℕ) (rs : List (List ℕ)
   pub rise : rising rs ≡ true
   pub fits : bookHead 1 + length rs * recordLength p ≤ length old
 
--- a good book of bytes is its records laid out over itself
-pub itself : (p : Plan) (b : List ℕ) → planOk p ≡ true → goodBook p b ≡ true → Octets b → length b ≤ 65536 → Laid p (nodeOf b) b b (recordsOf p b)
-itself p b pk g o high =
+-- a good book that is laid out is its records laid out over itself; so is every good book of bytes
+pub start : (p : Plan) (b : List ℕ) → planOk p ≡ true → goodBook p b ≡ true → Itself p b → length b ≤ 65536 → Laid p (nodeOf b) b b (recordsOf p b)
+start p b pk g l high =
     let i = books.good-is p b g in
     let n = laid.length-records b (recordLength p) (countOf b) (bookHead 1) in
     record {
       plan = pk;
       low = i .head .node;
       high = high;
-      bytes = books.good-laid p b o i;
+      bytes = l;
       sizes = laid.sized b (recordLength p) (countOf b) (bookHead 1) (i .fill .inside);
       times = i .fill .times;
       rise = i .fill .rise;
       fits = subst (λ (k : ℕ). bookHead 1 + k * recordLength p ≤ length b) (sym n) (i .fill .inside);
     }
+
+pub itself : (p : Plan) (b : List ℕ) → planOk p ≡ true → goodBook p b ≡ true → Octets b → length b ≤ 65536 → Laid p (nodeOf b) b b (recordsOf p b)
+itself p b pk g o high = start p b pk g (books.good-laid p b o (books.good-is p b g)) high
 
 module _ {p : Plan} {node : ℕ} {old b : List ℕ} {rs : List (List ℕ)} (i : Laid p node old b rs) where
   one-low : 1 < 256
@@ -158,6 +161,14 @@ module _ {p : Plan} {node : ℕ} {old b : List ℕ} {rs : List (List ℕ)} (i : 
   pub is-length : length b ≡ length old
   is-length =
       ap length (i .bytes) ∙ length-over (laidOut p node rs) old (let q = i .fits in omega (arith, laid.length-laid 1 blank p node rs (i .sizes)))
+
+  pub is-itself : Itself p b
+  is-itself =
+      let x : List ℕ = laidOut p node rs in
+      let f = i .fits in
+      let l = laid.length-laid 1 blank p node rs (i .sizes) in
+      let e : over x b ≡ b = ap (over x) (i .bytes) ∙ over-over x x old (omega arith) ∙ sym (i .bytes) in
+      sym e ∙ sym (λ u. over (laidOut p (is-node u) (is-records u)) b)
 
   lengths-ok : (y : List ℕ) → longest 1 p ≤ length y → bookReplyOk p (length b) (length y) ≡ true
   unfolding bookReplyOk all

@@ -1,14 +1,14 @@
 -- Laws of ladders. Assumes nothing.
-use mathlib.Core.Path.{_≡_, refl, sym, ap, _∙_}
+use mathlib.Core.Path.{_≡_, refl, sym, ap, _∙_, subst}
 use mathlib.Core.Bool.{Bool, true, false, cond}
 use mathlib.Core.List.{List, [], _∷_}
-use Prim.Native.Nat.{ℕ, _≤_}
+use Prim.Native.Nat.{ℕ, _≤_, _<_}
 use Prim.{tt}
 use native.Mathlib.Omega.{arith}
-use lib.Dec.{eqb}
-use borrow.Author.Tests.{eqb-true, eqb-false}
+use lib.Dec.{eqb, ltb}
+use borrow.Author.Tests.{eqb-true, eqb-false, ltb-true}
 use Rattle.terms.specs.Ladder.{Rung, on, first, None}
-use Rattle.terms.specs.Terms.{refusalNumber, refusalAt}
+use Rattle.terms.specs.Terms.{refusalNumber, refusals, refusalIn, refusalAt}
 use Rattle.terms.specs.declared.Refusal.{Refusal}
 use Rattle.terms.specs.declared.Refusal.the-variants.{OutsidePlan, WrongLength, WrongBook, WrongFrame, TimeZero, HashFails, OtherBytes, NoRoom, OutOfRange, NotAwaited, AlreadyHeard, NotBelow, AskTooHigh, HasEnded, NoPlan, ShortForRun}
 
@@ -96,3 +96,21 @@ refusal-low r = go (eqb (refusalNumber r) 0) refl
     go : (t : Bool) → eqb (refusalNumber r) 0 ≡ t → 1 ≤ refusalNumber r
     go true e = let h : refusalNumber r ≡ 1 = ap refusalNumber (sym (refusal-back r) ∙ ap refusalAt (eqb-true (refusalNumber r) 0 e)) in omega arith
     go false e = let h = eqb-false (refusalNumber r) 0 e in omega arith
+
+-- and each is a byte
+bytes : List Refusal → Bool
+bytes [] = true
+bytes (r ∷ rs) = cond (ltb (refusalNumber r) 256) (bytes rs) false
+
+byte-in : (rs : List Refusal) → bytes rs ≡ true → (k : ℕ) → refusalNumber (refusalIn rs k) < 256
+unfolding bytes
+byte-in [] e k = omega arith
+byte-in (r ∷ rs) e k = let q = both (ltb (refusalNumber r) 256) _ e in go (eqb (refusalNumber r) k) (ltb-true _ _ (q .0)) (byte-in rs (q .1) k)
+  where
+    go : (t : Bool) → refusalNumber r < 256 → refusalNumber (refusalIn rs k) < 256 → refusalNumber (cond t r (refusalIn rs k)) < 256
+    go true l m = l
+    go false l m = m
+
+pub refusal-byte : (r : Refusal) → refusalNumber r < 256
+unfolding bytes
+refusal-byte r = subst (λ (x : Refusal). refusalNumber x < 256) (refusal-back r) (byte-in refusals refl (refusalNumber r))

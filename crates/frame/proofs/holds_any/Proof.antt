@@ -1,4 +1,5 @@
-use Prim.Native.Nat.{_+_}
+use mathlib.Core.Path.{ap}
+use Prim.Native.Nat.{ℕ}
 use lib.Dec.{leb}
 use borrow.Author.Needs.{needs}
 use Rattle.frame.proofs.holds_any.Statement.{statement}
@@ -8,5 +9,5 @@ pub holds-any-spec : {M : Type 1} → statement M
 holds-any-spec =
     tie.close
     (tie.spec
-    (λ c κs. search needs) (λ c κs. search needs) (λ c. search needs)
-    (λ c. λ i. leb (c .before .record-length .ensures .0 i + c .head-bytes .ensures i) (c .before .before .args .n)))
+    (λ c κs. search needs)
+    (λ c. ap (λ (x : ℕ). leb x (c .before .args .n)) (c .longest .ensures .0)))

@@ -1,8 +1,9 @@
 -- What a call answers, as a host is told it. Each call answers a number: 0 where it was served, opened, written, or accepted and the
--- operation is open; 1 to 31 the refusals of the documents, "Refusal numbers" (15 to 19 and 21 to 31 are kept free); 101 done, 102 never written, 103 aborted, 104 rounds spent, 105
+-- operation is open; 1 to 31 the refusals of the documents, "Refusal numbers" (15 to 19 and 22 to 31 are kept free); 101 done, 102 never written, 103 aborted, 104 rounds spent, 105
 -- clock spent. An ending is 42 bytes: timestamp 40, rounds 2.
 --   madeNumber servedNumber dueNumber answerNumber   an answer as a number
 --   smallestNumber countsBytes countsAfter   the answer of a wish; N and Q in a byte each, written where it is not refused
+--   ranNumber toldBytes toldAfter   the answer of a run; what it tells, in 8 bytes each, written where it is not refused
 --   endingBytes endingAfter   the ending bytes; written at an ending only
 --   endingOf answerOf         the answer that a number and ending bytes are
 --   bothFit lentLadder        1 and 2 of the lengths, before the call's own order
@@ -28,6 +29,8 @@ use Rattle.packing.specs.SessionBytes.{sessionLength}
 use Rattle.session.specs.Owed.{Due}
 use Rattle.wish.specs.Wish as wish
 use Rattle.wish.specs.Wish.{SaidSmallest}
+use Rattle.runs.specs.Runs as runs
+use Rattle.runs.specs.Runs.{SaidRan}
 
 -- ---- answers
 abbrev pub madeNumber : SaidMade → ℕ
@@ -61,6 +64,18 @@ countsBytes n q = be 1 n ++ be 1 q
 unfoldable pub countsAfter : SaidSmallest → List ℕ → List ℕ
 countsAfter (wish.refused k) old = old
 countsAfter (wish.counts n q) old = countsBytes n q
+
+-- ---- a run: frames cut, bytes of replies written, place where the run ended
+abbrev pub ranNumber : SaidRan → ℕ
+ranNumber (runs.refused k) = k
+ranNumber (runs.did n w e) = 0
+
+unfoldable pub toldBytes : ℕ → ℕ → ℕ → List ℕ
+toldBytes n w e = be 8 n ++ (be 8 w ++ be 8 e)
+
+unfoldable pub toldAfter : SaidRan → List ℕ → List ℕ
+toldAfter (runs.refused k) old = old
+toldAfter (runs.did n w e) old = toldBytes n w e
 
 -- ---- endings
 -- timestamp and rounds: zero where an ending has none

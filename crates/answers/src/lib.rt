@@ -1,6 +1,7 @@
 // What a call answers, as a host is told it: a number for each answer, and the 42 bytes of an ending. 0 is served, opened, or accepted and
-// open; 1 to 31 the documents' refusals, of which 15 to 19 and 21 to 31 are kept free; 101 to 105 the endings. Before the call come 1 and 2 of what a host lends.
+// open; 1 to 31 the documents' refusals, of which 15 to 19 and 22 to 31 are kept free; 101 to 105 the endings. Before the call come 1 and 2 of what a host lends.
 use node::Made;
+use runs::Ran;
 use session::Answer;
 use session::owed::Owed;
 use terms::Plan;
@@ -15,7 +16,8 @@ ghost use Rattle.node.specs.Fresh.{saidMade};
 ghost use Rattle.session.specs.Session.{saidOf, isRefused};
 ghost use Rattle.session.specs.Owed.{dueOf};
 ghost use Rattle.wish.specs.Wish.{saidSmallest};
-ghost use Rattle.answers.specs.Answers.{bothFit, lentLadder, madeNumber, servedNumber, dueNumber, answerNumber, smallestNumber, countsBytes, countsAfter, endingBytes, endingAfter};
+ghost use Rattle.runs.specs.Runs.{saidRan};
+ghost use Rattle.answers.specs.Answers.{bothFit, lentLadder, madeNumber, servedNumber, dueNumber, answerNumber, smallestNumber, countsBytes, countsAfter, ranNumber, toldBytes, toldAfter, endingBytes, endingAfter};
 
 pub fn made_number(m: Made) -> u32
     ensures { λ r. ⌜ r ≡ madeNumber (saidMade m) ⌝ }
@@ -84,6 +86,36 @@ pub fn put_counts(a: Smallest, counts: &mut [u8])
     match a {
         Smallest::Refused(_) => {}
         Smallest::Counts(n, q) => write_counts(n, q, counts),
+    }
+}
+
+pub fn ran_number(a: Ran) -> u32
+    ensures { λ r. ⌜ r ≡ ranNumber (saidRan a) ⌝ }
+{
+    match a {
+        Ran::Refused(r) => r.number(),
+        Ran::Did(_, _, _) => 0,
+    }
+}
+
+// Writes the three numbers of a run.
+fn write_told(frames: usize, written: usize, ended: usize, told: &mut [u8])
+    requires { ⌜ length (now told) ≡ 24 ⌝ }
+    ensures { λ _. ⌜ now (told .exit) ≡ toldBytes frames written ended ⌝ }
+{
+    octets::put_word(told, 0, frames as u64);
+    octets::put_word(told, 8, written as u64);
+    octets::put_word(told, 16, ended as u64);
+}
+
+// Writes what a run tells, if it was not refused.
+pub fn put_told(a: Ran, told: &mut [u8])
+    requires { ⌜ length (now told) ≡ 24 ⌝ }
+    ensures { λ _. ⌜ now (told .exit) ≡ toldAfter (saidRan a) (now (told .entry)) ⌝ }
+{
+    match a {
+        Ran::Refused(_) => {}
+        Ran::Did(frames, written, ended) => write_told(frames, written, ended, told),
     }
 }
 

@@ -18,6 +18,8 @@ use Rattle.node.specs.declared.Made.{Made}
 use Rattle.node.specs.Fresh.{FreshOutcome, freshened, saidMade, FreshCall}
 use Rattle.node.specs.Node as node
 use Rattle.node.specs.Node.{served, NodeCall}
+use Rattle.runs.specs.declared.Ran.{Ran}
+use Rattle.runs.specs.Runs.{RunOutcome, saidRan, ranOver, RunCall}
 use Rattle.standing.specs.declared.Operation.{Operation}
 use Rattle.session.specs.declared.Session.{Session}
 use Rattle.session.specs.declared.Took.{Took}
@@ -32,8 +34,8 @@ use Rattle.session.specs.Reader.{Outcome, readReply, ReadReplyCall}
 use Rattle.session.proofs.Checks.{none-applies, goes-on, stops}
 use Rattle.packing.specs.PlanBytes.{planOf}
 use Rattle.packing.specs.SessionBytes.{sessionLength, sessionBytes, sessionOf}
-use Rattle.answers.specs.Answers.{answerNumber, bothFit, dueNumber, endingAfter, lentLadder, madeNumber, servedNumber}
-use Rattle.pasis.specs.Store.{FreshBook, NodeServes}
+use Rattle.answers.specs.Answers.{answerNumber, bothFit, dueNumber, endingAfter, lentLadder, madeNumber, servedNumber, ranNumber, toldAfter}
+use Rattle.pasis.specs.Store.{FreshBook, NodeServes, runTold, runTells, runBytes, RunServes}
 use Rattle.pasis.specs.Client.{sessionFits, sessionAfter, openedBytes, openedAs, openBytes, OpenServes, asked, askedAs, owedBytes, OwedServes, tookBytes, tookAs, withItem, readBytes, writeBytes, WriteServes, ReadServes}
 
 -- ---- the storage-node
@@ -143,6 +145,19 @@ module _ (x s : List ℕ) (n : ℕ) (d q : List ℕ) (k : ℕ) (l : Lent x (sess
   owed-served p w o r q₂ e f g c h =
       let z = c .is ∙ (λ i. owedTo (f i) (g i) n d q) in
       record { is = ap (λ (j : ℕ). asked j q₂) h ∙ ap askedAs z ∙ lent-passes x _ k l (λ (j : ℕ). asked j q) _ e }
+
+-- ---- a run
+module _ (x s b y z t : List ℕ) (k : ℕ) (l : Lent x (eqb (length t) 24) k) where
+  pub run-refused : (k ≡ 0 → ⊥) → RunServes x s b y z t k b y z t
+  unfolding runBytes
+  run-refused h = record { is = lent-refuses x _ k l (λ (j : ℕ). runTold j b y z t) _ h }
+
+  pub run-served : (p : Plan) (a : Ran) (r : ℕ) (b₂ y₂ z₂ t₂ : List ℕ) → k ≡ 0 → p ≡ planOf x → RunCall p s b y z a b₂ y₂ z₂ → t₂ ≡ toldAfter (saidRan a) t
+      → r ≡ ranNumber (saidRan a) → RunServes x s b y z t r b₂ y₂ z₂ t₂
+  unfolding runBytes
+  run-served p a r b₂ y₂ z₂ t₂ e f c g h =
+      let q = c .is ∙ ap (λ (w : Plan). ranOver w s b y z) f in
+      record { is = (λ i. runTold (h i) b₂ y₂ z₂ (g i)) ∙ ap (λ (o : RunOutcome). runTells o t) q ∙ lent-passes x _ k l (λ (j : ℕ). runTold j b y z t) _ e }
 
 -- ---- a reply
 -- what a call writes after the answer and the session that it took

@@ -185,7 +185,7 @@ module _ (p : Plan) (f b y : List ℕ) (ob : Octets b) (of : Octets f) where
         let w : writes (headerIn f) ≡ true = eq-eqb (kindOf f) writeRequestKind k in
         let v : VALIDATE (family p) (nodeOf b) (tripleOf p (bodyOf f)) ≡ true = not-false _ (validates (clear .request) k ∙ clear .hash) in
         let e : recordsOf p b₂ ≡ kept (bodyOf f) (recordsOf p b) =
-        ap (λ (x : List ℕ). recordsOf p x) (ap (λ (o : ServedOutcome). o .book) (c .is)) ∙ one.is-records (keeps.executed p f b y (clear .good) ob clear w) in
+        ap (λ (x : List ℕ). recordsOf p x) (ap (λ (o : ServedOutcome). o .book) (c .is)) ∙ one.is-records (keeps.executed p f b y (keeps.start-of p f b y (clear .good) ob clear) clear w) in
         let q = keeps.call-keeps p f b y (clear .good) ob (Replied n) b₂ y₂ c in
         let h = keeps.call-stores p f b y (clear .good) ob n b₂ y₂ c w in
         record {
@@ -324,7 +324,7 @@ module _ (p : Plan) (f b y : List ℕ) (ob : Octets b) (of : Octets f) (g : good
       go : (t : Bool) → writes (headerIn f) ≡ t → Follows p b b₂ (fed (reaches p f b y))
       go true w =
           let e = write-acts p f b y ob of n b₂ y₂ c (eqb-true (kindOf f) 3 w) in
-          let q = keeps.executed p f b y g ob clear w in
+          let q = keeps.executed p f b y (keeps.start-of p f b y g ob clear) clear w in
           let l : b₂ ≡ served p f b y .book = ap (λ (o : ServedOutcome). o .book) (c .is) in
           subst (λ (t : Bool). Follows p b b₂ (fed t)) (sym (clear-reaches p f b y clear w))
           (record {

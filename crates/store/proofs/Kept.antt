@@ -117,9 +117,9 @@ served-stays p f b y pk g l h =
     go false w n = as-it-was _ (one.answered-book p f b y ∙ nodes.after-other p (headerIn f) (bodyOf f) b w)
 
 module _ (p : Plan) (f b y : List ℕ) (g : goodBook p b ≡ true) (o : Octets b) where
-  -- its records laid out over it, where a call is not refused
-  pub start-of : None (nodeLadder p f b y) → one.Laid p (nodeOf b) b b (recordsOf p b)
-  start-of n = let c = theorems.clear p f b y n in one.itself p b (c .plan) g o (nodes.lengths-are p (length b) (length y) (c .lengths) .high)
+  -- the book's records laid out over it, where a call is not refused
+  pub start-of : theorems.Clear p f b y → one.Laid p (nodeOf b) b b (recordsOf p b)
+  start-of c = one.itself p b (c .plan) g o (nodes.lengths-are p (length b) (length y) (c .lengths) .high)
 
   -- Whatever a call answers, it leaves a good book good and with all its records.
   pub call-keeps : (a : Answer) (b₂ y₂ : List ℕ) → NodeCall p f b y a b₂ y₂ → After p b b₂
@@ -130,15 +130,16 @@ module _ (p : Plan) (f b y : List ℕ) (g : goodBook p b ≡ true) (o : Octets b
       q = theorems.replied-is p f b y n b₂ y₂ c
 
       go : (t : Bool) → writes (headerIn f) ≡ t → After p b b₂
-      go true w = subst (After p b) (sym (ap (λ (o : ServedOutcome). o .book) (c .is))) (written p f b y (start-of (q .0)) (theorems.clear p f b y (q .0)) w .0)
+      go true w =
+          let m = theorems.clear p f b y (q .0) in
+          subst (After p b) (sym (ap (λ (o : ServedOutcome). o .book) (c .is))) (written p f b y (start-of m) m w .0)
       go false w = same-after p b b₂ g (ap (λ (o : ServedOutcome). o .book) (q .1) ∙ one.answered-book p f b y ∙ nodes.after-other p (headerIn f) (bodyOf f) b w)
 
   -- A write request that was acknowledged is in the book.
   pub call-stores : (n : ℕ) (b₂ y₂ : List ℕ) → NodeCall p f b y (Replied n) b₂ y₂ → writes (headerIn f) ≡ true → Among (bodyOf f) (recordsOf p b₂)
   call-stores n b₂ y₂ c w =
-      let m = theorems.replied-is p f b y n b₂ y₂ c .0 in
-      subst (λ (x : List ℕ). Among (bodyOf f) (recordsOf p x)) (sym (ap (λ (o : ServedOutcome). o .book) (c .is)))
-      (written p f b y (start-of m) (theorems.clear p f b y m) w .1)
+      let m = theorems.clear p f b y (theorems.replied-is p f b y n b₂ y₂ c .0) in
+      subst (λ (x : List ℕ). Among (bodyOf f) (recordsOf p x)) (sym (ap (λ (o : ServedOutcome). o .book) (c .is))) (written p f b y (start-of m) m w .1)
 
 -- A call under another plan does no harm: it is refused, or its plan has the same N and F.
 pub any-call-keeps : (p q : Plan) (f b y : List ℕ) (a : Answer) (b₂ y₂ : List ℕ) → goodBook p b ≡ true → Octets b → NodeCall q f b y a b₂ y₂

@@ -15,7 +15,6 @@ use borrow.Author.Tests.{leb-true, ltb-true, not-false}
 use lib.Dec.{leb}
 use lib.ListN.{length}
 use Rattle.octets.specs.Bytes.{over, Octets}
-use Rattle.terms.specs.Ladder.{None}
 use Rattle.terms.specs.Stamp.{time}
 use Rattle.terms.specs.declared.Plan.{Plan}
 use Rattle.terms.proofs.Down as down
@@ -31,7 +30,7 @@ use Rattle.node.specs.declared.Answer.the-variants.{Refused, Replied}
 use Rattle.node.specs.declared.Made.the-variants.{Fresh}
 use Rattle.node.specs.Fresh.{FreshCall, FreshOutcome, freshOutcome, made, freshened, freshLadder}
 use Rattle.node.specs.Fresh as fresh
-use Rattle.node.specs.Node.{NodeCall, ServedOutcome, served, nodeLadder, writes, hashFails}
+use Rattle.node.specs.Node.{NodeCall, ServedOutcome, served, writes, hashFails}
 use Rattle.node.proofs.Laws as nodes
 use Rattle.store.specs.Deliver.{Among}
 use Rattle.store.specs.History.{Call, History, lastBook, AllPass, OfCalls}
@@ -94,14 +93,11 @@ module _ (p : Plan) (f b y : List ℕ) (g : goodBook p b ≡ true) (o : Octets b
   unfolding hashFails
   stores-passing n b₂ y₂ c w = (at, λ z m. go z (order.kept-only (bodyOf f) z (recordsOf p b) (subst (Among z) rs m)))
     where
-      none : None (nodeLadder p f b y)
-      none = calls.replied-is p f b y n b₂ y₂ c .0
-
       q : calls.Clear p f b y
-      q = calls.clear p f b y none
+      q = calls.clear p f b y (calls.replied-is p f b y n b₂ y₂ c .0)
 
       x : one.Laid p (nodeOf b) b (served p f b y .book) (kept (bodyOf f) (recordsOf p b))
-      x = keeps.executed p f b y (keeps.start-of p f b y g o none) q w
+      x = keeps.executed p f b y (keeps.start-of p f b y g o q) q w
 
       e : b₂ ≡ served p f b y .book
       e = ap (λ (u : ServedOutcome). u .book) (c .is)

@@ -1,4 +1,5 @@
 -- A run of deliveries at one node: what it leaves is the records that it brings, each once, laid out over the old book. Assumes nothing.
+use Prim.{Unit, tt}
 use mathlib.Core.Path.{_≡_, refl, sym, ap, _∙_, subst}
 use mathlib.Core.Bool.{Bool, true, false, cond}
 use mathlib.Core.List.{List, [], _∷_}
@@ -13,7 +14,7 @@ use Rattle.terms.specs.Terms.{recordLength}
 use Rattle.terms.specs.declared.Plan.{Plan}
 use Rattle.terms.proofs.Rungs.{clash}
 use Rattle.book.specs.Book.{bookHead}
-use Rattle.frame.specs.Frame.{bodyOf}
+use Rattle.frame.specs.Frame.{bodyOf, longest}
 use Rattle.book.specs.Records.{holds, kept}
 use Rattle.book.proofs.Lists.{length-insert}
 use Rattle.node.specs.Node.{ServedOutcome, served}
@@ -22,20 +23,58 @@ use Rattle.store.proofs.Order as order
 use Rattle.store.proofs.Order.{Agree, Of}
 use Rattle.store.proofs.One as one
 
--- ---- the book of node i, apart from the others: by their contracts, what its calls leave
-unfoldable pub through : Plan → ℕ → List Delivery → List ℕ → List ℕ
-through p i [] b = b
-through p i (d ∷ ds) b = through p i ds (cond (eqb i (d .node)) (served p (d .request) b (d .reply) .book) b)
+-- ---- the requests that one node is brought, each with the reply buffer that it is lent, and what they leave of its book
+pub record Brought : Type 0 where
+  pub request : List ℕ
+  pub reply : List ℕ
 
-pub after-through : (p : Plan) (ds : List Delivery) (books : ℕ → List ℕ) (i : ℕ) → Called p books ds → delivered ds books i ≡ through p i ds (books i)
-unfolding delivered through
-after-through p [] books i h = refl
-after-through p (d ∷ ds) books i h = after-through p ds (booksAfter d books) i (h .1) ∙ ap (through p i ds) (go (eqb i (d .node)) refl)
+unfoldable pub requestsOf : List Brought → List (List ℕ)
+requestsOf [] = []
+requestsOf (d ∷ ds) = d .request ∷ requestsOf ds
+
+unfoldable pub through : Plan → List Brought → List ℕ → List ℕ
+through p [] b = b
+through p (d ∷ ds) b = through p ds (served p (d .request) b (d .reply) .book)
+
+abbrev pub RoomyEach : Plan → List Brought → Type 0
+RoomyEach p [] = Unit {0}
+RoomyEach p (d ∷ ds) = (longest 1 p ≤ length (d .reply)) × RoomyEach p ds
+
+-- ---- those of a run of calls, apart from what other nodes are brought
+unfoldable pub brought : ℕ → List Delivery → List Brought
+brought i [] = []
+brought i (d ∷ ds) = cond (eqb i (d .node)) (record { request = d .request; reply = d .reply } ∷ brought i ds) (brought i ds)
+
+pub brought-sent : (i : ℕ) (ds : List Delivery) → requestsOf (brought i ds) ≡ sent i ds
+unfolding requestsOf brought sent
+brought-sent i [] = refl
+brought-sent i (d ∷ ds) = go (eqb i (d .node)) (brought-sent i ds)
   where
-    go : (t : Bool) → eqb i (d .node) ≡ t → cond t (d .bookLeft) (books i) ≡ cond t (served p (d .request) (books i) (d .reply) .book) (books i)
+    go : (t : Bool) → requestsOf (brought i ds) ≡ sent i ds
+        → requestsOf (cond t (record { request = d .request; reply = d .reply } ∷ brought i ds) (brought i ds)) ≡ cond t (d .request ∷ sent i ds) (sent i ds)
+    go true ih = ap (λ (l : List (List ℕ)). d .request ∷ l) ih
+    go false ih = ih
+
+pub brought-roomy : (p : Plan) (i : ℕ) (ds : List Delivery) → Roomy p ds → RoomyEach p (brought i ds)
+unfolding brought
+brought-roomy p i [] r = tt
+brought-roomy p i (d ∷ ds) r = go (eqb i (d .node)) (brought-roomy p i ds (r .1))
+  where
+    go : (t : Bool) → RoomyEach p (brought i ds) → RoomyEach p (cond t (record { request = d .request; reply = d .reply } ∷ brought i ds) (brought i ds))
+    go true ih = (r .0, ih)
+    go false ih = ih
+
+-- by their contracts, what the calls leave
+pub after-through : (p : Plan) (ds : List Delivery) (books : ℕ → List ℕ) (i : ℕ) → Called p books ds → delivered ds books i ≡ through p (brought i ds) (books i)
+unfolding delivered through brought
+after-through p [] books i h = refl
+after-through p (d ∷ ds) books i h = after-through p ds (booksAfter d books) i (h .1) ∙ go (eqb i (d .node)) refl
+  where
+    go : (t : Bool) → eqb i (d .node) ≡ t
+        → through p (brought i ds) (cond t (d .bookLeft) (books i)) ≡ through p (cond t (record { request = d .request; reply = d .reply } ∷ brought i ds) (brought i ds)) (books i)
     go true e =
-        ap (λ (o : ServedOutcome). o .book) (h .0 .is)
-        ∙ ap (λ (j : ℕ). served p (d .request) (books j) (d .reply) .book) (sym (eqb-true i (d .node) e))
+        ap (through p (brought i ds))
+        (ap (λ (o : ServedOutcome). o .book) (h .0 .is) ∙ ap (λ (j : ℕ). served p (d .request) (books j) (d .reply) .book) (sym (eqb-true i (d .node) e)))
     go false e = refl
 
 -- ---- requests and the records that they bring
@@ -93,48 +132,44 @@ grows (x ∷ xs) rs = let a = grows xs (kept x rs) in let c = more (holds x rs) 
     more false e = rw (order.kept-new x rs e) (omega (arith, length-insert x rs))
 
 -- what the rest of a run, which brings the records xs, leaves of a book that is the records ss
-abbrev Leaves : Plan → ℕ → List ℕ → List Delivery → List (List ℕ) → List ℕ → List (List ℕ) → Type 0
+abbrev Leaves : Plan → ℕ → List ℕ → List Brought → List (List ℕ) → List ℕ → List (List ℕ) → Type 0
 Leaves p node old ds xs c ss =
-    Agree (Of ss xs) → bookHead 1 + length (keptAll xs ss) * recordLength p ≤ length old → one.Laid p node old (through p node ds c) (keptAll xs ss)
+    Agree (Of ss xs) → bookHead 1 + length (keptAll xs ss) * recordLength p ≤ length old → one.Laid p node old (through p ds c) (keptAll xs ss)
 
-pub run : (p : Plan) (node : ℕ) (old : List ℕ) (ds : List Delivery) (b : List ℕ) (rs : List (List ℕ)) → one.Laid p node old b rs → Roomy p ds
-    → Agree (Of rs (acceptedAt p node (sent node ds))) → bookHead 1 + length (keptAll (acceptedAt p node (sent node ds)) rs) * recordLength p ≤ length old
-    → one.Laid p node old (through p node ds b) (keptAll (acceptedAt p node (sent node ds)) rs)
-unfolding through sent acceptedAt keptAll
+pub run : (p : Plan) (node : ℕ) (old : List ℕ) (ds : List Brought) (b : List ℕ) (rs : List (List ℕ)) → one.Laid p node old b rs → RoomyEach p ds
+    → Leaves p node old ds (acceptedAt p node (requestsOf ds)) b rs
+unfolding through requestsOf acceptedAt keptAll
 run p node old [] b rs i ro g room = i
-run p node old (d ∷ ds) b rs i ro g room = here (eqb node (d .node)) refl g room (λ c ss j. run p node old ds c ss j (ro .1))
+run p node old (d ∷ ds) b rs i ro g room = pass (passes p node (d .request)) refl g room (λ c ss j. run p node old ds c ss j (ro .1))
   where
-    tie : (z : List ℕ) → (bodyOf (d .request) ≡ z) ⊎ Among z rs → Of rs (bodyOf (d .request) ∷ acceptedAt p node (sent node ds)) z
-    tie z (inl e) = inr (order.among-first (bodyOf (d .request)) z (acceptedAt p node (sent node ds)) e)
+    rec : List ℕ
+    rec = bodyOf (d .request)
+
+    xs : List (List ℕ)
+    xs = acceptedAt p node (requestsOf ds)
+
+    after : List ℕ
+    after = served p (d .request) b (d .reply) .book
+
+    tie : (z : List ℕ) → (rec ≡ z) ⊎ Among z rs → Of rs (rec ∷ xs) z
+    tie z (inl e) = inr (order.among-first rec z xs e)
     tie z (inr h) = inl h
 
-    wide : order.Kept rs (bodyOf (d .request)) → (z : List ℕ) → Of (kept (bodyOf (d .request)) rs) (acceptedAt p node (sent node ds)) z
-        → Of rs (bodyOf (d .request) ∷ acceptedAt p node (sent node ds)) z
+    wide : order.Kept rs rec → (z : List ℕ) → Of (kept rec rs) xs z → Of rs (rec ∷ xs) z
     wide kk z (inl h) = tie z (kk .only z h)
-    wide kk z (inr h) = inr (order.among-later (bodyOf (d .request)) z (acceptedAt p node (sent node ds)) h)
+    wide kk z (inr h) = inr (order.among-later rec z xs h)
 
-    pass : (t : Bool) → passes p node (d .request) ≡ t
-        → Agree (Of rs (cond t (bodyOf (d .request) ∷ acceptedAt p node (sent node ds)) (acceptedAt p node (sent node ds))))
-        → bookHead 1 + length (keptAll (cond t (bodyOf (d .request) ∷ acceptedAt p node (sent node ds)) (acceptedAt p node (sent node ds))) rs) * recordLength p ≤ length old
-        → ((c : List ℕ) (ss : List (List ℕ)) → one.Laid p node old c ss → Leaves p node old ds (acceptedAt p node (sent node ds)) c ss)
-        → one.Laid p node old (through p node ds (served p (d .request) b (d .reply) .book)) (keptAll (cond t (bodyOf (d .request) ∷ acceptedAt p node (sent node ds)) (acceptedAt p node (sent node ds))) rs)
+    pass : (t : Bool) → passes p node (d .request) ≡ t → Agree (Of rs (cond t (rec ∷ xs) xs))
+        → bookHead 1 + length (keptAll (cond t (rec ∷ xs) xs) rs) * recordLength p ≤ length old
+        → ((c : List ℕ) (ss : List (List ℕ)) → one.Laid p node old c ss → Leaves p node old ds xs c ss)
+        → one.Laid p node old (through p ds after) (keptAll (cond t (rec ∷ xs) xs) rs)
     pass true e ag rm ih =
-        let rec : List ℕ = bodyOf (d .request) in
-        let xs : List (List ℕ) = acceptedAt p node (sent node ds) in
         let own : one.Own rec rs = λ z h q. ag z rec (inl h) (inr (order.among-first rec rec xs refl)) q in
         let kk : order.Kept rs rec = order.kept-is rs rec (i .rise) own in
         let gr : length (kept rec rs) ≤ length (keptAll xs (kept rec rs)) = grows xs (kept rec rs) in
         let ml : length (kept rec rs) * recordLength p ≤ length (keptAll xs (kept rec rs)) * recordLength p = mul-le-mul-right (recordLength p) gr in
         let j = one.deliver-one i (d .request) (d .reply) (ro .0) e own (omega arith) in
-        ih (served p (d .request) b (d .reply) .book) (kept rec rs) j (λ z w hz hw q. ag z w (wide kk z hz) (wide kk w hw) q) rm
+        ih after (kept rec rs) j (λ z w hz hw q. ag z w (wide kk z hz) (wide kk w hw) q) rm
     pass false e ag rm ih =
-        let st : served p (d .request) b (d .reply) .book ≡ b = one.not-passed p (d .request) b (d .reply)
-        (ap (λ (x : ℕ). passes p x (d .request)) (one.is-node i) ∙ e) in
-        ih (served p (d .request) b (d .reply) .book) rs (subst (λ (x : List ℕ). one.Laid p node old x rs) (sym st) i) ag rm
-
-    here : (t : Bool) → eqb node (d .node) ≡ t → Agree (Of rs (acceptedAt p node (cond t (d .request ∷ sent node ds) (sent node ds))))
-        → bookHead 1 + length (keptAll (acceptedAt p node (cond t (d .request ∷ sent node ds) (sent node ds))) rs) * recordLength p ≤ length old
-        → ((c : List ℕ) (ss : List (List ℕ)) → one.Laid p node old c ss → Leaves p node old ds (acceptedAt p node (sent node ds)) c ss)
-        → one.Laid p node old (through p node ds (cond t (served p (d .request) b (d .reply) .book) b)) (keptAll (acceptedAt p node (cond t (d .request ∷ sent node ds) (sent node ds))) rs)
-    here true e ag rm ih = pass (passes p node (d .request)) refl ag rm ih
-    here false e ag rm ih = ih b rs i ag rm
+        let st : after ≡ b = one.not-passed p (d .request) b (d .reply) (ap (λ (x : ℕ). passes p x (d .request)) (one.is-node i) ∙ e) in
+        ih after rs (subst (λ (x : List ℕ). one.Laid p node old x rs) (sym st) i) ag rm

@@ -3,7 +3,7 @@
 -- One theorem a call, for whatever it was lent: it is refused k, where k is the first refusal of the call's order that applies, and
 -- everything is as it came; or no refusal applies, and it is answered as document 01 says. That a call ends at all is part of its being
 -- proved. Demand 2's "Each refusal is given exactly when document 01 says" stands in Refusals. Assumes nothing.
---   node-ends fresh-ends opening-ends owed-ends write-ends read-ends wish-ends
+--   node-ends run-ends fresh-ends opening-ends owed-ends write-ends read-ends wish-ends
 use Prim.Native.Nat.{ℕ}
 use mathlib.Core.Path.{_≡_, refl, sym, ap, _∙_, subst}
 use mathlib.Core.Bool.{false}
@@ -24,6 +24,9 @@ use Rattle.node.specs.Node as node
 use Rattle.node.specs.Node.{NodeCall, nodeLadder, served, answered}
 use Rattle.node.specs.Fresh as fresh
 use Rattle.node.specs.Fresh.{FreshCall, FreshOutcome, freshOutcome, freshLadder, freshened, saidMade}
+use Rattle.runs.specs.declared.Ran.{Ran}
+use Rattle.runs.specs.Runs as runs
+use Rattle.runs.specs.Runs.{RunOutcome, runOutcome, saidRan, runLadder, runOf, ranOver, RunCall}
 use Rattle.session.specs.declared.Session.{Session}
 use Rattle.standing.specs.declared.Operation.{Operation}
 use Rattle.session.specs.declared.Took.{Took}
@@ -61,6 +64,19 @@ node-ends p f b y a b₂ y₂ c =
     → Ends (nodeLadder p f b y) (λ (k : ℕ). (node.saidServed a ≡ node.refused k) × (b₂ ≡ b) × (y₂ ≡ y)) (node.servedOutcome (node.saidServed a) b₂ y₂ ≡ answered p (headerIn f) (bodyOf f) b y))
     (nodeLadder p f b y) (λ (k : ℕ). node.servedOutcome (node.refused k) b y) (answered p (headerIn f) (bodyOf f) b y)
     (λ k g h. refuses k g (ap (λ (o : node.ServedOutcome). o .answer) h, ap (λ (o : node.ServedOutcome). o .book) h, ap (λ (o : node.ServedOutcome). o .reply) h))
+    (λ n h. accepts n h)
+    (c .is)
+
+-- a run: order 1, 2, 21, 3; the frames that were cut, or nothing but the refusal
+pub run-ends : (p : Plan) (s b y z : List ℕ) (a : Ran) (b₂ y₂ z₂ : List ℕ) → RunCall p s b y z a b₂ y₂ z₂
+    → Ends (runLadder p s b y z) (λ (k : ℕ). (saidRan a ≡ runs.refused k) × (b₂ ≡ b) × (y₂ ≡ y) × (z₂ ≡ z)) (runOutcome (saidRan a) b₂ y₂ z₂ ≡ runOf p s b y z)
+unfolding ranOver
+run-ends p s b y z a b₂ y₂ z₂ c =
+    ladders.by-ladder
+    (λ (o : RunOutcome). runOutcome (saidRan a) b₂ y₂ z₂ ≡ o
+    → Ends (runLadder p s b y z) (λ (k : ℕ). (saidRan a ≡ runs.refused k) × (b₂ ≡ b) × (y₂ ≡ y) × (z₂ ≡ z)) (runOutcome (saidRan a) b₂ y₂ z₂ ≡ runOf p s b y z))
+    (runLadder p s b y z) (λ (k : ℕ). runOutcome (runs.refused k) b y z) (runOf p s b y z)
+    (λ k g h. refuses k g (ap (λ (o : RunOutcome). o .answer) h, ap (λ (o : RunOutcome). o .book) h, ap (λ (o : RunOutcome). o .reply) h, ap (λ (o : RunOutcome). o .numbers) h))
     (λ n h. accepts n h)
     (c .is)
 

@@ -1,7 +1,7 @@
--- DEMAND 3. Order of arrival does not matter: at the nodes' books (books-in-any-order), and in a read round (replies-in-any-order); nor does it in a time
--- round, whose replies decide the new time (times-in-any-order; document 02, Q-2). Assumes nothing.
+-- DEMAND 3. Order of arrival does not matter: at the nodes' books (books-in-any-order), also where the requests come in runs (runs-in-any-order, runs-as-singly; document
+-- 02, Q-3), and in a read round (replies-in-any-order); nor does it in a time round, whose replies decide the new time (times-in-any-order; document 02, Q-2). Assumes nothing.
 use Prim.Native.Nat.{ℕ, _<_}
-use mathlib.Core.Path.{_≡_}
+use mathlib.Core.Path.{_≡_, sym, _∙_}
 use mathlib.Core.List.{List}
 use lib.ListN.{length}
 use Rattle.terms.specs.declared.Plan.{Plan}
@@ -13,9 +13,11 @@ use Rattle.session.specs.Writer.{leaves}
 use Rattle.client.specs.Turns.{Turn, ReadTurn, WriteTurn, Calls}
 use Rattle.client.specs.Round.{roundAt, RoundOpens, Acceptable, Each, OneANode, SameReplies, Lent, repliesOf, answersOf, leftBy}
 use Rattle.client.specs.TimeRound.{TimeRoundOpens, AcceptableTime, LentEach, lastLeaves}
-use Rattle.store.proofs.Books.{every-book, what-is-left, any-order}
+use Rattle.store.proofs.Books.{left, holding, every-book, what-is-left, any-order}
 use Rattle.client.proofs.Round.Calls.{any-order-acceptable-calls}
 use Rattle.client.proofs.Round.Times.{any-order-times}
+use Rattle.demands.specs.Evening.{RunDelivery, deliveredByRuns, RunSetting}
+use Rattle.demands.proofs.Evening.{runs-left}
 
 -- "Take good books and a set of write requests. Each book and reply buffer has room, and at one node no two requests that pass the checks,
 -- and no such request and held record, share a timestamp but not the record (Setting). Then delivering all of them, in any order and with
@@ -26,6 +28,24 @@ pub books-in-any-order : (p : Plan) (books : ℕ → List ℕ) (requests : List 
     → (delivered one books i ≡ delivered other books i) × (delivered one books i ≡ finalBook p (books i) requests) × Contents p (books i) requests
 books-in-any-order p books requests one other g h i l =
     (any-order p books requests one other g h i l, every-book p books requests one g i l, what-is-left p books requests one g i l)
+
+-- "Demand 3 reads over the frames so cut, of runs not refused." Any two deliveries whose cut frames deliver the set, cut into runs in any way, in any order and with
+-- repeats, leave the same bytes in all N books: the old records and the accepted ones, each once, by timestamp.
+pub runs-in-any-order : (p : Plan) (books : ℕ → List ℕ) (requests : List (List ℕ)) (one other : List RunDelivery)
+    → RunSetting p books requests one → RunSetting p books requests other → (i : ℕ) → i < p .n
+    → (deliveredByRuns one books i ≡ deliveredByRuns other books i) × (deliveredByRuns one books i ≡ finalBook p (books i) requests) × Contents p (books i) requests
+runs-in-any-order p books requests one other g h i l =
+    let a = runs-left p i books requests one (g .calls) (g .delivers i l) in
+    let e = a .0 ∙ left p books requests i (g .plan) (g .ready i l) _ (a .1) in
+    let b = runs-left p i books requests other (h .calls) (h .delivers i l) in
+    let f = b .0 ∙ left p books requests i (h .plan) (h .ready i l) _ (b .1) in
+    (e ∙ sym f, e, holding p books requests i (g .plan) (g .ready i l) _ (a .1))
+
+-- And the same bytes as single calls leave that deliver the same set.
+pub runs-as-singly : (p : Plan) (books : ℕ → List ℕ) (requests : List (List ℕ)) (runs : List RunDelivery) (calls : List Delivery)
+    → RunSetting p books requests runs → Setting p books requests calls → (i : ℕ) → i < p .n → deliveredByRuns runs books i ≡ delivered calls books i
+runs-as-singly p books requests runs calls g h i l =
+    runs-in-any-order p books requests runs runs g g i l .1 ∙ sym (every-book p books requests calls h i l)
 
 -- "From one session, desk and sheet buffer, a read round that opens there and hears the same N - t acceptable replies, one a node, ends alike
 -- in whichever order they come": the same answers in turn, and at the end the same session, desk and item. Acceptable is a reply that is not

@@ -1,7 +1,7 @@
 -- The calls for a host, on numbers and bytes. Assumes nothing.
 -- Two outcomes that one contract allows are equal: the number answered and every byte of every lent slice, session bytes too, at every
--- input: host-fresh-unique host-node-unique host-open-unique host-owed-unique host-write-unique host-read-unique host-wish-unique.
--- DEMAND 1 of them: a refused call changes no byte: host-fresh-stays host-node-stays host-open-stays host-owed-stays host-write-stays
+-- input: host-fresh-unique host-node-unique host-run-unique host-open-unique host-owed-unique host-write-unique host-read-unique host-wish-unique.
+-- DEMAND 1 of them: a refused call changes no byte: host-fresh-stays host-node-stays host-run-stays host-open-stays host-owed-stays host-write-stays
 -- host-read-stays host-wish-stays. Refused is a number that is neither 0 nor, of a reply, 101 or more. Where a wish is not refused, the two bytes are its
 -- smallest N and Q: host-wish-granted.
 use Prim.Native.Nat.{ℕ, _≤_, _<_}
@@ -11,7 +11,7 @@ use mathlib.Core.List.{List, [], _∷_, _++_}
 use native.Mathlib.Omega.{arith}
 use native.Mathlib.Nat.{mod-eq-of-lt}
 use borrow.Author.Tests.{ne-eqb, leb-true}
-use lib.Dec.{leb}
+use lib.Dec.{leb, eqb}
 use lib.ListN.{length}
 use Rattle.octets.specs.Bytes.{be, beOnto}
 use Rattle.terms.specs.Ladder.{Rung, first, Given}
@@ -22,6 +22,8 @@ use Rattle.rounds.specs.declared.Bound.the-variants.{Free}
 use Rattle.node.specs.Fresh.{FreshOutcome, freshLadder, freshened}
 use Rattle.node.specs.Node as node
 use Rattle.node.specs.Node.{nodeLadder, served, answered, sends}
+use Rattle.runs.specs.Runs as runs
+use Rattle.runs.specs.Runs.{RunOutcome, runOutcome, runLadder, ranOver}
 use Rattle.standing.specs.declared.Operation.{Operation}
 use Rattle.standing.specs.declared.Operation.the-variants.{Write}
 use Rattle.session.specs.declared.Session.{Session}
@@ -36,8 +38,8 @@ use Rattle.client.specs.Endings.{readLadder}
 use Rattle.client.proofs.Reading as reading
 use Rattle.packing.specs.PlanBytes.{planOf, wishOf}
 use Rattle.packing.specs.SessionBytes.{sessionBytes, sessionOf}
-use Rattle.answers.specs.Answers.{lentLadder, bothFit, madeNumber, servedNumber, dueNumber, answerNumber, endingAfter, smallestNumber, countsBytes, countsAfter}
-use Rattle.pasis.specs.Store.{FreshBook, NodeServes}
+use Rattle.answers.specs.Answers.{lentLadder, bothFit, madeNumber, servedNumber, dueNumber, answerNumber, endingAfter, smallestNumber, countsBytes, countsAfter, toldAfter}
+use Rattle.pasis.specs.Store.{FreshBook, NodeServes, RunTold, runTold, runTells, runBytes, RunServes}
 use Rattle.pasis.specs.Client.{sessionFits, sessionAfter, OpenedBytes, openedBytes, openBytes, OpenServes, Asked, asked, owedBytes, OwedServes, TookBytes, tookBytes, withItem, tookAs, writeBytes, readBytes, WriteServes, ReadServes}
 use Rattle.wish.specs.declared.Wish.{Wish}
 use Rattle.wish.specs.declared.Smallest.{Smallest}
@@ -57,6 +59,12 @@ host-fresh-unique x n b r r′ b₂ b₂′ c c′ = (c .number ∙ sym (c′ .n
 pub host-node-unique : (x f b y : List ℕ) (r r′ : ℕ) (b₂ b₂′ y₂ y₂′ : List ℕ) → NodeServes x f b y r b₂ y₂ → NodeServes x f b y r′ b₂′ y₂′
     → (r ≡ r′) × (b₂ ≡ b₂′) × (y₂ ≡ y₂′)
 host-node-unique x f b y r r′ b₂ b₂′ y₂ y₂′ c c′ = (c .number ∙ sym (c′ .number), c .book ∙ sym (c′ .book), c .reply ∙ sym (c′ .reply))
+
+pub host-run-unique : (x s b y z t : List ℕ) (r r′ : ℕ) (b₂ b₂′ y₂ y₂′ z₂ z₂′ t₂ t₂′ : List ℕ) → RunServes x s b y z t r b₂ y₂ z₂ t₂
+    → RunServes x s b y z t r′ b₂′ y₂′ z₂′ t₂′ → (r ≡ r′) × (b₂ ≡ b₂′) × (y₂ ≡ y₂′) × (z₂ ≡ z₂′) × (t₂ ≡ t₂′)
+host-run-unique x s b y z t r r′ b₂ b₂′ y₂ y₂′ z₂ z₂′ t₂ t₂′ c c′ =
+    let q = c .is ∙ sym (c′ .is) in
+    (ap (λ (o : RunTold). o .number) q, ap (λ (o : RunTold). o .book) q, ap (λ (o : RunTold). o .reply) q, ap (λ (o : RunTold). o .numbers) q, ap (λ (o : RunTold). o .told) q)
 
 pub host-open-unique : (op : Operation) (x : List ℕ) (a : ℕ) (s : List ℕ) (r r′ : ℕ) (s₂ s₂′ : List ℕ) → OpenServes op x a s r s₂ → OpenServes op x a s r′ s₂′
     → (r ≡ r′) × (s₂ ≡ s₂′)
@@ -97,6 +105,18 @@ host-node-stays x f b y r b₂ y₂ c h =
     outcome-all (λ (o : node.ServedOutcome). (servedNumber (o .answer) ≡ 0 → ⊥) → (o .book ≡ b) × (o .reply ≡ y)) (nodeLadder (planOf x) f b y) _ _
     (λ k g. (refl, refl)) (λ e g. absurd (g refl)) (λ e. h (c .number ∙ e)) in
     (c .book ∙ q .0, c .reply ∙ q .1)
+
+pub host-run-stays : (x s b y z t : List ℕ) (r : ℕ) (b₂ y₂ z₂ t₂ : List ℕ) → RunServes x s b y z t r b₂ y₂ z₂ t₂ → (r ≡ 0 → ⊥)
+    → (b₂ ≡ b) × (y₂ ≡ y) × (z₂ ≡ z) × (t₂ ≡ t)
+unfolding runBytes ranOver toldAfter
+host-run-stays x s b y z t r b₂ y₂ z₂ t₂ c =
+    subst Kept (sym (c .is))
+    (outcome-all Kept (lentLadder (planOf x) (eqb (length t) 24)) (λ (k : ℕ). runTold k b y z t) _ (λ k h. (refl, refl, refl, refl))
+    (λ n. outcome-all (λ (o : RunOutcome). Kept (runTells o t)) (runLadder (planOf x) s b y z) (λ (k : ℕ). runOutcome (runs.refused k) b y z) _
+    (λ k h. (refl, refl, refl, refl)) (λ m h. absurd (h refl))))
+  where
+    Kept : RunTold → Type 0
+    Kept o = (o .number ≡ 0 → ⊥) → (o .book ≡ b) × (o .reply ≡ y) × (o .numbers ≡ z) × (o .told ≡ t)
 
 pub host-open-stays : (op : Operation) (x : List ℕ) (a : ℕ) (s : List ℕ) (r : ℕ) (s₂ : List ℕ) → OpenServes op x a s r s₂ → (r ≡ 0 → ⊥) → s₂ ≡ s
 unfolding openBytes

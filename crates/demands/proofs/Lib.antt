@@ -4,6 +4,7 @@ pub mod Wishes
 pub mod NewTime
 pub mod Hosts
 pub mod Demand1
+pub mod Evening
 pub mod Refusals
 pub mod Demand2
 pub mod Together
@@ -12,3 +13,4 @@ pub mod Hosted
 pub mod HostRuns
 pub mod HostInstances
 pub mod Instances
+pub mod EveningInstances

@@ -1,10 +1,10 @@
 -- DEMAND 2: "each refusal is given exactly when document 01 says". One theorem a call, for whatever it was lent, in one form: the call answers k
 -- exactly if k is the first refusal of its order that applies (Given). Refusals are numbered from 1 on. Assumes nothing.
---   node-exactly fresh-exactly opening-exactly owed-exactly write-exactly read-exactly wish-exactly
+--   node-exactly run-exactly fresh-exactly opening-exactly owed-exactly write-exactly read-exactly wish-exactly
 --   wish-20   20 in document 02's words: no N and Q up to 16 are accepted
 -- The same of the calls for a host, whose number is a refusal's below 101; and the numbers that each of them can answer.
---   host-node-exactly host-fresh-exactly host-open-exactly host-owed-exactly host-write-exactly host-read-exactly host-wish-exactly
---   host-node-numbers host-fresh-numbers host-open-numbers host-owed-numbers host-write-numbers host-read-numbers host-wish-numbers
+--   host-node-exactly host-run-exactly host-fresh-exactly host-open-exactly host-owed-exactly host-write-exactly host-read-exactly host-wish-exactly
+--   host-node-numbers host-run-numbers host-fresh-numbers host-open-numbers host-owed-numbers host-write-numbers host-read-numbers host-wish-numbers
 --   host-wish-member   a byte above 1 is no member, and is refused 1
 use Prim.Native.Nat.{ℕ, _≤_, _<_}
 use native.Mathlib.Omega.{arith}
@@ -13,6 +13,7 @@ use mathlib.Core.Path.{_≡_, refl, sym, ap, subst, _∙_}
 use mathlib.Core.Bool.{Bool, true, false, cond}
 use mathlib.Core.List.{List, [], _∷_, _++_}
 use lib.ListN.{length}
+use lib.Dec.{eqb}
 use Rattle.octets.specs.Bytes.{over}
 use Rattle.terms.specs.Ladder.{Rung, first, Given}
 use Rattle.terms.specs.declared.Ask.{Ask}
@@ -28,6 +29,9 @@ use Rattle.node.specs.Node as node
 use Rattle.node.specs.Node.{NodeCall, nodeLadder, served, answered, sends}
 use Rattle.node.specs.Fresh as fresh
 use Rattle.node.specs.Fresh.{FreshCall, FreshOutcome, freshOutcome, freshLadder, freshened, saidMade}
+use Rattle.runs.specs.declared.Ran.{Ran}
+use Rattle.runs.specs.Runs as runs
+use Rattle.runs.specs.Runs.{RunOutcome, runOutcome, saidRan, runLadder, runOf, ranOver, RunCall}
 use Rattle.session.specs.declared.Session.{Session}
 use Rattle.standing.specs.declared.Operation.{Operation}
 use Rattle.session.specs.declared.Took.{Took}
@@ -44,8 +48,8 @@ use Rattle.client.proofs.Reading as reading
 use Rattle.client.proofs.Writing as writing
 use Rattle.packing.specs.PlanBytes.{planOf, wishOf}
 use Rattle.packing.specs.SessionBytes.{sessionOf}
-use Rattle.answers.specs.Answers.{lentLadder, bothFit, madeNumber, servedNumber, dueNumber, answerNumber}
-use Rattle.pasis.specs.Store.{FreshBook, NodeServes}
+use Rattle.answers.specs.Answers.{lentLadder, bothFit, madeNumber, servedNumber, ranNumber, dueNumber, answerNumber}
+use Rattle.pasis.specs.Store.{FreshBook, NodeServes, RunTold, runTold, runBytes, RunServes}
 use Rattle.pasis.proofs.Laws.{numbers, of-given}
 use Rattle.pasis.specs.Client.{sessionFits, OpenedBytes, openedBytes, openBytes, OpenServes, Asked, asked, owedBytes, OwedServes, TookBytes, tookBytes, writeBytes, readBytes, WriteServes, ReadServes}
 use Rattle.wish.specs.declared.Wish.{Wish}
@@ -75,6 +79,14 @@ unfolding served answered sends
 node-exactly p f b y a b₂ y₂ c k l =
     exactly (λ (o : node.ServedOutcome). o .answer) node.refused _ (λ (j : ℕ). node.servedOutcome (node.refused j) b y) (answered p (headerIn f) (bodyOf f) b y) _ k
     (λ j. refl) (λ j e. cc) (λ e. let z : _≡_ {A = ℕ} 0 1 = cc in omega arith) (c .is)
+
+-- ---- a run, 1, 2, 21, 3
+pub run-exactly : (p : Plan) (s b y z : List ℕ) (a : Ran) (b₂ y₂ z₂ : List ℕ) → RunCall p s b y z a b₂ y₂ z₂ → (k : ℕ) → 1 ≤ k
+    → Exactly (saidRan a ≡ runs.refused k) (Given (runLadder p s b y z) k)
+unfolding ranOver
+run-exactly p s b y z a b₂ y₂ z₂ c k l =
+    exactly (λ (o : RunOutcome). o .answer) runs.refused _ (λ (j : ℕ). runOutcome (runs.refused j) b y z) (runOf p s b y z) _ k
+    (λ j. refl) (λ j e. cc) (λ e. let n : _≡_ {A = ℕ} 0 1 = cc in omega arith) (c .is)
 
 -- ---- a fresh book, 1, 2, 4
 pub fresh-exactly : (p : Plan) (n : ℕ) (b : List ℕ) (a : Made) (b₂ : List ℕ) → FreshCall p n b a b₂ → (k : ℕ) → 1 ≤ k
@@ -189,6 +201,27 @@ module _ (x f b y : List ℕ) (r : ℕ) (b₂ y₂ : List ℕ) (c : NodeServes x
   unfolding oneOf
   host-node-numbers =
       ap (λ (z : ℕ). oneOf z (0 ∷ 1 ∷ 2 ∷ 3 ∷ 4 ∷ 5 ∷ 6 ∷ 7 ∷ 8 ∷ [])) node-number ∙ number-within (0 ∷ 1 ∷ 2 ∷ 3 ∷ 4 ∷ 5 ∷ 6 ∷ 7 ∷ 8 ∷ []) _ 0 refl refl
+
+-- a run: 1 of the plan, and 2 of the bytes lent for what it tells, come before its own order
+module _ (x s b y z t : List ℕ) (r : ℕ) (b₂ y₂ z₂ t₂ : List ℕ) (c : RunServes x s b y z t r b₂ y₂ z₂ t₂) where
+  abbrev runOrder : List Rung
+  runOrder = lentLadder (planOf x) (eqb (length t) 24) ++ runLadder (planOf x) s b y z
+
+  run-number : r ≡ first runOrder (λ (k : ℕ). k) 0
+  unfolding runBytes ranOver
+  run-number =
+      ap (λ (o : RunTold). o .number) (c .is)
+      ∙ number (λ (o : RunTold). o .number) (lentLadder (planOf x) (eqb (length t) 24)) (λ (k : ℕ). runTold k b y z t) _ (λ k. refl)
+      ∙ ap (first (lentLadder (planOf x) (eqb (length t) 24)) (λ (k : ℕ). k))
+      (number (λ (o : RunOutcome). ranNumber (o .answer)) (runLadder (planOf x) s b y z) (λ (k : ℕ). runOutcome (runs.refused k) b y z) _ (λ k. refl))
+      ∙ one-after (lentLadder (planOf x) (eqb (length t) 24)) (runLadder (planOf x) s b y z) 0
+
+  pub host-run-exactly : (k : ℕ) → 1 ≤ k → k < 101 → Exactly (r ≡ k) (Given runOrder k)
+  host-run-exactly k = by-number _ 0 r k run-number (λ l e. omega arith)
+
+  pub host-run-numbers : oneOf r (0 ∷ 1 ∷ 2 ∷ 3 ∷ 21 ∷ []) ≡ true
+  unfolding oneOf
+  host-run-numbers = ap (λ (k : ℕ). oneOf k (0 ∷ 1 ∷ 2 ∷ 3 ∷ 21 ∷ [])) run-number ∙ number-within (0 ∷ 1 ∷ 2 ∷ 3 ∷ 21 ∷ []) runOrder 0 refl refl
 
 -- ---- the client's: 1 and 2 of the lengths of plan, session and ending come before the call's own order
 module _ (op : Operation) (x : List ℕ) (a : ℕ) (s : List ℕ) (r : ℕ) (s₂ : List ℕ) (c : OpenServes op x a s r s₂) where

@@ -1,6 +1,6 @@
 -- UNIQUENESS OF EVERY PUBLIC CONTRACT: any two outcomes that a call's contract allows at the same inputs are equal. Document 01, "How strong
 -- each contract has to be". Assumes nothing.
---   node-unique fresh-unique                         the node's two calls
+--   node-unique fresh-unique run-unique              the node's three calls
 --   opening-unique owed-unique                       an opening, a request owed
 --   write-reply-unique read-reply-unique             a reply to a writer, to a reader
 --   wish-unique                                      the smallest plan for a wish
@@ -14,6 +14,9 @@ use Rattle.node.specs.declared.Made.{Made}
 use Rattle.node.specs.Node as node
 use Rattle.node.specs.Node.{NodeCall}
 use Rattle.node.specs.Fresh.{FreshCall, FreshOutcome, freshOutcome, saidMade}
+use Rattle.runs.specs.declared.Ran.{Ran}
+use Rattle.runs.specs.Runs.{RunCall}
+use Rattle.runs.proofs.Unique.{run-one}
 use Rattle.session.specs.declared.Session.{Session}
 use Rattle.standing.specs.declared.Operation.{Operation}
 use Rattle.session.specs.declared.Took.{Took}
@@ -47,6 +50,11 @@ pub fresh-unique : (p : Plan) (node : ℕ) (b : List ℕ) (a₁ a₂ : Made) (b�
 fresh-unique p node b a₁ a₂ b₁ b₂ c d =
     let h : freshOutcome (saidMade a₁) b₁ ≡ freshOutcome (saidMade a₂) b₂ = c .is ∙ sym (d .is) in
     (nodes.made-one a₁ a₂ (ap (λ (o : FreshOutcome). o .answer) h), ap (λ (o : FreshOutcome). o .book) h)
+
+-- The same of a run of frames: what it tells, every byte of the book, of the reply buffer and of the number places.
+pub run-unique : (p : Plan) (s b y z : List ℕ) (a₁ a₂ : Ran) (b₁ b₂ y₁ y₂ z₁ z₂ : List ℕ) → RunCall p s b y z a₁ b₁ y₁ z₁ → RunCall p s b y z a₂ b₂ y₂ z₂
+    → (a₁ ≡ a₂) × (b₁ ≡ b₂) × (y₁ ≡ y₂) × (z₁ ≡ z₂)
+run-unique = run-one
 
 -- ---- the client
 -- Any two outcomes that the contract of an opening allows at the same plan and ask number are equal.

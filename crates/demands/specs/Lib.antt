@@ -1,3 +1,4 @@
 pub mod Edges
 pub mod Ends
 pub mod HostRuns
+pub mod Evening

@@ -43,14 +43,14 @@ use Rattle.store.proofs.One as one
 use Rattle.store.proofs.Kept as keeps
 use Rattle.store.proofs.Books as theorems
 
-pub plan : Plan
+unfoldable pub plan : Plan
 plan = record { n = 1; t = 0; b = 0; q = 1; m = 1; f = 1; member = Repairable; clients = Byzantine; w = 1 }
 
 accepted-plan : planOk plan ≡ true
 unfolding plan planOk countsOk limitsOk columnOf all
 accepted-plan = refl
 
-r-is : recordLength plan ≡ 73
+pub r-is : recordLength plan ≡ 73
 unfolding plan recordLength
 r-is = refl
 
@@ -58,7 +58,7 @@ pub zeros : ℕ → List ℕ
 zeros zero = []
 zeros (suc k) = 0 ∷ zeros k
 
-length-zeros : (k : ℕ) → length (zeros k) ≡ k
+pub length-zeros : (k : ℕ) → length (zeros k) ≡ k
 unfolding zeros
 length-zeros zero = refl
 length-zeros (suc k) = ap suc (length-zeros k)
@@ -180,7 +180,7 @@ module _ (t : ℕ) (low : 0 < t) (high : t < 256) where
       ∙ num-append (be 8 t) (sha256 cross) ∙ (λ i. num-be 8 t (omega arith) i * 256 ^ sha256-length cross i + num (sha256 cross))
 
 -- ---- the set of two requests
-pub set : List (List ℕ)
+unfoldable pub set : List (List ℕ)
 set = request 1 ∷ request 2 ∷ []
 
 accepted-is : acceptedAt plan 0 set ≡ record-of 1 ∷ record-of 2 ∷ []
@@ -368,7 +368,7 @@ second-delivers = record {
     less z (inl e) = order.among-later (request 1) z (request 2 ∷ []) (order.among-first (request 2) z [] e)
     less z (inr h) = h
 
-at-zero : (P : ℕ → Type 0) → P 0 → (i : ℕ) → i < 1 → P i
+pub at-zero : (P : ℕ → Type 0) → P 0 → (i : ℕ) → i < 1 → P i
 at-zero P h zero l = h
 at-zero P h (suc i) l = absurd (omega arith)
 

@@ -14,6 +14,18 @@ impl Library for Archive {
         pasis_raw::node(plan, request, book, reply)
     }
 
+    fn run(
+        &mut self,
+        plan: &[u8],
+        run: &[u8],
+        book: &mut [u8],
+        replies: &mut [u8],
+        numbers: &mut [u8],
+        told: &mut [u8],
+    ) -> u32 {
+        pasis_raw::run(plan, run, book, replies, numbers, told)
+    }
+
     fn open_write(&mut self, plan: &[u8], ask: u64, session: &mut [u8]) -> u32 {
         pasis_raw::open_write(plan, ask, session)
     }

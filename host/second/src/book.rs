@@ -32,10 +32,14 @@ impl Book {
         (rising && timed).then_some(Book { node, records })
     }
 
+    /// How many bytes are in use.
+    pub fn length(&self, plan: &Plan) -> usize {
+        HEADER + self.records.len() * plan.record_length()
+    }
+
     /// The bytes in use.
     pub fn bytes(&self, plan: &Plan) -> Vec<u8> {
-        let length = 7 + self.records.len() * plan.record_length();
-        let mut bytes = (length as u32).to_be_bytes().to_vec();
+        let mut bytes = (self.length(plan) as u32 - 4).to_be_bytes().to_vec();
         bytes.extend([1, plan.n as u8, self.node as u8]);
         bytes.extend((plan.f as u16).to_be_bytes());
         bytes.extend((self.records.len() as u16).to_be_bytes());

@@ -5,10 +5,10 @@
 //! ANSWER A B C D E
 //! ```
 //!
-//! CALL is 01 fresh_book, 02 node, 03 open_write, 04 open_read, 05 owed, 06 write_reply, 07 read_reply, 08 smallest_plan; NUMBER the node
-//! or ask number in 8 bytes, zero where the call takes none; PLAN its plan slice, of 08 the wish in 25 bytes: member 1, t 8, b 8, m 8; A
+//! CALL is 01 fresh_book, 02 node, 03 open_write, 04 open_read, 05 owed, 06 write_reply, 07 read_reply, 08 smallest_plan, 09 run; NUMBER the
+//! node or ask number in 8 bytes, zero where the call takes none; PLAN its plan slice, of 08 the wish in 25 bytes: member 1, t 8, b 8, m 8; A
 //! to E the lent slices in the order of the call (book; request, book, reply; session; session, desk, request; session, reply, desk, item,
-//! ending; counts). ANSWER is the number, decimal; after it each slice as it is after
+//! ending; counts; run, book, replies, numbers, told). ANSWER is the number, decimal; after it each slice as it is after
 //! the call, or a dot where it is as lent. Bytes are lower-case hex, a minus where there are none; a call that is lent fewer than five
 //! slices has a minus, and after the call a dot, for each of the others. Every line stands by itself.
 
@@ -18,6 +18,7 @@ use crate::craft::Size;
 use crate::driver::{apart, edges, hex, Maker, Outcome, Stop};
 use crate::gen::histories;
 use crate::library::{Call, Kind, Library, Second};
+use crate::runs;
 
 /// The slices of a line.
 const SLICES: usize = 5;
@@ -25,7 +26,7 @@ const SLICES: usize = 5;
 /// short, so that the files stay small. Where half of the calls looked at had no such case, any will do that is not long.
 const LONG: usize = 1520;
 const SHORT: usize = 570;
-/// The calls looked at, of histories: wishes come from a generator of their own, so they are not counted.
+/// The calls looked at, of histories: wishes and runs come from generators of their own, so they are not counted.
 const TRIED: usize = 200_000;
 
 /// The cases of one answer of one call.
@@ -36,7 +37,7 @@ struct Stored {
 }
 
 /// Picks cases, of each answer of each call about as many, so that rare answers are not crowded out; of each history few. Beside these one
-/// of each edge of a time round that has none yet.
+/// of each edge of a time round, and of a run, that has none yet.
 struct Picker<'a> {
     count: usize,
     tried: usize,
@@ -50,7 +51,7 @@ impl Maker for Picker<'_> {
         if self.tried == TRIED {
             return Err(Stop::Enough);
         }
-        self.tried += usize::from(call.kind != Kind::SmallestPlan);
+        self.tried += usize::from(!matches!(call.kind, Kind::SmallestPlan | Kind::Run));
         let outcome = apart(&mut Second, &call);
         let stored = &mut self.stored[call.kind as usize][outcome.number as usize];
         let lent: usize = call.lent.iter().map(Vec::len).sum();
@@ -69,7 +70,8 @@ impl Maker for Picker<'_> {
             stored.cases += 1;
             stored.plan = call.plan.clone();
         }
-        let met = edges(&call, &outcome);
+        let mut met = edges(&call, &outcome);
+        met.extend(runs::edges(&call, &outcome));
         if wanted || (lent <= LONG && met.iter().any(|edge| !self.edges.contains(edge))) {
             self.edges.extend(met);
             (self.out)(&call, &outcome);

@@ -1,14 +1,16 @@
 //! Makes each call twice, once at each of two libraries, and compares the answer and every lent byte; counts the answers met.
-//! The first library is lent each slice apart; the other has all of them in one area, with guard bytes between, at shifting places.
+//! The first library is lent each slice apart; the other has all of them in one area, with guard bytes between, at shifting places. A run of
+//! frames is also compared with the other library's answers to the same frames singly.
 
 use crate::library::{make, Call, Kind, Library};
+use crate::run::cut;
 use crate::wire;
 use crate::wish::Wish;
 
-/// The answers counted: 0 to 14, 20 and 101 to 105.
-pub const NUMBERS: [u32; 21] = [0, 1, 2, 3, 4, 5, 6, 7, 8, 9, 10, 11, 12, 13, 14, 20, 101, 102, 103, 104, 105];
+/// The answers counted: 0 to 14, 20, 21 and 101 to 105.
+pub const NUMBERS: [u32; 22] = [0, 1, 2, 3, 4, 5, 6, 7, 8, 9, 10, 11, 12, 13, 14, 20, 21, 101, 102, 103, 104, 105];
 /// The refusals among them.
-const REFUSALS: std::ops::RangeInclusive<u32> = 1..=20;
+const REFUSALS: std::ops::RangeInclusive<u32> = 1..=21;
 /// How often each answer must have been met.
 pub const ENOUGH: u64 = 100;
 const GUARD: u8 = 0xa5;
@@ -62,6 +64,27 @@ pub fn together(library: &mut dyn Library, call: &Call, shift: usize) -> Result<
         return Err("a byte outside the lent slices was written".into());
     }
     Ok(Outcome { number, lent: slices.iter().map(|slice| slice.to_vec()).collect() })
+}
+
+/// What the frames of a run that is not refused come to singly, one after another, at this library: its book, its replies end to end over what
+/// the run is lent for them, its numbers; what it is told is not theirs to say, and is left as it came.
+pub fn singly(library: &mut dyn Library, call: &Call) -> Outcome {
+    let [run, book, replies, numbers, _] = &call.lent[..] else { panic!("a run is lent five slices") };
+    let (mut book, mut replies, mut numbers) = (book.clone(), replies.clone(), numbers.clone());
+    let room = wire::plan_from(&call.plan).expect("a plan of a run that is not refused").frame_room();
+    let mut end = 0;
+    for (frame, number) in cut(run).0.into_iter().zip(&mut numbers) {
+        let mut reply = vec![0; room];
+        *number = library.node(&call.plan, frame, &mut book, &mut reply) as u8;
+        if *number == 0 {
+            let whole = cut(&reply).0[0];
+            replies[end..end + whole.len()].copy_from_slice(whole);
+            end += whole.len();
+        }
+    }
+    let mut lent = call.lent.clone();
+    lent[1..4].clone_from_slice(&[book, replies, numbers]);
+    Outcome { number: 0, lent }
 }
 
 pub struct Driver<'a> {
@@ -157,6 +180,12 @@ impl Maker for Driver<'_> {
             return Err(self.wrong(&call, &difference(&call, &one, &two)));
         }
         self.count(&call, &one)?;
+        if call.kind == Kind::Run && one.number == 0 {
+            let other = singly(self.other, &call);
+            if one.lent[..4] != other.lent[..4] {
+                return Err(self.wrong(&call, &format!("not as singly: {}", difference(&call, &one, &other))));
+            }
+        }
         Ok(one)
     }
 }

@@ -1,5 +1,6 @@
 //! Whole histories of calls from a seed: saves, opens, partial and poisonous saves, silent nodes, liars, damaged books, repeated and late
-//! frames. Before a call of the history is made, changed copies of it are made too, and their outcomes dropped. After each come some wishes.
+//! frames. Before a call of the history is made, changed copies of it are made too, and their outcomes dropped. After each come some wishes
+//! and runs of frames.
 
 use crate::book::Book;
 use crate::craft::{self, Size};
@@ -11,15 +12,17 @@ use crate::plan::Plan;
 use crate::random::Random;
 use crate::record::{Record, Timestamp};
 use crate::session::{Operation, Session, Stage};
-use crate::{wire, wishes};
+use crate::{runs, wire, wishes};
 
-/// Makes histories until the maker stops them. The wishes between them have a generator of their own, so that no history depends on them.
+/// Makes histories until the maker stops them. The wishes and the runs between them have a generator of their own each, so that no history
+/// depends on them.
 pub fn histories(seed: u64, size: Size, maker: &mut dyn Maker) -> Stop {
-    let (mut random, mut wishing) = (Random::new(seed), Random::new(!seed));
+    let (mut random, mut wishing, mut running) = (Random::new(seed), Random::new(!seed), Random::new(seed ^ 3 << 62));
     loop {
         let plan = craft::plan(&mut random, size);
         let mut world = World::new(&mut random, plan, size);
-        if let Err(stop) = world.history(maker).and_then(|()| wishes::some(&mut wishing, maker)) {
+        let history = world.history(maker).and_then(|()| wishes::some(&mut wishing, maker));
+        if let Err(stop) = history.and_then(|()| runs::some(&mut running, size, maker)) {
             return stop;
         }
     }

@@ -1,6 +1,6 @@
-//! A second program for document 01 and of document 02, written from the documents alone: it shares no code, no table and no data
+//! A second program for document 01 and of document 02, written from the documents alone: it shares no code, no table and no data
 //! layout in memory with the proved library. The modules follow the documents; `wire` is the host interface on bytes; `library`, `craft`,
-//! `mutate`, `gen`, `wishes`, `driver` and `cases` make and compare calls.
+//! `mutate`, `gen`, `wishes`, `runs`, `driver` and `cases` make and compare calls.
 
 pub mod book;
 pub mod cases;
@@ -18,6 +18,8 @@ pub mod random;
 pub mod reader;
 pub mod record;
 pub mod refusal;
+pub mod run;
+pub mod runs;
 pub mod session;
 pub mod sha256;
 pub mod wire;

@@ -1,4 +1,4 @@
-//! What is compared: the eight calls of the host interface, as a trait, and a call as a value.
+//! What is compared: the nine calls of the host interface, as a trait, and a call as a value.
 
 use crate::wire;
 use crate::wish::Wish;
@@ -7,6 +7,15 @@ use crate::wish::Wish;
 pub trait Library {
     fn fresh_book(&mut self, plan: &[u8], node: u64, book: &mut [u8]) -> u32;
     fn node(&mut self, plan: &[u8], request: &[u8], book: &mut [u8], reply: &mut [u8]) -> u32;
+    fn run(
+        &mut self,
+        plan: &[u8],
+        run: &[u8],
+        book: &mut [u8],
+        replies: &mut [u8],
+        numbers: &mut [u8],
+        told: &mut [u8],
+    ) -> u32;
     fn open_write(&mut self, plan: &[u8], ask: u64, session: &mut [u8]) -> u32;
     fn open_read(&mut self, plan: &[u8], ask: u64, session: &mut [u8]) -> u32;
     fn owed(&mut self, plan: &[u8], session: &[u8], node: u64, desk: &[u8], request: &mut [u8]) -> u32;
@@ -41,6 +50,18 @@ impl Library for Second {
 
     fn node(&mut self, plan: &[u8], request: &[u8], book: &mut [u8], reply: &mut [u8]) -> u32 {
         wire::node(plan, request, book, reply)
+    }
+
+    fn run(
+        &mut self,
+        plan: &[u8],
+        run: &[u8],
+        book: &mut [u8],
+        replies: &mut [u8],
+        numbers: &mut [u8],
+        told: &mut [u8],
+    ) -> u32 {
+        wire::run(plan, run, book, replies, numbers, told)
     }
 
     fn open_write(&mut self, plan: &[u8], ask: u64, session: &mut [u8]) -> u32 {
@@ -94,6 +115,7 @@ pub enum Kind {
     WriteReply,
     ReadReply,
     SmallestPlan,
+    Run,
 }
 
 /// What lies in a lent slice; `Out` is a buffer that a frame or an ending is written into.
@@ -106,11 +128,17 @@ pub enum Slice {
     Desk,
     Item,
     Counts,
+    /// Request frames end to end.
+    Run,
+    /// What a run writes: its reply frames end to end, a number for each frame, and what it is told.
+    Replies,
+    Numbers,
+    Told,
     Out,
 }
 
 impl Kind {
-    pub const ALL: [Kind; 8] = [
+    pub const ALL: [Kind; 9] = [
         Kind::FreshBook,
         Kind::Node,
         Kind::OpenWrite,
@@ -119,6 +147,7 @@ impl Kind {
         Kind::WriteReply,
         Kind::ReadReply,
         Kind::SmallestPlan,
+        Kind::Run,
     ];
 
     pub fn name(self) -> &'static str {
@@ -131,6 +160,7 @@ impl Kind {
             Kind::WriteReply => "write_reply",
             Kind::ReadReply => "read_reply",
             Kind::SmallestPlan => "smallest_plan",
+            Kind::Run => "run",
         }
     }
 
@@ -144,6 +174,7 @@ impl Kind {
             Kind::WriteReply => &[0, 1, 2, 9, 14, 4, 10, 11, 101, 105],
             Kind::ReadReply => &[0, 1, 2, 9, 14, 4, 10, 11, 5, 6, 12, 101, 102, 103, 104],
             Kind::SmallestPlan => &[0, 1, 2, 20],
+            Kind::Run => &[0, 1, 2, 21, 3],
         }
     }
 
@@ -161,6 +192,7 @@ impl Kind {
             Kind::Owed => &[Slice::Session, Slice::Desk, Slice::Out],
             Kind::WriteReply | Kind::ReadReply => &[Slice::Session, Slice::Reply, Slice::Desk, Slice::Item, Slice::Out],
             Kind::SmallestPlan => &[Slice::Counts],
+            Kind::Run => &[Slice::Run, Slice::Book, Slice::Replies, Slice::Numbers, Slice::Told],
         }
     }
 }
@@ -221,6 +253,7 @@ pub fn make(library: &mut dyn Library, kind: Kind, plan: &[u8], number: u64, len
             let Wish { member, t, b, m } = wish_from(plan).expect("a wish");
             library.smallest_plan(member, t, b, m, counts)
         }
+        (Kind::Run, [run, book, replies, numbers, told]) => library.run(plan, run, book, replies, numbers, told),
         (kind, lent) => panic!("{} is not lent {} slices", kind.name(), lent.len()),
     }
 }

@@ -1,5 +1,6 @@
 //! second run SEED COUNT            random histories, COUNT calls, compared; exit 1 if they differ or an answer was met too seldom
 //! second wishes SEED               every small wish and 10,000 of 64 bits, compared; exit 1 if they differ or an answer was met too seldom
+//! second runs SEED                 runs of frames, drawn and long ones, compared; exit 1 if they differ or something was met too seldom
 //! second emit SEED COUNT stdin     stored calls on standard output, up to COUNT of each answer of each call (their form: cases.rs)
 //! second emit SEED COUNT stdout    the outcomes of the same calls, by the second program
 //! second replay                    makes the stored calls on standard input again, and writes their outcomes
@@ -14,7 +15,7 @@ use second::craft::Size;
 use second::driver::{Driver, Outcome, Stop, ENOUGH};
 use second::gen::histories;
 use second::library::{Call, Second};
-use second::wishes;
+use second::{runs, wishes};
 
 #[cfg(feature = "archive")]
 use second::archive::Archive as Other;
@@ -29,14 +30,15 @@ const COMPARED: &str =
                         what the generator meets and says nothing of the proved library";
 
 const USAGE: &str =
-    "usage: second run SEED COUNT | second wishes SEED | second emit SEED COUNT stdin|stdout | second replay";
+    "usage: second run SEED COUNT | second wishes SEED | second runs SEED | second emit SEED COUNT stdin|stdout | second replay";
 
 fn main() -> ExitCode {
     let words: Vec<String> = std::env::args().skip(1).collect();
     let words: Vec<&str> = words.iter().map(String::as_str).collect();
     let outcome = match words[..] {
         ["run", seed, count] => numbers(seed, count).and_then(|(seed, count)| run(seed, count)),
-        ["wishes", seed] => seed.parse().map_err(|_| "SEED is a number".into()).and_then(wishes),
+        ["wishes", seed] => number(seed).and_then(wishes),
+        ["runs", seed] => number(seed).and_then(runs),
         ["emit", seed, count, "stdin"] => {
             numbers(seed, count).and_then(|(seed, count)| emit(seed, count, |call, _| asked(call)))
         }
@@ -51,6 +53,10 @@ fn main() -> ExitCode {
             ExitCode::FAILURE
         }
     }
+}
+
+fn number(seed: &str) -> Result<u64, String> {
+    seed.parse().map_err(|_| "SEED is a number".into())
 }
 
 fn numbers(seed: &str, count: &str) -> Result<(u64, u64), String> {
@@ -82,6 +88,11 @@ fn run(seed: u64, count: u64) -> Result<(), String> {
 
 fn wishes(seed: u64) -> Result<(), String> {
     println!("{COMPARED}: wishes, {}", wishes::compare(&mut Second, &mut Other, seed)?);
+    Ok(())
+}
+
+fn runs(seed: u64) -> Result<(), String> {
+    println!("{COMPARED}: {}", runs::compare(&mut Second, &mut Other, seed)?);
     Ok(())
 }
 

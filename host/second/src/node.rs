@@ -21,6 +21,14 @@ pub fn serve(plan: &Plan, request: &[u8], lent: &mut [u8], reply: &mut [u8]) -> 
     plan.accepted()?;
     require(LENT.contains(&lent.len()) && reply.len() >= plan.frame_room(), Refusal::Length)?;
     let mut book = Book::read(plan, lent).ok_or(Refusal::Book)?;
+    let answer = answer(plan, &mut book, lent.len(), request)?;
+    book.write(plan, lent);
+    answer.write(reply);
+    Ok(())
+}
+
+/// The reply to one request, with its record in the book: refusals 4 to 8, which leave the book. So many bytes are lent to the book.
+pub fn answer(plan: &Plan, book: &mut Book, lent: usize, request: &[u8]) -> Result<Frame, Refusal> {
     let request = Frame::read(plan, Party::Node, request)?;
     require(request.node == book.node, Refusal::Frame)?;
     let body = match request.body {
@@ -32,26 +40,23 @@ pub fn serve(plan: &Plan, request: &[u8], lent: &mut [u8], reply: &mut [u8]) -> 
         }
         Body::WriteRequest(record) => {
             let stamp = record.stamp;
-            if execute(plan, &mut book, record, lent.len())? {
-                book.write(plan, lent);
-            }
+            execute(plan, book, record, lent)?;
             Body::WriteReply(stamp)
         }
         Body::TimeReply(_) | Body::WriteReply(_) | Body::ReadReply(_) => unreachable!("not for a node"),
     };
-    Frame { node: book.node, ask: request.ask, body }.write(reply);
-    Ok(())
+    Ok(Frame { node: book.node, ask: request.ask, body })
 }
 
-/// Refusals 5 to 8 of a write request; whether a record was put in. One that is held already is acknowledged, also by a full book.
-fn execute(plan: &Plan, book: &mut Book, record: Record, lent: usize) -> Result<bool, Refusal> {
+/// Refusals 5 to 8 of a write request. A record that is held already is acknowledged, also by a full book.
+fn execute(plan: &Plan, book: &mut Book, record: Record, lent: usize) -> Result<(), Refusal> {
     require(record.stamp.time >= 1, Refusal::Time)?;
     require(record.hashes_right(book.node), Refusal::Hash)?;
     if let Some(held) = book.held(record.stamp) {
         require(*held == record, Refusal::Held)?;
-        return Ok(false);
+        return Ok(());
     }
-    require(book.bytes(plan).len() + plan.record_length() <= lent, Refusal::Room)?;
+    require(book.length(plan) + plan.record_length() <= lent, Refusal::Room)?;
     book.insert(record);
-    Ok(true)
+    Ok(())
 }

@@ -1,4 +1,4 @@
-//! The refusal numbers (document 01, "Refusal numbers"; document 02, Q-1).
+//! The refusal numbers (document 01, "Refusal numbers"; document 02, Q-1 and Q-3).
 
 #[derive(Clone, Copy, Debug, PartialEq, Eq)]
 pub enum Refusal {
@@ -17,6 +17,7 @@ pub enum Refusal {
     Opening = 13,
     Ended = 14,
     Wish = 20,
+    Run = 21,
 }
 
 /// One step of a call's order of refusals: go on if `met`, else refuse with this number.

@@ -1,12 +1,12 @@
-//! The host interface: each call on bytes, with one number as its answer. 0 is accepted and open (or served, or opened), 1 to 14 and 20
-//! are the refusals, 101 to 105 the endings.
+//! The host interface: each call on bytes, with one number as its answer. 0 is accepted and open (or served, or opened), 1 to 14, 20
+//! and 21 are the refusals, 101 to 105 the endings.
 //!
 //! Plan, 11 bytes: N, t, b, Q, m, F (2), member (0 repairable, 1 non-repair), clients (0 crash, 1 Byzantine), W (2).
 //! Session, 237 bytes: operation (0 write, 1 read), stage (0 asking, 1 storing, 2 ended), round (2), bound (0 and forty zeros, or 1
 //! and the timestamp), opening ask number (8), 16 times by node number (8 each), timestamp being written (40), 16 marks (0 unheard,
 //! 1 first triple, 2 record). Ending, 42 bytes, written at an ending only: timestamp (zero where it has none), rounds (2, zero for a write).
-//! Counts, 2 bytes: N and Q. A plan slice of another length is refusal 1, a session, ending or counts slice of another length 2, bytes
-//! that code no session 9.
+//! Counts, 2 bytes: N and Q. Told, 24 bytes: frames cut, bytes of replies written, place where the run ended (8 each). A plan slice of another
+//! length is refusal 1, a session, ending, counts or told slice of another length 2, bytes that code no session 9.
 
 use crate::frame::Ask;
 use crate::node;
@@ -14,6 +14,7 @@ use crate::plan::{Clients, Member, Plan};
 use crate::reader;
 use crate::record::Timestamp;
 use crate::refusal::{require, Refusal};
+use crate::run::{self, Told};
 use crate::session::{self, Answer, Mark, Operation, Session, Stage};
 use crate::wish::Wish;
 use crate::writer;
@@ -26,6 +27,7 @@ pub const STAMP: usize = 181;
 pub const MARKS: usize = 221;
 pub const ENDING: usize = 42;
 pub const COUNTS: usize = 2;
+pub const TOLD: usize = 24;
 
 /// None where the bytes are no plan; whether it is within its rules is not asked here.
 pub fn plan_from(bytes: &[u8]) -> Option<Plan> {
@@ -144,6 +146,23 @@ pub fn fresh_book(plan: &[u8], node: u64, book: &mut [u8]) -> u32 {
 
 pub fn node(plan: &[u8], request: &[u8], book: &mut [u8], reply: &mut [u8]) -> u32 {
     number(accepted(plan).and_then(|plan| node::serve(&plan, request, book, reply)).map(|()| 0))
+}
+
+/// The numbers are one byte a frame: 0 accepted, else the refusal.
+pub fn run(plan: &[u8], run: &[u8], book: &mut [u8], replies: &mut [u8], numbers: &mut [u8], told: &mut [u8]) -> u32 {
+    let fits = told.len() == TOLD;
+    number(accepted(plan).and_then(|plan| run::serve(&plan, run, book, replies, numbers, fits)).map(|outcome| {
+        told.copy_from_slice(&told_bytes(&outcome));
+        0
+    }))
+}
+
+pub fn told_bytes(told: &Told) -> [u8; TOLD] {
+    let mut bytes = [0; TOLD];
+    for (eight, number) in bytes.chunks_exact_mut(8).zip([told.frames, told.replies, told.place]) {
+        eight.copy_from_slice(&(number as u64).to_be_bytes());
+    }
+    bytes
 }
 
 pub fn open_write(plan: &[u8], ask: u64, session: &mut [u8]) -> u32 {

@@ -26,6 +26,7 @@ fn numbers_of_the_theorems() {
         (Kind::WriteReply, "writeSet = "),
         (Kind::ReadReply, "readSet = "),
         (Kind::SmallestPlan, "host-wish-numbers : oneOf r ("),
+        (Kind::Run, "host-run-numbers : oneOf r ("),
     ] {
         let table: BTreeSet<u32> = kind.answers().iter().copied().collect();
         assert_eq!(table, list(&text, words), "{}", kind.name());

@@ -1,4 +1,4 @@
-//! The driver itself: it agrees with us, it catches a library that is wrong in one place, on a wish too, and stored cases come back.
+//! The driver itself: it agrees with us, it catches a library that is wrong in one place, on a wish and on a run too, and stored cases come back.
 
 use second::cases;
 use second::craft::Size;
@@ -6,8 +6,9 @@ use second::driver::{Driver, Stop};
 use second::gen::histories;
 use second::library::{Call, Kind, Library, Second};
 use second::plan::NODES;
+use second::run::cut;
 use second::wish::Wish;
-use second::{wire, wishes};
+use second::{runs, wire, wishes};
 
 /// The answer and one slice after a call of this name, made wrong.
 type Fault = fn(&str, u32, &mut [u8]) -> u32;
@@ -18,14 +19,19 @@ type Smallest = fn(u8, u64, u64, u64, &mut [u8]) -> u32;
 /// Another rule for the time that a new one is above: of b, of the times heard, and of the entries of unheard nodes.
 type Rule = fn(usize, &[u64], &[u64]) -> u64;
 
+/// Another way through a run: its plan, run, book, replies, numbers and what is told.
+type Run = fn(&[u8], &[u8], &mut [u8], &mut [u8], &mut [u8], &mut [u8]) -> u32;
+
 /// Our own program with a fault.
 struct Faulty {
     fault: Fault,
     smallest: Smallest,
+    run: Run,
     rule: Option<Rule>,
 }
 
-const FAULTLESS: Faulty = Faulty { fault: |_, number, _| number, smallest: wire::smallest_plan, rule: None };
+const FAULTLESS: Faulty =
+    Faulty { fault: |_, number, _| number, smallest: wire::smallest_plan, run: wire::run, rule: None };
 
 /// A session and a time reply with which our own program, too, comes to the time of another rule: all that were heard say it.
 fn by_rule(rule: Rule, b: u8, session: &[u8], reply: &[u8]) -> (Vec<u8>, Vec<u8>) {
@@ -51,6 +57,17 @@ impl Library for Faulty {
     fn node(&mut self, plan: &[u8], request: &[u8], book: &mut [u8], reply: &mut [u8]) -> u32 {
         let number = Second.node(plan, request, book, reply);
         (self.fault)("node", number, reply)
+    }
+    fn run(
+        &mut self,
+        plan: &[u8],
+        run: &[u8],
+        book: &mut [u8],
+        replies: &mut [u8],
+        numbers: &mut [u8],
+        told: &mut [u8],
+    ) -> u32 {
+        (self.run)(plan, run, book, replies, numbers, told)
     }
     fn open_write(&mut self, plan: &[u8], ask: u64, session: &mut [u8]) -> u32 {
         Second.open_write(plan, ask, session)
@@ -216,6 +233,102 @@ fn a_wrong_wish_is_caught() {
     }
 }
 
+/// The bytes of a run up to its first frame that its node refuses.
+fn until_refused(plan: &[u8], run: &[u8], book: &[u8]) -> usize {
+    let (mut book, mut end) = (book.to_vec(), 0);
+    for frame in cut(run).0 {
+        let mut reply = vec![0; 2000];
+        if wire::node(plan, frame, &mut book, &mut reply) != 0 {
+            break;
+        }
+        end += frame.len();
+    }
+    end
+}
+
+/// Near misses of document 02's Q-3.
+#[test]
+fn a_wrong_run_is_caught() {
+    let wrong: [(&str, Run); 8] = [
+        ("a refused frame ends the run", |plan, run, book, replies, numbers, told| {
+            let end = until_refused(plan, run, book);
+            let (mut a, mut b, mut c, mut d) = (book.to_vec(), replies.to_vec(), numbers.to_vec(), told.to_vec());
+            let end = if wire::run(plan, run, &mut a, &mut b, &mut c, &mut d) == 0 { end } else { run.len() };
+            wire::run(plan, &run[..end], book, replies, numbers, told)
+        }),
+        ("a refused frame is told as accepted", |plan, run, book, replies, numbers, told| {
+            let number = wire::run(plan, run, book, replies, numbers, told);
+            if number == 0 {
+                numbers[..cut(run).0.len()].iter_mut().filter(|number| **number == 8).for_each(|number| *number = 0);
+            }
+            number
+        }),
+        ("a length of 10 is a frame's", |plan, run, book, replies, numbers, told| {
+            let number = wire::run(plan, run, book, replies, numbers, told);
+            let (frames, place) = cut(run);
+            if number == 0 && run[place..].starts_with(&[0, 0, 0, 10]) && run.len() - place >= 14 {
+                told[7] = told[7].wrapping_add(1);
+                numbers[frames.len()..].iter_mut().take(1).for_each(|number| *number = 4);
+            }
+            number
+        }),
+        ("the rest has the length's 4 bytes in it", |plan, run, book, replies, numbers, told| {
+            let number = wire::run(plan, run, book, replies, numbers, told);
+            let rest = &run[cut(run).1..];
+            let says = rest.first_chunk().map_or(0, |length| u32::from_be_bytes(*length) as usize);
+            if number == 0 && says >= 11 && says <= rest.len() {
+                told[16..].copy_from_slice(&(run.len() as u64).to_be_bytes());
+            }
+            number
+        }),
+        ("the place is the run's length", |plan, run, book, replies, numbers, told| {
+            let number = wire::run(plan, run, book, replies, numbers, told);
+            if number == 0 {
+                told[16..].copy_from_slice(&(run.len() as u64).to_be_bytes());
+            }
+            number
+        }),
+        ("21 after 3", |plan, run, book, replies, numbers, told| {
+            match wire::run(plan, run, book, replies, numbers, told) {
+                21 if wire::run(plan, &[], &mut book.to_vec(), &mut [], &mut [], &mut [0; 24]) == 3 => 3,
+                number => number,
+            }
+        }),
+        ("2 for too little room", |plan, run, book, replies, numbers, told| {
+            match wire::run(plan, run, book, replies, numbers, told) {
+                21 => 2,
+                number => number,
+            }
+        }),
+        ("a byte past the replies", |plan, run, book, replies, numbers, told| {
+            let number = wire::run(plan, run, book, replies, numbers, told);
+            if let (0, Some(last)) = (number, replies.last_mut()) {
+                *last = 0;
+            }
+            number
+        }),
+    ];
+    for (name, run) in wrong {
+        let why = runs::compare(&mut Second, &mut Faulty { run, ..FAULTLESS }, 5).expect_err(name);
+        assert!(why.starts_with("seed 5, call "), "{name}: {why}");
+    }
+}
+
+/// Two libraries that go wrong alike in a run still differ from their own answers to its frames singly.
+#[test]
+fn a_run_is_as_its_frames_singly() {
+    let run: Run = |plan, run, book, replies, numbers, told| {
+        let number = wire::run(plan, run, book, replies, numbers, told);
+        if number == 0 {
+            numbers[..cut(run).0.len()].iter_mut().filter(|number| **number == 5).for_each(|number| *number = 6);
+        }
+        number
+    };
+    let (mut one, mut other) = (Faulty { run, ..FAULTLESS }, Faulty { run, ..FAULTLESS });
+    let why = runs::compare(&mut one, &mut other, 5).expect_err("a fault was not met");
+    assert!(why.contains("run: not as singly: "), "{why}");
+}
+
 #[test]
 fn stored_cases_come_back() {
     let (mut lines, mut met) = (Vec::new(), std::collections::BTreeSet::new());
@@ -232,7 +345,7 @@ fn stored_cases_come_back() {
         assert_eq!(cases::replay(&mut Second, asked), Some(answered.clone()));
     }
     let asked = &lines[0].0;
-    for changed in [format!("{asked}0"), format!("{asked} -"), format!("0{asked}"), format!("09{}", &asked[2..])] {
+    for changed in [format!("{asked}0"), format!("{asked} -"), format!("0{asked}"), format!("0a{}", &asked[2..])] {
         assert_eq!(cases::replay(&mut Second, &changed), None);
     }
 }

@@ -77,7 +77,7 @@ fn aim(random: &mut Random, plan: &Plan, call: &Call) -> Option<Timestamp> {
     (!held.is_empty()).then(|| Timestamp::from_bytes(&held[random.below(held.len())][..40]))
 }
 
-fn flip(random: &mut Random, bytes: &mut [u8]) {
+pub fn flip(random: &mut Random, bytes: &mut [u8]) {
     if !bytes.is_empty() {
         let at = random.below(bytes.len());
         bytes[at] ^= 1 << random.below(8);
@@ -110,7 +110,7 @@ fn beside(random: &mut Random, stamp: Timestamp) -> Timestamp {
 }
 
 /// One byte of the plan, or its length.
-fn plan(random: &mut Random, plan: &Plan, call: &mut Call) {
+pub fn plan(random: &mut Random, plan: &Plan, call: &mut Call) {
     if call.plan.len() != wire::PLAN {
         return;
     }

@@ -54,9 +54,35 @@ static int wishes() {
   return 0;
 }
 
+// A run of a time request and a write that is no record's length, at a fresh book; and its refusals in their order: 1, 2, 21, 3. A refused
+// call leaves the bytes.
+static int runs(const uint8_t *plan) {
+  const uint8_t frames[] = {0, 0, 0, 11, 1, 1, 2, 0, 0, 0, 0, 0, 0, 0, 7, 0, 0, 0, 12, 1, 3, 2, 0, 0, 0, 0, 0, 0, 0, 8, 0, 0, 0};
+  std::vector<uint8_t> book(pasis_book_size(plan, 1)), replies(pasis_replies_size(plan, 2)), numbers(3, 9), told(PASIS_TOLD_SIZE + 1, 9);
+  const std::vector<uint8_t> blank = replies;
+  const size_t all = replies.size();
+  const auto run = [&](size_t plan_len, size_t replies_len, size_t numbers_len, size_t told_len) {
+    return pasis_run(plan, plan_len, frames, sizeof frames, book.data(), book.size(), replies.data(), replies_len, numbers.data(), numbers_len,
+                     told.data(), told_len);
+  };
+  MUST(run(10, all - 1, 1, 25) == PASIS_REFUSED_PLAN);
+  MUST(run(11, all - 1, 1, 25) == PASIS_REFUSED_LENGTH && run(11, all, 2, 23) == PASIS_REFUSED_LENGTH);
+  MUST(run(11, all - 1, 2, PASIS_TOLD_SIZE) == PASIS_REFUSED_RUN && run(11, all, 1, PASIS_TOLD_SIZE) == PASIS_REFUSED_RUN);
+  MUST(run(11, all, 2, PASIS_TOLD_SIZE) == PASIS_REFUSED_BOOK);
+  MUST(replies == blank && numbers == std::vector<uint8_t>(3, 9) && told == std::vector<uint8_t>(25, 9));
+  MUST(pasis_fresh_book(plan, 11, 2, book.data(), book.size()) == PASIS_OK);
+  MUST(run(11, all, numbers.size(), PASIS_TOLD_SIZE) == PASIS_OK);
+  MUST(pasis_told_frames(told.data()) == 2 && pasis_told_replies(told.data()) == 23 && pasis_told_place(told.data()) == 31);
+  MUST(told[PASIS_TOLD_SIZE] == 9 && numbers[0] == 0 && numbers[1] == PASIS_REFUSED_FRAME && numbers[2] == 9);
+  MUST(pasis_frame_length(replies.data()) == 23 && replies[5] == 2 && pasis_frame_node(replies.data()) == 2);
+  MUST(pasis_number(replies.data() + 7, 8) == 7 && pasis_number(replies.data() + 15, 8) == 0);
+  MUST(std::memcmp(replies.data() + 23, blank.data() + 23, all - 23) == 0);
+  return 0;
+}
+
 // Every answer has words of its own.
 static int words() {
-  std::vector<uint32_t> answers = {0, PASIS_REFUSED_WISH, 101, 102, 103, 104, 105};
+  std::vector<uint32_t> answers = {0, PASIS_REFUSED_WISH, PASIS_REFUSED_RUN, 101, 102, 103, 104, 105};
   for (uint32_t refusal = 1; refusal <= 14; refusal++) answers.push_back(refusal);
   for (uint32_t a : answers) {
     MUST(std::strcmp(pasis_strerror(a), pasis_strerror(77)) != 0);
@@ -78,8 +104,10 @@ int main() {
     MUST(pasis_record_size(plan) == PASIS_RECORD_SIZE(p.N, p.F) && pasis_desk_size(plan) == PASIS_DESK_SIZE(p.N, p.F));
     MUST(pasis_item_size(plan) == PASIS_ITEM_SIZE(p.m, p.F) && pasis_frame_size(plan) == PASIS_FRAME_SIZE(p.N, p.F));
     MUST(pasis_book_size(plan, 3) == PASIS_BOOK_SIZE(p.N, p.F, 3) && pasis_fragment_size(plan) == p.F);
-    if (sizes(plan)) return 1;
+    MUST(pasis_replies_size(plan, 3) == PASIS_REPLIES_SIZE(p.N, p.F, 3));
+    if (sizes(plan) || runs(plan)) return 1;
   }
   MUST(PASIS_REFUSED_WISH == 20 && !std::strcmp(pasis_strerror(20), "no N and Q up to 16 are accepted for this wish"));
+  MUST(PASIS_REFUSED_RUN == 21 && !std::strcmp(pasis_strerror(21), "under R+15 reply bytes or one number place for each frame of the run"));
   return wishes() || words();
 }

@@ -14,7 +14,7 @@
  * Linking: libpasis.a and a C library (memset and its like), nothing else. What this header defines itself is inline.
  *
  *   the plan       pasis_smallest_plan once, by whoever lays the plan down, where its N and Q are to be found
- *   node side      pasis_fresh_book once, then pasis_node for each request
+ *   node side      pasis_fresh_book once, then pasis_node for each request, or pasis_run for several that wait
  *   client side    pasis_open_write or pasis_open_read; pasis_owed for each node, as often as wanted; pasis_write_reply or
  *                  pasis_read_reply for each reply, until it answers an ending (101 to 105)
  *
@@ -29,8 +29,8 @@
  *      drop the frame where they differ. Else one liar answers for all nodes.
  *   3. One desk a session. Between two calls session and desk are touched by nobody else, and no second session uses that desk. Each
  *      call gets them as the call before handed them back.
- *   4. The book on disk BEFORE the reply is sent. When pasis_node answers 0, make the book durable, then send the reply. A node that
- *      forgets what it acknowledged counts among the b that lie.
+ *   4. The book on disk BEFORE the reply is sent. When pasis_node answers 0, make the book durable, then send the reply; after a pasis_run
+ *      the book once, then all its replies. A node that forgets what it acknowledged counts among the b that lie.
  *   5. One plan in all calls of all nodes and clients.
  *   6. Giving up. The library has no clock. "Sending" and "timers" are the caller's: ask unheard nodes again (pasis_owed) as often as
  *      wanted, and give up when it wants. A round may never end; docs/HOSTS.md says when and what then. */
@@ -47,7 +47,7 @@ extern "C" {
 /* ---- Version ----------------------------------------------------------------------------------------------------------------------
  * The number of this interface: layouts, calls and answers. The header's as a macro, the archive's as a call; a program that was
  * compiled with one and linked with the other should compare them once, at its start. */
-#define PASIS_INTERFACE 3
+#define PASIS_INTERFACE 4
 uint32_t pasis_interface(void);
 
 /* ---- Answers ----------------------------------------------------------------------------------------------------------------------
@@ -55,10 +55,10 @@ uint32_t pasis_interface(void);
 enum pasis_answer {
   PASIS_OK = 0, /* accepted and open; or served, or opened, or made */
 
-  /* Refusals, in the paper's words; 20 in those of document 02, the change requests. "All leave every buffer and the session as they
-   * came." 15 to 19 and 21 to 31 are kept for later interfaces. */
+  /* Refusals, in the paper's words; 20 and 21 in those of document 02, the change requests. "All leave every buffer and the session as
+   * they came." 15 to 19 and 22 to 31 are kept for later interfaces. */
   PASIS_REFUSED_PLAN = 1,     /* plan outside its rules; not 11 bytes; a member or clients byte above 1; a wish with b above t or m 0 */
-  PASIS_REFUSED_LENGTH = 2,   /* a lent length is wrong: book, reply or request buffer, desk, item, session, ending, counts */
+  PASIS_REFUSED_LENGTH = 2,   /* a lent length is wrong: book, reply or request buffer, desk, item, session, ending, counts, told */
   PASIS_REFUSED_BOOK = 3,     /* book not of this shape, or not of this plan (its N or F differs) */
   PASIS_REFUSED_FRAME = 4,    /* frame length (for its kind too), version, kind for this party, or node wrong; a node number of N or more */
   PASIS_REFUSED_TIME = 5,     /* time 0 in a record or a bound */
@@ -72,6 +72,7 @@ enum pasis_answer {
   PASIS_REFUSED_ASK = 13,     /* opening ask number plus W above 2^64-1 */
   PASIS_REFUSED_ENDED = 14,   /* session has ended */
   PASIS_REFUSED_WISH = 20,    /* no N and Q up to 16 are accepted for this wish */
+  PASIS_REFUSED_RUN = 21,     /* under R+15 reply bytes or one number place for each frame of the run */
 
   /* Endings, of the two reply calls. The session has ended, and `ending` has been written. */
   PASIS_DONE = 101,          /* done: a write stands at N-t nodes; a read has its block in `item` */
@@ -104,6 +105,7 @@ static inline const char *pasis_strerror(uint32_t answer) {
     case PASIS_REFUSED_ASK: return "opening ask number plus W above 2^64-1";
     case PASIS_REFUSED_ENDED: return "session has ended";
     case PASIS_REFUSED_WISH: return "no N and Q up to 16 are accepted for this wish";
+    case PASIS_REFUSED_RUN: return "under R+15 reply bytes or one number place for each frame of the run";
     case PASIS_DONE: return "done";
     case PASIS_NEVER_WRITTEN: return "never written";
     case PASIS_ABORTED: return "aborted";
@@ -119,6 +121,7 @@ static inline const char *pasis_strerror(uint32_t answer) {
 #define PASIS_SESSION_SIZE 237
 #define PASIS_ENDING_SIZE 42
 #define PASIS_COUNTS_SIZE 2                                            /* N, then Q: what pasis_smallest_plan writes */
+#define PASIS_TOLD_SIZE 24                                             /* three numbers of 8 bytes: what pasis_run tells */
 #define PASIS_TIMESTAMP_SIZE 40                                        /* an 8 byte time, then the 32 byte hash of the cross checksum */
 #define PASIS_NODES_MOST 16                                            /* N is 1 to 16 */
 #define PASIS_BOOK_LEAST 11                                            /* "lent book: 11 to 65,536 bytes" */
@@ -127,6 +130,7 @@ static inline const char *pasis_strerror(uint32_t answer) {
 #define PASIS_DESK_SIZE(N, F) ((size_t)(N) * PASIS_RECORD_SIZE(N, F))  /* exactly */
 #define PASIS_ITEM_SIZE(m, F) ((size_t)(m) * (size_t)(F))              /* exactly */
 #define PASIS_FRAME_SIZE(N, F) (PASIS_RECORD_SIZE(N, F) + 15)          /* at least: request and reply buffers */
+#define PASIS_REPLIES_SIZE(N, F, frames) ((size_t)(frames) * PASIS_FRAME_SIZE(N, F)) /* at least: the replies of a run of so many frames */
 #define PASIS_BOOK_SIZE(N, F, records) (11 + (size_t)(records) * PASIS_RECORD_SIZE(N, F)) /* a book with room for so many records */
 
 /* The archive's own word for the first three. */
@@ -179,6 +183,7 @@ static inline size_t pasis_record_size(const uint8_t plan[PASIS_PLAN_SIZE]) {
 static inline size_t pasis_desk_size(const uint8_t plan[PASIS_PLAN_SIZE]) { return plan[0] * pasis_record_size(plan); }
 static inline size_t pasis_item_size(const uint8_t plan[PASIS_PLAN_SIZE]) { return plan[4] * pasis_fragment_size(plan); }
 static inline size_t pasis_frame_size(const uint8_t plan[PASIS_PLAN_SIZE]) { return pasis_record_size(plan) + 15; }
+static inline size_t pasis_replies_size(const uint8_t plan[PASIS_PLAN_SIZE], size_t frames) { return frames * pasis_frame_size(plan); }
 static inline size_t pasis_book_size(const uint8_t plan[PASIS_PLAN_SIZE], size_t records) { return 11 + records * pasis_record_size(plan); }
 
 /* pasis_smallest_plan finds the N and Q of a plan, for who knows the other values that bear on them: a wish.
@@ -193,7 +198,8 @@ uint32_t pasis_smallest_plan(uint8_t member, uint64_t t, uint64_t b, uint64_t m,
 
 /* ---- Frames -----------------------------------------------------------------------------------------------------------------------
  * 4 byte length of the rest, version 1, kind, node, 8 byte ask number, body. A call that is lent a frame is lent exactly that frame: cut
- * it out of the stream by its length field first. A call that writes a frame writes its bytes and no more; "bytes past it stay".
+ * it out of the stream by its length field first. pasis_run is lent several, laid end to end, and cuts them itself. A call that writes a
+ * frame writes its bytes and no more; "bytes past it stay".
  *
  *   kind              body                      kind               body
  *   1 time request    none                      2 time reply       greatest time, 8
@@ -236,6 +242,36 @@ uint32_t pasis_fresh_book(const uint8_t *plan, size_t plan_len, uint64_t node, u
  * records are not": a damaged record goes out as it is, and the client refuses it. */
 uint32_t pasis_node(const uint8_t *plan, size_t plan_len, const uint8_t *request, size_t request_len, uint8_t *book, size_t book_len,
                     uint8_t *reply, size_t reply_len);
+
+/* pasis_run serves a run of request frames, laid end to end, against one book: "a whole evening's frames in one call" (document 02, Q-3).
+ *   plan      11 bytes, read
+ *   run       any bytes, also none, read: the frames, one behind another
+ *   book      this node's book, 11 to 65,536 bytes, read; written where a kind 3 stores a record
+ *   replies   at least R+15 bytes for each frame cut (pasis_replies_size), written: the reply frames end to end
+ *   numbers   at least one byte for each frame cut, written: 0 accepted, or the frame's own refusal, 4 to 8
+ *   told      24 bytes (PASIS_TOLD_SIZE), written: frames cut (8), bytes of replies written (8), place where the run ended (8)
+ *   answers 0, served; or refuses 1; 2, book or told; 21, replies or numbers; 3; in that order. A refused run changes no byte of book,
+ *   replies, numbers and told
+ * "The outcome is as if they came singly in that order": the book, the replies and the numbers are those of pasis_node called with each
+ * frame in turn, but that the book's shape is checked once. "A refused frame adds no reply and the run goes on": the replies are fewer than
+ * the frames then, and the numbers say whose they are. Bytes past what is written stay, in replies and in numbers.
+ *
+ * Where it is cut. The run "ends early where fewer than 4 bytes remain, or a length is below 11 or larger than the rest", which is what
+ * comes after the 4 length bytes; the place is where that began, and the run's length where nothing is left. A frame that is cut and is too
+ * long or too short for its kind is 4, and the run goes on. Bytes from the place on are a frame that has not come whole yet, to be lent
+ * again in front of what comes next, or no frame at all: where 4 or more are left, pasis_frame_length below 15 or above pasis_frame_size
+ * is no good frame's. Frames that are not cut need no room: with none, replies and numbers may have length 0. A run has at most a
+ * fifteenth as many frames as bytes.
+ *
+ * After 0 there is one fsync for the whole run: make the book durable if its bytes changed, then send the replies. Until then send none of
+ * them, also not those to frames that stored nothing: a read in the run may tell of a record that the run stored. */
+uint32_t pasis_run(const uint8_t *plan, size_t plan_len, const uint8_t *run, size_t run_len, uint8_t *book, size_t book_len,
+                   uint8_t *replies, size_t replies_len, uint8_t *numbers, size_t numbers_len, uint8_t *told, size_t told_len);
+
+/* What a run tells: the frames cut, which is how many numbers there are; the bytes of replies written; the place where it ended. */
+static inline uint64_t pasis_told_frames(const uint8_t told[PASIS_TOLD_SIZE]) { return pasis_number(told, 8); }
+static inline uint64_t pasis_told_replies(const uint8_t told[PASIS_TOLD_SIZE]) { return pasis_number(told + 8, 8); }
+static inline uint64_t pasis_told_place(const uint8_t told[PASIS_TOLD_SIZE]) { return pasis_number(told + 16, 8); }
 
 /* ---- The client -------------------------------------------------------------------------------------------------------------------
  * A session is 237 bytes that the caller keeps between calls: operation (0 write, 1 read), stage (0 asking, 1 storing, 2 ended), round 2,

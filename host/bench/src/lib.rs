@@ -16,6 +16,24 @@ pub unsafe extern "C" fn pasis_node(p: P, pl: usize, q: P, ql: usize, b: M, bl: 
     wire::node(given(p, pl), given(q, ql), lent(b, bl), lent(r, rl))
 }
 #[no_mangle]
+#[allow(clippy::too_many_arguments)]
+pub unsafe extern "C" fn pasis_run(
+    p: P,
+    pl: usize,
+    q: P,
+    ql: usize,
+    b: M,
+    bl: usize,
+    r: M,
+    rl: usize,
+    n: M,
+    nl: usize,
+    t: M,
+    tl: usize,
+) -> u32 {
+    wire::run(given(p, pl), given(q, ql), lent(b, bl), lent(r, rl), lent(n, nl), lent(t, tl))
+}
+#[no_mangle]
 pub unsafe extern "C" fn pasis_open_write(p: P, pl: usize, ask: u64, s: M, sl: usize) -> u32 {
     wire::open_write(given(p, pl), ask, lent(s, sl))
 }
@@ -79,6 +97,7 @@ pub unsafe extern "C" fn pasis_read_reply(
 fn as_declared() {
     let _ = [raw::pasis_fresh_book, pasis_fresh_book];
     let _ = [raw::pasis_node, pasis_node];
+    let _ = [raw::pasis_run, pasis_run];
     let _ = [raw::pasis_open_write, pasis_open_write];
     let _ = [raw::pasis_open_read, pasis_open_read];
     let _ = [raw::pasis_owed, pasis_owed];

@@ -13,6 +13,10 @@ extern "C" {
         plan: *const u8, plan_len: usize, request: *const u8, request_len: usize, book: *mut u8, book_len: usize,
         reply: *mut u8, reply_len: usize,
     ) -> u32;
+    pub fn pasis_run(
+        plan: *const u8, plan_len: usize, run: *const u8, run_len: usize, book: *mut u8, book_len: usize,
+        replies: *mut u8, replies_len: usize, numbers: *mut u8, numbers_len: usize, told: *mut u8, told_len: usize,
+    ) -> u32;
     pub fn pasis_open_write(plan: *const u8, plan_len: usize, ask: u64, session: *mut u8, session_len: usize) -> u32;
     pub fn pasis_open_read(plan: *const u8, plan_len: usize, ask: u64, session: *mut u8, session_len: usize) -> u32;
     pub fn pasis_owed(

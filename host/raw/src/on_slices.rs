@@ -39,6 +39,21 @@ pub fn node(plan: &[u8], request: &[u8], book: &mut [u8], reply: &mut [u8]) -> u
     }
 }
 
+pub fn run(
+    plan: &[u8], run: &[u8], book: &mut [u8], replies: &mut [u8], numbers: &mut [u8], told: &mut [u8],
+) -> u32 {
+    unsafe {
+        pasis_run(
+            plan.as_ptr(), plan.len(),
+            run.as_ptr(), run.len(),
+            book.as_mut_ptr(), book.len(),
+            replies.as_mut_ptr(), replies.len(),
+            numbers.as_mut_ptr(), numbers.len(),
+            told.as_mut_ptr(), told.len(),
+        )
+    }
+}
+
 pub fn open_write(plan: &[u8], ask: u64, session: &mut [u8]) -> u32 {
     unsafe { pasis_open_write(plan.as_ptr(), plan.len(), ask, session.as_mut_ptr(), session.len()) }
 }

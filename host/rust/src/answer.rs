@@ -5,7 +5,7 @@ use std::fmt;
 /// The bytes of an ending: a timestamp, and the rounds in two.
 pub const ENDING_SIZE: usize = 42;
 
-/// The refusals of document 01, under its numbers, and `Wish`, the 20 of document 02.
+/// The refusals of document 01, under its numbers, and `Wish` and `Run`, the 20 and 21 of document 02.
 #[derive(Clone, Copy, Debug, PartialEq, Eq)]
 pub enum Refusal {
     Plan,
@@ -23,11 +23,12 @@ pub enum Refusal {
     Ask,
     Ended,
     Wish,
+    Run,
     /// A number that this interface does not have.
     Other(u32),
 }
 
-const KNOWN: [(u32, Refusal, &str); 15] = [
+const KNOWN: [(u32, Refusal, &str); 16] = [
     (1, Refusal::Plan, "plan outside its rules"),
     (2, Refusal::Length, "a lent length is wrong"),
     (3, Refusal::Book, "book not of this shape, or not of this plan"),
@@ -47,6 +48,7 @@ const KNOWN: [(u32, Refusal, &str); 15] = [
     (13, Refusal::Ask, "opening ask number plus W above 2^64-1"),
     (14, Refusal::Ended, "session has ended"),
     (20, Refusal::Wish, "no N and Q up to 16 are accepted for this wish"),
+    (21, Refusal::Run, "under R+15 reply bytes or one number place for each frame of the run"),
 ];
 
 impl Refusal {

@@ -1,6 +1,6 @@
-//! The calls of the node and of the client, on the types of this crate; `Wish::smallest` is the eighth.
+//! The calls of the node and of the client, on the types of this crate; `Wish::smallest` is the ninth.
 
-use crate::{Answer, Plan, Refusal, Session, ENDING_SIZE, SESSION_SIZE};
+use crate::{Answer, Plan, Ran, Refusal, Session, ENDING_SIZE, SESSION_SIZE, TOLD_SIZE};
 use pasis_raw as raw;
 
 type Made<T> = Result<T, Refusal>;
@@ -27,6 +27,21 @@ pub fn fresh_book(plan: &Plan, node: u64, book: &mut [u8]) -> Made<()> {
 /// then send the reply. A refused request has no reply.
 pub fn node(plan: &Plan, request: &[u8], book: &mut [u8], reply: &mut [u8]) -> Made<usize> {
     accepted(raw::node(&plan.bytes(), request, book, reply)).map(|()| written(reply))
+}
+
+/// Serves a run of request frames, laid end to end, against one book; refuses 1, 2, 21, 3. `replies` has at least R+15 bytes for each frame that
+/// is cut ([`Plan::replies_size`]), `numbers` one place. The outcome is that of [`node`] called with each frame in turn. Make the book durable once,
+/// and only then send the replies, any of them.
+pub fn run<'a>(
+    plan: &Plan,
+    run: &[u8],
+    book: &mut [u8],
+    replies: &'a mut [u8],
+    numbers: &'a mut [u8],
+) -> Made<Ran<'a>> {
+    let mut told = [0; TOLD_SIZE];
+    accepted(raw::run(&plan.bytes(), run, book, replies, numbers, &mut told))?;
+    Ok(Ran::new(&told, replies, numbers))
 }
 
 /// Opens a write. `ask` is the first of W+1 ask numbers that this client has never used; refuses 1, 13.

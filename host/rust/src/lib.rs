@@ -29,17 +29,19 @@
 mod answer;
 mod calls;
 mod plan;
+mod run;
 mod session;
 mod wish;
 
 pub use answer::{Answer, Refusal, Timestamp, ENDING_SIZE};
-pub use calls::{fresh_book, node, open_read, open_write, owed, read_reply, write_reply};
+pub use calls::{fresh_book, node, open_read, open_write, owed, read_reply, run, write_reply};
 pub use plan::{Clients, Member, Plan, BOOK_LEAST, BOOK_MOST, PLAN_SIZE};
+pub use run::{Ran, TOLD_SIZE};
 pub use session::{Mark, Operation, Session, Stage, SESSION_SIZE};
 pub use wish::{Counts, Wish, COUNTS_SIZE};
 
 /// The interface that this crate was written for; [`interface`] is the archive's.
-pub const INTERFACE: u32 = 3;
+pub const INTERFACE: u32 = 4;
 
 /// The interface number of the archive that is linked.
 pub fn interface() -> u32 {

@@ -78,6 +78,11 @@ impl Plan {
         self.record_size() + 15
     }
 
+    /// (R + 15) for each of so many frames, the least room for the replies of a run.
+    pub fn replies_size(&self, frames: usize) -> usize {
+        frames.saturating_mul(self.frame_size())
+    }
+
     /// A book with room for so many records.
     pub fn book_size(&self, records: usize) -> usize {
         records.saturating_mul(self.record_size()).saturating_add(11)

@@ -1,4 +1,4 @@
-//! The calls through this crate, against the linked archive: a save and an open, each ending, and refusals with the bytes that stay.
+//! The calls through this crate, against the linked archive: a save and an open, each ending, and refusals with the bytes that stay. Runs are in run.rs.
 
 use pasis::{Answer, Clients, Member, Operation, Plan, Refusal, Session, Stage, Timestamp};
 
@@ -255,6 +255,11 @@ fn every_refusal_has_its_number_and_words() {
     assert_eq!(Refusal::Hash.to_string(), "refusal 6: a hash check fails");
     assert_eq!(Refusal::Wish.number(), 20);
     assert_eq!(Refusal::Wish.to_string(), "refusal 20: no N and Q up to 16 are accepted for this wish");
+    assert_eq!(Refusal::Run.number(), 21);
+    assert_eq!(
+        Refusal::Run.to_string(),
+        "refusal 21: under R+15 reply bytes or one number place for each frame of the run"
+    );
     assert_eq!(Refusal::Other(19).to_string(), "refusal 19: not a number of this interface");
 }
 
@@ -262,7 +267,7 @@ fn every_refusal_has_its_number_and_words() {
 #[test]
 fn sizes_of_huge_values() {
     let plan = Plan { n: 255, t: 0, q: 0, f: u16::MAX, ..Plan::default() };
-    assert_eq!(plan.book_size(usize::MAX), usize::MAX);
+    assert_eq!((plan.book_size(usize::MAX), plan.replies_size(usize::MAX)), (usize::MAX, usize::MAX));
     let plan = Plan { n: 1, t: 255, q: 1, ..plan };
     assert_eq!((plan.replies(), plan.incomplete()), (0, 0));
     let session = pasis::open_read(&small(), 1).expect("a session");

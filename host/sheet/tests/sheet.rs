@@ -373,7 +373,7 @@ fn help_at_each_verb() {
         assert_eq!((code, err.as_str()), (0, ""), "{words}");
         assert!(out.contains("Exit codes:\n  0  done\n") && out.contains("  9  system"), "{words}");
     }
-    assert_eq!(place.sheet("--version").1, "sheet 1.0.0, interface 3 of libpasis\n");
+    assert_eq!(place.sheet("--version").1, "sheet 1.0.0, interface 4 of libpasis\n");
     assert!(Path::new(env!("CARGO_BIN_EXE_sheet")).is_file());
 }
 

@@ -5,7 +5,7 @@
 #include <stdlib.h>
 
 int LLVMFuzzerTestOneInput(const uint8_t *data, size_t size);
-enum { CALLS = 8 };
+enum { CALLS = 9 };
 extern unsigned long fuzz_answers[CALLS][128];
 
 static uint8_t input[1 << 16];

@@ -1,8 +1,8 @@
 /* One input of bytes as a sequence of calls of libpasis.a, each held to what every caller may rely on: the answer is one of the call's
  * own; a slice that the call may only read keeps its bytes, and at a refusal every slice does; a frame that was written has its length,
  * and the bytes past it stay; a book changes by a write request alone; item and ending are written at their endings alone; a time reply
- * sets the time of its node in the session, and nothing sets another; a wish gets the first N and Q that an opening accepts; the same
- * call on the same bytes does the same again. Each slice is lent as memory of exactly its length, with a fence on both sides.
+ * sets the time of its node in the session, and nothing sets another; a wish gets the first N and Q that an opening accepts; a run of
+ * frames is cut where it should be and comes to what its frames come to singly; the same call on the same bytes does the same again. Each slice is lent as memory of exactly its length, with a fence on both sides.
  *
  * The first bytes choose a plan, the rest are steps: a call, a change to what will be lent next, or a whole exchange of a client with a
  * node, so that deep states are near. host/try-corpus runs stored inputs; ./fuzz finds new ones. */
@@ -53,6 +53,10 @@ static uint32_t call_read_reply(Lent p, Lengths n, uint64_t k) {
   (void)k;
   return pasis_read_reply(p[0], n[0], p[1], n[1], p[2], n[2], p[3], n[3], p[4], n[4], p[5], n[5]);
 }
+static uint32_t call_run(Lent p, Lengths n, uint64_t k) {
+  (void)k;
+  return pasis_run(p[0], n[0], p[1], n[1], p[2], n[2], p[3], n[3], p[4], n[4], p[5], n[5]);
+}
 /* A wish is lent to no call; as a slice of 25 bytes (member, t, b, m) it goes the way of the others. */
 static uint32_t call_smallest(Lent p, Lengths n, uint64_t k) {
   (void)k;
@@ -66,7 +70,7 @@ struct call {
   uint8_t answers[20];      /* other than 0 */
 };
 
-enum { FRESH, NODE, OPEN_WRITE, OPEN_READ, OWED, WRITE_REPLY, READ_REPLY, SMALLEST, CALLS };
+enum { FRESH, NODE, OPEN_WRITE, OPEN_READ, OWED, WRITE_REPLY, READ_REPLY, SMALLEST, RUN, CALLS };
 
 static const struct call calls[CALLS] = {
     {"fresh_book", call_fresh, 2, 1 << 1, {1, 2, 4}},
@@ -77,6 +81,7 @@ static const struct call calls[CALLS] = {
     {"write_reply", call_write_reply, 6, 1 << 1 | 1 << 3 | 1 << 5, {1, 2, 9, 14, 4, 10, 11, 101, 105}},
     {"read_reply", call_read_reply, 6, 1 << 1 | 1 << 3 | 1 << 4 | 1 << 5, {1, 2, 9, 14, 4, 10, 11, 5, 6, 12, 101, 102, 103, 104}},
     {"smallest_plan", call_smallest, 2, 1 << 1, {1, 2, 20}},
+    {"run", call_run, 6, 1 << 2 | 1 << 3 | 1 << 4 | 1 << 5, {1, 2, 21, 3}},
 };
 
 /* Each call and answer that was met, for a fuzzer to see. */
@@ -138,6 +143,57 @@ static void times_told(const struct call *call, uint32_t answer, const uint8_t *
   expect(from == STAMP || !memcmp(now + from, told + 15, 8), call, answer, "the session has another time than this node told");
 }
 
+/* ---- Runs ---- */
+
+enum { RUN_MOST = 2048, FRAMES_MOST = RUN_MOST / 15 };
+
+/* Where the frame at a place of a run ends; the place itself where the run does. */
+static size_t frame_end(const struct slice *run, size_t at) {
+  if (run->len - at < 4) return at;
+  uint64_t length = number(run->bytes + at, 4);
+  return length < 11 || length > run->len - at - 4 ? at : at + 4 + (size_t)length;
+}
+
+/* How many frames a run has, and the place where it ends. */
+static size_t frames_cut(const struct slice *run, size_t *place) {
+  size_t frames = 0, end;
+  for (*place = 0; (end = frame_end(run, *place)) > *place; *place = end) frames++;
+  return frames;
+}
+
+static size_t record_length(void);
+
+/* A run that was served: what it tells, and its frames at pasis_node, one after another, on a copy of the book. */
+static void ran(uint8_t *const *now, const struct slice *s) {
+  const struct call *call = &calls[RUN];
+  static uint8_t book[65536], reply[40 + 32 * 16 + 1024 + 15];
+  size_t place, frames = frames_cut(&s[1], &place), at = 0, end = 0;
+  expect(number(now[5], 8) == frames && number(now[5] + 16, 8) == place, call, 0, "not the frames or the place of this run");
+  memcpy(book, s[2].bytes, s[2].len);
+  for (size_t i = 0; i < frames; i++) {
+    size_t to = frame_end(&s[1], at);
+    uint32_t answer = pasis_node(s[0].bytes, s[0].len, s[1].bytes + at, to - at, book, s[2].len, reply, record_length() + 15);
+    expect(answer == now[4][i] && (answer == 0 || (answer >= 4 && answer <= 8)), call, 0, "a frame has another number singly");
+    size_t length = answer ? 0 : (size_t)number(reply, 4) + 4;
+    expect(end + length <= s[3].len && !memcmp(now[3] + end, reply, length), call, 0, "a frame has another reply singly");
+    end += length;
+    at = to;
+  }
+  expect(number(now[5] + 8, 8) == end, call, 0, "not the bytes of replies that were written");
+  expect(!memcmp(now[2], book, s[2].len), call, 0, "the frames leave another book singly");
+  expect(same(now[3], s[3].bytes, end, s[3].len), call, 0, "a byte past the replies changed");
+  expect(same(now[4], s[4].bytes, frames, s[4].len), call, 0, "a byte past the numbers changed");
+}
+
+/* After 1, 2 exactly where the book or what is told has a wrong length; then 21 exactly where there is too little room; 3 after both. */
+static void roomed(uint32_t answer, const struct slice *s) {
+  size_t place, frames = frames_cut(&s[1], &place);
+  int lengths = s[2].len >= PASIS_BOOK_LEAST && s[2].len <= PASIS_BOOK_MOST && s[5].len == PASIS_TOLD_SIZE;
+  int enough = s[3].len >= frames * (record_length() + 15) && s[4].len >= frames;
+  expect(answer == 1 || lengths == (answer != 2), &calls[RUN], answer, "the lengths of book and told say otherwise");
+  expect(answer == 1 || answer == 2 || enough == (answer != 21), &calls[RUN], answer, "the room for replies and numbers says otherwise");
+}
+
 /* What a call that was not refused may have changed. */
 static void accepted(unsigned which, uint32_t answer, uint8_t *const *now, const struct slice *s) {
   const struct call *call = &calls[which];
@@ -148,6 +204,7 @@ static void accepted(unsigned which, uint32_t answer, uint8_t *const *now, const
     expect(number(now[2] + 9, 2) == number(s[2].bytes + 9, 2) + 1, call, answer, "a book changed, and not by one record");
     expect(same(now[2], s[2].bytes, number(now[2], 4) + 4, s[2].len), call, answer, "a byte past the book's end changed");
   }
+  if (which == RUN) ran(now, s);
   if (which == WRITE_REPLY || which == READ_REPLY) times_told(call, answer, now[1], s);
   if (which == WRITE_REPLY || which == READ_REPLY)
     expect(answer != 0 || same(now[5], s[5].bytes, 0, s[5].len), call, answer, "the ending was written, and nothing ended");
@@ -202,6 +259,7 @@ static uint32_t make(unsigned which, struct slice *s, uint64_t k) {
   }
   if (answer == 0 || answer > 31) accepted(which, answer, at[0], s);
   if (which == SMALLEST) wished(answer, at[0][1], s);
+  if (which == RUN) roomed(answer, s);
   for (unsigned i = 0; i < call->slices; i++) {
     if (s[i].len) memcpy(s[i].bytes, at[0][i], s[i].len);
     free(rooms[0][i]);
@@ -223,6 +281,14 @@ static const uint8_t plans[][11] = {
 
 static uint8_t plan[16], session[256], frame[2048], reply[2048], books[NODES][BOOK], desk[NODES * 1600], item[NODES * 1024], ending[64];
 static uint8_t wish[25], counts[3];
+static uint8_t run[RUN_MOST], replies[FRAMES_MOST * (40 + 32 * 16 + 1024 + 15) + 1], numbers[FRAMES_MOST + 1], told[PASIS_TOLD_SIZE + 1];
+static size_t run_length;
+
+/* R of a plan whose N and F are in their ranges; else what a run with no room to be had is lent for one. */
+static size_t record_length(void) {
+  size_t n = plan[0], f = number(plan + 5, 2);
+  return n <= NODES && f <= 1024 ? 40 + 32 * n + f : 0;
+}
 
 static struct {
   const uint8_t *at;
@@ -255,6 +321,7 @@ struct lent {
 static void prepare(struct lent *l) {
   size_t n = plan[0], f = number(plan + 5, 2), record = 40 + 32 * n + f;
   memset(session, 0, sizeof session), memset(frame, 0, sizeof frame), memset(reply, 0, sizeof reply);
+  run_length = 0;
   memset(books, 0, sizeof books), memset(desk, 0, sizeof desk), memset(ending, 0, sizeof ending);
   for (size_t i = 0; i < sizeof item; i++) item[i] = (uint8_t)(i * 7 + 1);
   int fits = n <= NODES && plan[4] <= NODES && f <= 1024;
@@ -323,6 +390,50 @@ static void make_wish(size_t len) {
   make(SMALLEST, s, 0);
 }
 
+/* Bytes put behind the run, as many as there is room for. */
+static void append(const uint8_t *bytes, size_t len) {
+  if (len > sizeof run - run_length) len = sizeof run - run_length;
+  memcpy(run + run_length, bytes, len);
+  run_length += len;
+}
+
+/* The run at a node's book, lent what it needs for its replies and numbers and these bytes more or fewer. */
+static void serve_run(struct lent *l, size_t node, int replies_more, int numbers_more, int told_more) {
+  struct slice whole = {run, run_length};
+  size_t place, frames = frames_cut(&whole, &place), room = frames * (record_length() + 15);
+  memset(replies, 0xc3, room + 1), memset(numbers, 0xc3, sizeof numbers), memset(told, 0xc3, sizeof told);
+  if (room == 0 && replies_more < 0) replies_more = 0;
+  if (frames == 0 && numbers_more < 0) numbers_more = 0;
+  struct slice s[] = {l->plan,
+                      whole,
+                      l->book[node % NODES],
+                      {replies, room + (size_t)replies_more},
+                      {numbers, frames + (size_t)numbers_more},
+                      {told, PASIS_TOLD_SIZE + (size_t)told_more}};
+  make(RUN, s, 0);
+}
+
+static void run_step(struct lent *l, size_t what) {
+  static uint8_t bytes[64];
+  size_t node, how, len;
+  switch (what) {
+    case 0: append(frame, l->frame.len); break; /* the request, as it is */
+    case 1:                                     /* some bytes of the input */
+      len = take(1) % sizeof bytes;
+      for (size_t i = 0; i < len; i++) bytes[i] = (uint8_t)take(1);
+      append(bytes, len);
+      break;
+    case 2: serve_run(l, take(1), 0, 0, 0); break;
+    case 3: /* one byte more or fewer of each: bits 0 and 1 replies, 2 and 3 numbers, 4 and 5 told */
+      node = take(1), how = take(1);
+      serve_run(l, node, (int)(how & 1) - (int)(how >> 1 & 1), (int)(how >> 2 & 1) - (int)(how >> 3 & 1), (int)(how >> 4 & 1) - (int)(how >> 5 & 1));
+      break;
+    case 4: run_length = 0; break;
+    default: /* what the session owes to a node */
+      if (owed(l, take(1)) == 0) append(frame, l->frame.len);
+  }
+}
+
 static void fresh_books(struct lent *l) {
   for (size_t i = 0; i < NODES; i++) {
     struct slice s[] = {l->plan, l->book[i]};
@@ -357,6 +468,7 @@ static void step(struct lent *l) {
     case 8: change(l, 1); break;
     case 9:
       if (k < 5 || k >= 15) fresh_books(l);
+      else if (k >= 6 && k < 12) run_step(l, k - 6);
       else make_wish(k < 12 ? 2 : k == 14 ? 3 : k - 12); /* lent 2 bytes, or 0, 1, 3 */
       break;
     case 10: exchange(l, k); break;

@@ -3,12 +3,15 @@
 //          floor: what cannot be avoided of the same work: its hashes by OpenSSL and its copies by memcpy, and nothing else
 //   WHAT   time latest previous newest held: one request at a node whose book holds 20 records (newest: the 21st, put last)
 //          save open: a whole save or open by one client over N books, N - t nodes answering
+//          run singly: 300 write requests at a node whose book holds 20 records, in one pasis_run, or in 300 calls of pasis_node; the figure is
+//          of all 300. There is no floor for these: the single calls are what the run is held against
 // A plan has t = b = 1 where N is 5, t = b = 2 where N is 16, crash clients, the repairable member. The floor of a request at a node: a
 // write hashes cross checksum and fragment and copies the record; a read copies it; a time request and a held record copy nothing (held:
 // the hashes). Of a save: N fragment hashes and one of the cross checksum at the client, N records laid out, then at each of the N - t
 // nodes the hashes and the copy of a write, and its frame. Ours makes the N books fresh before each save, and sets the book's first 11
-// bytes back before each newest record; both are in its time. Of an open: at N - t nodes the copy of a read, at the client the hashes of each
-// record and its copy to the desk, and the item copied out.
+// bytes back before each newest record and before each 300; both are in its time. Of an open: at N - t nodes the copy of a read, at the client the hashes of each
+// record and its copy to the desk, and the item copied out. The 300 are new records of rising times, put behind the 20. A book of 65,536 bytes has room
+// for all of them at N5 F4; at N5 F1024 for 33, and the other 267 are refused 8, after their hashes.
 #define _POSIX_C_SOURCE 200809L
 #define OPENSSL_SUPPRESS_DEPRECATED
 #include <openssl/sha.h>
@@ -18,12 +21,15 @@
 
 #include "../pasis.h"
 #include "pace.h"
+#include "waiting.h"
 
-enum { MOST = 16, HELD = 20 };
+enum { MOST = 16, HELD = 20, WAITING = 300, FRAME = 1607 };
 
 static uint8_t plan[PASIS_PLAN_SIZE], item[MOST * 1024], back[MOST * 1024], session[PASIS_SESSION_SIZE], ending[PASIS_ENDING_SIZE];
 static uint8_t books[MOST][PASIS_BOOK_MOST], head[11], desk[MOST * 1592], request[1607], reply[1607], hold[1607];
-static size_t n, t, m, f, record, frame_room;
+static uint8_t frames[WAITING * FRAME], replies[WAITING * FRAME], one_by_one[WAITING * FRAME], numbers[WAITING], other_numbers[WAITING];
+static uint8_t told[PASIS_TOLD_SIZE], run_book[PASIS_BOOK_MOST];
+static size_t n, t, m, f, record, frame_room, frames_len, replied;
 static uint64_t ask = 1;
 
 static void fail(const char *why) {
@@ -85,6 +91,37 @@ static void ours_request(void) { node(0); }
 static void ours_newest(void) {
   memcpy(books[0], head, sizeof head);
   node(0);
+}
+
+// The same before 300 requests: all new records go behind the 20.
+static void ours_run(void) {
+  memcpy(books[0], head, sizeof head);
+  if (pasis_run(plan, sizeof plan, frames, frames_len, books[0], PASIS_BOOK_MOST, replies, WAITING * frame_room, numbers, sizeof numbers, told,
+                sizeof told) != PASIS_OK)
+    fail("a run was refused");
+}
+
+static void ours_singly(void) {
+  memcpy(books[0], head, sizeof head);
+  replied = 0;
+  for (size_t i = 0; i < WAITING; i++) {
+    uint32_t answer = pasis_node(plan, sizeof plan, frames + i * frame_room, frame_room, books[0], PASIS_BOOK_MOST, one_by_one + replied, frame_room);
+    if (answer == PASIS_OK) replied += pasis_frame_length(one_by_one + replied);
+    other_numbers[i] = (uint8_t)answer;
+  }
+}
+
+// The 300 requests, and that both ways come to the same book, replies and numbers.
+static void run_prepared(void) {
+  memcpy(head, books[0], sizeof head);
+  frames_len = waiting(plan, HELD + 1, WAITING, frames);
+  if (frames_len != WAITING * frame_room) fail("no requests to wait");
+  ours_run();
+  memcpy(run_book, books[0], PASIS_BOOK_MOST);
+  ours_singly();
+  if (pasis_told_frames(told) != WAITING || pasis_told_place(told) != frames_len || pasis_told_replies(told) != replied ||
+      memcmp(replies, one_by_one, replied) || memcmp(numbers, other_numbers, WAITING) || memcmp(run_book, books[0], PASIS_BOOK_MOST))
+    fail("a run is not as its frames singly");
 }
 
 // A request frame of node 0, with the first `body` bytes of `from`.
@@ -154,12 +191,14 @@ static double timed(int ours, const char *what) {
     make(3, books[0] + 11 + HELD * record, record);
     return pace(ours ? ours_newest : floor_write);
   }
+  if (ours && !strcmp(what, "run")) return run_prepared(), pace(ours_run);
+  if (ours && !strcmp(what, "singly")) return run_prepared(), pace(ours_singly);
   fail("no such work");
   return 0;
 }
 
 int main(int count, char **words) {
-  if (count != 6) fail("usage: calls ours|floor time|latest|previous|newest|held|save|open N M F");
+  if (count != 6) fail("usage: calls ours|floor time|latest|previous|newest|held|save|open|run|singly N M F");
   n = strtoul(words[3], NULL, 10), m = strtoul(words[4], NULL, 10), f = strtoul(words[5], NULL, 10);
   if (n > MOST || m > n || f > 1024) fail("N, m or F is too large");
   t = n < 16 ? 1 : 2;

@@ -19,6 +19,9 @@ const CLIENTS: usize = 3;
 /// How often a client asks again when nothing is under way, before it gives up.
 const PATIENCE: usize = 8;
 
+/// The most requests that a node takes together beside a first.
+const TOGETHER: usize = 4;
+
 /// What a run is over.
 pub struct Setting<'a> {
     pub plan: Plan,
@@ -259,9 +262,22 @@ impl Block<'_> {
         if !kill && frame_kind(&message.frame) == 3 && self.nodes.side_by_side() {
             return self.deliver_two(message);
         }
+        if !kill && self.random.chance(40) {
+            let others = self.network.waiting(&message, TOGETHER);
+            if !others.is_empty() {
+                return self.deliver_run(message, others);
+            }
+        }
         let serve = if kill { Nodes::serve_and_kill } else { Nodes::serve };
         let answer = serve(&mut self.nodes, &message, &mut self.random)?;
         self.answered(message, answer)
+    }
+
+    /// Requests that wait for one node, as it takes them together.
+    fn deliver_run(&mut self, first: Message, others: Vec<Message>) -> Result<(), Trouble> {
+        let all: Vec<Message> = [first].into_iter().chain(others).collect();
+        let answers = self.nodes.serve_run(&all, &mut self.random)?;
+        all.into_iter().zip(answers).try_for_each(|(message, answer)| self.answered(message, answer))
     }
 
     /// A write request, and at the same moment that of another client, or the same by way of another connection, whose reply is not heard.

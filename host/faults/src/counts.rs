@@ -46,6 +46,8 @@ impl Counts {
         all.stuck += faults.stuck;
         all.lies += faults.lies;
         all.beside += faults.beside;
+        all.together += faults.together;
+        all.runs += faults.runs;
         all.cleared += faults.cleared;
         all.handed += faults.handed;
         self.lost += network.lost;
@@ -55,7 +57,9 @@ impl Counts {
         let Counts { saved, given_up, clock, opened, repaired, strays, never, aborted, spent, opens_given_up, .. } =
             self;
         let Counts { told_last, poisoned, believed, partitions, lost, good, stale, unjudged, faults, .. } = self;
-        let Faults { kills, midway, restarts, damages, setbacks, liars, stuck, lies, beside, handed, cleared } = faults;
+        let Faults { kills, midway, restarts, damages, setbacks, liars, stuck, lies, beside, handed, cleared, .. } =
+            faults;
+        let Faults { together, runs, .. } = faults;
         let opens = format!("opens {opened} done ({repaired} repairs begun, {strays} of the Byzantine client's)");
         let keepers = format!("{kills} kills ({midway} while serving), {restarts} restarts");
         let liars = format!("{liars} liars, {stuck} stuck at the last time ({lies} lies, {believed} of them taken)");
@@ -65,6 +69,7 @@ impl Counts {
             format!(
                 "{keepers}, {beside} requests beside another, {handed} locks handed over, {cleared} new files removed"
             ),
+            format!("{together} requests taken together in {runs} runs"),
             format!("{damages} damages, {setbacks} set-backs, {liars}, {poisoned} poisoned saves"),
             format!("{partitions} partitions, {lost} messages lost"),
             format!("{good} histories are a register's, {stale} made stale are not, the checker gave up on {unjudged}"),

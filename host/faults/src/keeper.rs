@@ -1,7 +1,9 @@
 //! One keeper as a process: frames into its standard input, replies and lines out of it, SIGKILL.
 
 use crate::library::frame_length;
+use crate::plan::FRAME_HEAD;
 use crate::trouble::Trouble;
+use std::collections::VecDeque;
 use std::io::{self, BufRead, BufReader, Read, Write};
 use std::process::{Child, ChildStdin, Command, Stdio};
 use std::sync::mpsc::{channel, Receiver, RecvTimeoutError, Sender};
@@ -69,6 +71,28 @@ impl Keeper {
                 }
             }
         }
+    }
+
+    /// Waits for what becomes of these requests, which were sent together. Replies come in the order of their requests, and each has its request's
+    /// ask number; what has none is refused, or came too late for a keeper that has ended.
+    pub fn answers(&mut self, requests: &[&[u8]]) -> Result<Vec<Answer>, Trouble> {
+        let (mut replies, mut refused, mut gone) = (VecDeque::new(), 0, None);
+        while gone.is_none() && replies.len() + refused < requests.len() {
+            match self.answer()? {
+                Answer::Reply(frame) => replies.push_back(frame),
+                Answer::Refused => refused += 1,
+                Answer::Gone(line) => gone = Some(line),
+            }
+        }
+        let ask = |frame: &[u8]| frame[7..FRAME_HEAD].to_vec();
+        let answer = |request: &&[u8]| match replies.pop_front() {
+            Some(reply) if ask(&reply) == ask(request) => Answer::Reply(reply),
+            other => {
+                other.into_iter().for_each(|reply| replies.push_front(reply));
+                gone.clone().map_or(Answer::Refused, Answer::Gone)
+            }
+        };
+        Ok(requests.iter().map(answer).collect())
     }
 
     /// The end of its input, and then its own.

@@ -34,6 +34,26 @@ pub fn node(plan: &Plan, request: &[u8], book: &mut [u8]) -> Result<Vec<u8>, u32
     }
 }
 
+/// The node's call for several requests that wait: for each its reply, or the number of its refusal; or the number of the run's.
+pub fn run(plan: &Plan, requests: &[&[u8]], book: &mut [u8]) -> Result<Vec<Result<Vec<u8>, u32>>, u32> {
+    let mut replies = vec![0; requests.len() * (plan.record() + FRAME_HEAD)];
+    let (mut numbers, mut told) = (vec![0; requests.len()], [0; 24]);
+    match raw::run(&plan.bytes(), &requests.concat(), book, &mut replies, &mut numbers, &mut told) {
+        0 => {}
+        refused => return Err(refused),
+    }
+    let mut rest = &replies[..];
+    let answer = |number: u8| match number {
+        0 => {
+            let (reply, after) = rest.split_at(frame_length(rest));
+            rest = after;
+            Ok(reply.to_vec())
+        }
+        refused => Err(refused.into()),
+    };
+    Ok(numbers.into_iter().map(answer).collect())
+}
+
 /// A session with what is lent at its calls.
 pub struct Session {
     plan: Plan,

@@ -68,8 +68,8 @@ fn command(wanted: &Wanted, seed: u64, run: usize, plan: &Plan) -> io::Result<Op
 
 /// Fewer than these, and the seeds have not tested what they are for.
 fn enough(operations: usize, counts: &Counts) -> bool {
-    let Counts { saved, opened, faults: Faults { kills, damages, setbacks, lies, stuck, .. }, .. } = counts;
-    let nodes = [*damages, *setbacks, *lies, *stuck, counts.told_last];
+    let Counts { saved, opened, faults: Faults { kills, damages, setbacks, lies, stuck, runs, .. }, .. } = counts;
+    let nodes = [*damages, *setbacks, *lies, *stuck, *runs, counts.told_last];
     let others = [counts.given_up, counts.repaired, counts.poisoned, counts.partitions];
     let some = operations < 600 || nodes.iter().chain(&others).all(|count| *count > 0);
     *saved >= operations / 8 && *opened >= operations / 4 && *kills >= operations / 40 && some

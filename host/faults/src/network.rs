@@ -110,6 +110,18 @@ impl Network {
         Some(self.flight.swap_remove(at))
     }
 
+    /// The other requests to the same node that are due with this one and can arrive, at most so many: they wait there.
+    pub fn waiting(&mut self, with: &Message, most: usize) -> Vec<Message> {
+        let due = |other: &Message| !other.reply && other.node == with.node && other.late == with.late;
+        let mut taken = Vec::new();
+        while let Some(at) = (0..self.flight.len())
+            .find(|i| taken.len() < most && due(&self.flight[*i]) && self.arrives(&self.flight[*i]))
+        {
+            taken.push(self.flight.swap_remove(at));
+        }
+        taken
+    }
+
     /// The replies to ended operations of a client arrive now, when it has begun another.
     pub fn recall(&mut self, client: usize) {
         for message in self.flight.iter_mut().filter(|message| message.client == client && message.reply) {

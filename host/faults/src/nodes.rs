@@ -30,6 +30,9 @@ pub struct Faults {
     pub beside: usize,
     /// Keepers that ended, by the end of their input or killed, while another waited for their lock.
     pub handed: usize,
+    /// Requests that waited and were taken together, and in how many runs.
+    pub together: usize,
+    pub runs: usize,
     /// New files that killed keepers without the lock left, and that were removed.
     pub cleared: usize,
 }
@@ -218,6 +221,19 @@ impl Nodes {
         self.faults.beside += 2;
         let [one, other] = node.server.serve_two(two.map(|message| (message.client, &message.frame[..])))?;
         Ok([self.answered(two[0], one)?, self.answered(two[1], other)?])
+    }
+
+    /// Requests that wait for one node, taken in their order: together, where one keeper serves all of them and nothing is wrong with it.
+    pub fn serve_run(&mut self, all: &[Message], random: &mut Random) -> Result<Vec<Option<Vec<u8>>>, Trouble> {
+        let i = all[0].node;
+        if self.lies(i) || !self.nodes[i].server.up() || self.wrong.is_some() || self.side_by_side() {
+            return all.iter().map(|message| self.serve(message, random)).collect();
+        }
+        self.faults.together += all.len();
+        self.faults.runs += 1;
+        let requests: Vec<&[u8]> = all.iter().map(|message| &message.frame[..]).collect();
+        let answers = self.nodes[i].server.serve_run(&requests)?;
+        all.iter().zip(answers).map(|(message, answer)| self.answered(message, answer)).collect()
     }
 
     /// A lying node stores a record or does not, and says what it likes.

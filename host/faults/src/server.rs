@@ -1,7 +1,7 @@
 //! What serves one node: keepers over a book on disk, or the library's call on a book in memory.
 
 use crate::keeper::{Answer, Keeper};
-use crate::library::node;
+use crate::library::{node, run};
 use crate::plan::Plan;
 use crate::trouble::Trouble;
 use std::fs;
@@ -126,12 +126,26 @@ impl Server {
     /// A request of this client.
     pub fn serve(&mut self, client: usize, request: &[u8]) -> Result<Answer, Trouble> {
         match &mut self.kept {
-            Kept::Memory(book) => Ok(match node(&self.plan, request, book) {
-                Ok(reply) => Answer::Reply(reply),
-                Err(4..=8) => Answer::Refused,
-                Err(refused) => Answer::Gone(format!("refused {refused}")),
-            }),
+            Kept::Memory(book) => Ok(answer(node(&self.plan, request, book))),
             Kept::Disk(disk) => disk.serve(client, request),
+        }
+    }
+
+    /// Requests that wait, handed over together: in memory by one call, which must come to what they come to singly.
+    pub fn serve_run(&mut self, requests: &[&[u8]]) -> Result<Vec<Answer>, Trouble> {
+        match &mut self.kept {
+            Kept::Memory(book) => {
+                let mut copy = book.clone();
+                let singly: Vec<_> = requests.iter().map(|request| node(&self.plan, request, &mut copy)).collect();
+                let ran = run(&self.plan, requests, book).unwrap_or_else(|refused| vec![Err(refused); requests.len()]);
+                if ran != singly || *book != copy {
+                    return Err(Trouble::Broken(
+                        "a run of requests came to something else than they did singly".into(),
+                    ));
+                }
+                Ok(ran.into_iter().map(answer).collect())
+            }
+            Kept::Disk(disk) => disk.serve_run(requests),
         }
     }
 
@@ -193,6 +207,15 @@ impl Server {
     }
 }
 
+/// What became of a request, of a call's answer.
+fn answer(told: Result<Vec<u8>, u32>) -> Answer {
+    match told {
+        Ok(reply) => Answer::Reply(reply),
+        Err(4..=8) => Answer::Refused,
+        Err(refused) => Answer::Gone(format!("refused {refused}")),
+    }
+}
+
 impl Disk {
     /// Both keepers where they serve side by side. The one that is to wait for the lock is started when the first has it, which is known when
     /// it has answered.
@@ -226,10 +249,24 @@ impl Disk {
         let at = self.at(client);
         self.running[at].send(request);
         let answer = self.running[at].answer()?;
+        self.another(&answer)?;
+        Ok(answer)
+    }
+
+    /// Requests in one write to the keeper that all clients share.
+    fn serve_run(&mut self, requests: &[&[u8]]) -> Result<Vec<Answer>, Trouble> {
+        self.running[0].send(&requests.concat());
+        let answers = self.running[0].answers(requests)?;
+        self.another(&answers[0])?;
+        Ok(answers)
+    }
+
+    /// Where one is to wait for the lock and none does, it is started when the first has answered.
+    fn another(&mut self, answer: &Answer) -> io::Result<()> {
         if self.way == Way::Waiting && self.running.len() == 1 && !matches!(answer, Answer::Gone(_)) {
             self.running.push(self.keeper()?);
         }
-        Ok(answer)
+        Ok(())
     }
 
     fn new_book(&self) -> PathBuf {

@@ -6,7 +6,9 @@ use crate::lines::say;
 use crate::lines::text;
 use crate::lines::told;
 use crate::places::alike;
+use crate::places::put;
 use crate::places::used;
+use crate::runs;
 use crate::walk::BLANK;
 use crate::walk::records;
 use pasis::store;
@@ -115,6 +117,31 @@ fn again(name: &[u8], book: [u8; 65536], time: u8, of: &[u8]) {
     end(of, alike(&after, &book));
 }
 
+// A run at a full book: the next record, the time, the latest record, and one that it holds.
+fn evening(from: [u8; 65536]) {
+    let plan = sixteen();
+    let next = request(42);
+    let held = request(1);
+    let time = runs::bare(frame::TIME_REQUEST);
+    let latest = runs::bare(frame::READ_LATEST);
+    let mut book = from;
+    let mut run = [0u8; 3212];
+    let mut replies = [BLANK; 6364];
+    let mut numbers = [BLANK; 4];
+    put(&mut run, 0, &next);
+    put(&mut run, 1591, &time);
+    put(&mut run, 1606, &latest);
+    put(&mut run, 1621, &held);
+    runs::serve(
+        b"N16 F1024, a run at the full book",
+        &plan,
+        &run,
+        &mut book,
+        &mut replies,
+        &mut numbers,
+    );
+}
+
 // A full book: it refuses the next record, and acknowledges one that it holds.
 pub fn full() {
     let f = fill();
@@ -124,4 +151,5 @@ pub fn full() {
     again(b"\nN16 F1024, the next record", book, 42, b", ");
     again(b"\nN16 F1024, a held record", book, 1, b", book ");
     text(b"\n");
+    evening(book);
 }

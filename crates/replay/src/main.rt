@@ -5,7 +5,7 @@
 //     ANSWER A B C D E               out: the number answered, and each slice after the call, or a dot where it is as lent
 //
 // CALL is 01 fresh_book, 02 node, 03 open_write, 04 open_read, 05 owed, 06 write_reply, 07 read_reply, 08 smallest_plan, whose plan slice is
-// the wish: member 1, t 8, b 8, m 8. Bytes are in hexadecimal, a minus where there are none; a call that is lent fewer than five slices has a
+// the wish: member 1, t 8, b 8, m 8, and 09 run. Bytes are in hexadecimal, a minus where there are none; a call that is lent fewer than five slices has a
 // minus for each of the others.
 use libc::STDIN_FILENO;
 use libc::STDOUT_FILENO;
@@ -18,10 +18,10 @@ ghost use lib.ListN.{length};
 ghost use Rattle.io.specs.Counts.{Counts};
 
 // Room for all of standard input. The ensures gives only the length, which lending the array as a slice needs.
-fn room() -> [u8; 262144]
-    ensures { λ r. ⌜ 262144 ≡ length r ⌝ }
+fn room() -> [u8; 327680]
+    ensures { λ r. ⌜ 327680 ≡ length r ⌝ }
 {
-    [0u8; 262144]
+    [0u8; 327680]
 }
 
 // ---- reading
@@ -147,6 +147,7 @@ fn make(
         6 => client::pasis_write_reply(plan, a, b, c, d, e),
         7 => client::pasis_read_reply(plan, a, b, c, d, e),
         8 => smallest(plan, a),
+        9 => store::pasis_run(plan, a, b, c, d, e),
         _ => 0,
     }
 }

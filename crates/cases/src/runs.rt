@@ -4,6 +4,7 @@ use crate::lines::filling;
 use crate::lines::say;
 use crate::lines::text;
 use crate::places::number_at;
+use crate::places::part;
 use crate::places::put;
 use crate::walk::BLANK;
 use crate::walk::records;
@@ -104,21 +105,13 @@ fn answers(numbers: &[u8]) {
     }
 }
 
-// The numbers of a run of this many frames; all places where there are fewer.
-fn numbers_of(numbers: &[u8], n: u64) -> &[u8] {
-    if n > numbers.len() as u64 {
-        return numbers;
-    }
-    &numbers[..n as usize]
-}
-
 // The line of a run that was served.
 fn told(book: &[u8], numbers: &[u8], what: &[u8]) {
     let n = number_at(what, 0, 8);
     say(b": frames ", n);
     say(b", reply bytes ", number_at(what, 8, 8));
     say(b", place ", number_at(what, 16, 8));
-    answers(numbers_of(numbers, n));
+    answers(part(numbers, 0, n as usize));
     filling(book);
 }
 
@@ -164,8 +157,7 @@ fn cut_after(name: &[u8], n: usize) {
     if n > 219 {
         return;
     }
-    let e = 219 + n;
-    small(name, &run[..e]);
+    small(name, part(&run, 0, 219 + n));
 }
 
 // A time request, then a request whose length field says this, and n bytes of it.
@@ -178,8 +170,7 @@ fn of_rest(name: &[u8], says: u8, n: usize) {
     if n > 30 {
         return;
     }
-    let e = 15 + n;
-    small(name, &run[..e]);
+    small(name, part(&run, 0, 15 + n));
 }
 
 // A record, one for another node, one of time 0, one of another hash, the first again, and what is the latest.
@@ -235,33 +226,42 @@ fn three_hundred() {
     hundreds(&mut run, &mut book, &mut replies, &mut numbers);
 }
 
-// Two frames at a fresh book, or at one that is not made, lent so many bytes for replies and so many places for numbers.
-fn lent(name: &[u8], made: bool, n: usize, places: usize) {
+// Two time requests at a book, with what is lent for their replies and numbers.
+fn two(name: &[u8], book: &mut [u8], replies: &mut [u8], numbers: &mut [u8]) {
     let plan = five();
     let time = bare(frame::TIME_REQUEST);
     let mut run = [0u8; 30];
-    let mut book = [BLANK; 1030];
-    let mut replies = [BLANK; 438];
-    let mut numbers = [BLANK; 2];
     put(&mut run, 0, &time);
     put(&mut run, 15, &time);
-    if made {
-        store::pasis_fresh_book(&plan, 3, &mut book);
-    }
-    if n > 438 {
-        return;
-    }
-    if places > 2 {
-        return;
-    }
-    serve(
-        name,
-        &plan,
-        &run,
-        &mut book,
-        &mut replies[..n],
-        &mut numbers[..places],
-    );
+    serve(name, &plan, &run, book, replies, numbers);
+}
+
+// The same at a fresh book.
+fn at_fresh(name: &[u8], replies: &mut [u8], numbers: &mut [u8]) {
+    let plan = five();
+    let mut book = [BLANK; 1030];
+    store::pasis_fresh_book(&plan, 3, &mut book);
+    two(name, &mut book, replies, numbers);
+}
+
+// The same at bytes that are no book.
+fn at_none(name: &[u8], replies: &mut [u8]) {
+    let mut book = [BLANK; 1030];
+    let mut numbers = [BLANK; 2];
+    two(name, &mut book, replies, &mut numbers);
+}
+
+// Lent what they need, one byte or one place less; and which refusal comes first.
+fn rooms() {
+    let mut whole = [BLANK; 438];
+    let mut short = [BLANK; 437];
+    let mut places = [BLANK; 2];
+    let mut one = [BLANK; 1];
+    at_fresh(b"run of two, lent what it needs", &mut whole, &mut places);
+    at_fresh(b"run of two, one reply byte short", &mut short, &mut places);
+    at_fresh(b"run of two, one number place short", &mut whole, &mut one);
+    at_none(b"run of two, one reply byte short, no book", &mut short);
+    at_none(b"run of two, no book", &mut whole);
 }
 
 fn empty() {
@@ -281,9 +281,5 @@ pub fn all() {
     among_good();
     too_long();
     three_hundred();
-    lent(b"run of two, lent what it needs", true, 438, 2);
-    lent(b"run of two, one reply byte short", true, 437, 2);
-    lent(b"run of two, one number place short", true, 438, 1);
-    lent(b"run of two, one reply byte short, no book", false, 437, 2);
-    lent(b"run of two, no book", false, 438, 2);
+    rooms();
 }

@@ -39,15 +39,20 @@ fn words(k: u32) {
         6 => text(b"a hash check fails"),
         7 => text(b"same timestamp held with other bytes"),
         8 => text(b"no room in the book for R more bytes"),
+        21 => text(b"too little room for the replies or the numbers of a run"),
         _ => text(b"not a refusal of a node"),
     }
 }
 
-pub fn refused(r: Refusal) {
-    let k = r.number();
+// A refusal by its number.
+pub fn numbered(k: u32) {
     text(b"refused ");
     decimal(k as u64);
     text(b": ");
     words(k);
     text(b"\n");
+}
+
+pub fn refused(r: Refusal) {
+    numbered(r.number());
 }

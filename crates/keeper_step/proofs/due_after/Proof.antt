@@ -12,5 +12,5 @@ due-after-spec =
     (λ c. search needs) (λ c. search needs) (λ c. search needs) (λ c κs. search needs) (λ c. search needs) (λ c κs. search needs)
     (λ c. laws.due-as _ (c .before .before .before .args .safe) _ (c .before .before .before .args .safe) _ (c .before .x .given .1) refl refl)
     (λ c. laws.due-as _ (c .before .before .before .args .safe) _ (c .before .before .before .args .safe) _ (c .before .x2 .given .1) refl refl)
-    (λ c. laws.synced-as _ _ (c .before .before .before .before .args .safe) _ (c .before .before .x3 .given .1) (c .reply-over .ensures))
+    (λ c. laws.synced-as _ _ _ _ (c .before .before .before .before .args .safe) _ (c .before .before .x3 .given .1) (c .reply-over .ensures))
     (λ c. laws.due-as _ (c .before .before .before .before .args .safe) _ (c .before .before .before .before .args .safe) _ (c .before .before .x4 .given .1) refl (c .reply-over2 .ensures)))

@@ -10,5 +10,5 @@ pub reply-over-spec : {M : Type 1} → statement M
 reply-over-spec =
     tie.close
     (tie.spec
-    (λ c. laws.due-as _ _ (Store (c .before .args .k)) _ _ refl (not-true (c .before .args .safe) (c .if1 .taken)) refl)
-    (λ c. laws.due-as _ _ (Store (c .before .args .k)) _ _ refl (not-false (c .before .args .safe) (c .if1 .left)) refl))
+    (λ c. laws.due-as _ _ (Store (c .before .args .frames) (c .before .args .written) (c .before .args .ended)) _ _ refl (not-true (c .before .args .safe) (c .if1 .taken)) refl)
+    (λ c. laws.due-as _ _ (Store (c .before .args .frames) (c .before .args .written) (c .before .args .ended)) _ _ refl (not-false (c .before .args .safe) (c .if1 .left)) refl))

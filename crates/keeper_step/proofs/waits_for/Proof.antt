@@ -2,6 +2,7 @@
 use mathlib.Core.Path.{refl}
 use borrow.Author.Tests.{not-true, not-false}
 use Rattle.keeper_step.proofs.Laws as laws
+use borrow.Author.Needs.{needs}
 use Rattle.keeper_step.proofs.waits_for.Statement.{statement}
 use Rattle.keeper_step.proofs.waits_for.Tie as tie
 
@@ -9,6 +10,7 @@ pub waits-for-spec : {M : Type 1} → statement M
 waits-for-spec =
     tie.close
     (tie.spec
-    (λ c. laws.waits-as (c .before .args .k) _ (c .before .args .durable) _ (c .before .args .durable) _ (not-true (c .before .args .same) (c .if1 .taken)) refl refl)
-    (λ c. laws.waits-as (c .before .before .args .k) _ _ _ _ _ (not-false (c .before .before .args .same) (c .before .if1 .left)) (not-true (c .before .before .args .durable) (c .if2 .taken)) refl)
-    (λ c. laws.waits-as (c .before .before .args .k) _ _ _ _ _ (not-false (c .before .before .args .same) (c .before .if1 .left)) (not-false (c .before .before .args .durable) (c .if2 .left)) refl))
+    (λ c κs. search needs)
+    (λ c. laws.waits-as _ _ _ (c .before .before .args .durable) _ (c .before .may-tell .result) _ (c .before .may-tell .result) _ (c .before .may-tell .ensures) (not-true (c .before .before .args .same) (c .if1 .taken)) refl refl)
+    (λ c. laws.waits-as _ _ _ (c .before .before .before .args .durable) _ (c .before .before .may-tell .result) _ _ _ (c .before .before .may-tell .ensures) (not-false (c .before .before .before .args .same) (c .before .if1 .left)) (not-true (c .before .before .may-tell .result) (c .if2 .taken)) refl)
+    (λ c. laws.waits-as _ _ _ (c .before .before .before .args .durable) _ (c .before .before .may-tell .result) _ _ _ (c .before .before .may-tell .ensures) (not-false (c .before .before .before .args .same) (c .before .if1 .left)) (not-false (c .before .before .may-tell .result) (c .if2 .left)) refl))

@@ -13,9 +13,10 @@ use second::record::{Record, Timestamp};
 use second::wire;
 use std::collections::{BTreeMap, BTreeSet};
 use std::fs;
-use std::io::{self, Write};
+use std::io::{self, Read, Write};
 use std::path::{Path, PathBuf};
 use std::process::{Command, Output, Stdio};
+use std::sync::atomic::{AtomicUsize, Ordering};
 
 /// The node whose book is kept, and the length of its book.
 pub const NODE: usize = 3;
@@ -156,6 +157,43 @@ pub fn fed(mut command: Command, input: &[u8]) -> Output {
     output
 }
 
+/// The same for requests that all wait when the program starts: a file is its input, so that one read takes what its area holds.
+pub fn fed_at_once(mut command: Command, input: &[u8]) -> Output {
+    static COUNT: AtomicUsize = AtomicUsize::new(0);
+    let name = format!("keeper-{}-input-{}", std::process::id(), COUNT.fetch_add(1, Ordering::SeqCst));
+    let path = std::env::temp_dir().join(name);
+    fs::write(&path, input).expect("a file");
+    command.stdin(Stdio::from(fs::File::open(&path).expect("the file")));
+    let output = command.output();
+    fs::remove_file(&path).expect("removed");
+    output.expect("keeper")
+}
+
+/// The same for a client that waits for the replies of each part before it sends the next, so that each is a run of its own.
+pub fn fed_in_turns(mut command: Command, parts: &[Vec<u8>]) -> Output {
+    let mut child = command.spawn().expect("keeper");
+    let mut to = child.stdin.take().expect("piped");
+    let mut from = child.stdout.take().expect("piped");
+    let mut stdout = Vec::new();
+    for part in parts {
+        let all = replies(&stdout) + replies(part);
+        // A keeper that has ended takes nothing more, and its output ends.
+        let _ = to.write_all(part);
+        while replies(&stdout) < all && more_of(&mut from, &mut stdout) {}
+    }
+    drop(to);
+    from.read_to_end(&mut stdout).expect("the rest of its output");
+    Output { stdout, ..child.wait_with_output().expect("its end") }
+}
+
+/// What can be read now, or as soon as there is something; false at the end.
+pub fn more_of(from: &mut impl Read, bytes: &mut Vec<u8>) -> bool {
+    let mut part = [0; 65_536];
+    let n = from.read(&mut part).expect("a read");
+    bytes.extend_from_slice(&part[..n]);
+    n > 0
+}
+
 /// What the replies told that were sent, by whichever keepers.
 #[derive(Default)]
 pub struct Told {
@@ -198,7 +236,8 @@ impl Told {
     }
 }
 
-fn first_frame(bytes: &[u8]) -> Option<Vec<u8>> {
+/// The first frame of these bytes, where they have a whole one.
+pub fn first_frame(bytes: &[u8]) -> Option<Vec<u8>> {
     let length = bytes.first_chunk::<4>()?;
     bytes.get(..u32::from_be_bytes(*length) as usize + 4).map(<[u8]>::to_vec)
 }
@@ -234,6 +273,11 @@ pub fn records(first: u64, count: u64) -> Vec<Record> {
 /// The requests to write them, one frame after another.
 pub fn writes(records: &[Record]) -> Vec<u8> {
     records.iter().flat_map(|record| craft::frame(NODE, 1, Body::WriteRequest(record.clone()))).collect()
+}
+
+/// The same, each by itself.
+pub fn each_write(records: &[Record]) -> Vec<Vec<u8>> {
+    records.iter().map(|record| writes(std::slice::from_ref(record))).collect()
 }
 
 /// The requests for the time and for the latest record.

@@ -2,7 +2,7 @@
 //! half of its bytes. Nothing acknowledged is lost, by a power cut either; one line says what failed; the next start works.
 
 use keeper_trials::disk::{calls, Disk, Left};
-use keeper_trials::{fed, looks, plan, records, replies, writes, Place, TEXT};
+use keeper_trials::{each_write, fed, fed_at_once, fed_in_turns, looks, plan, records, replies, writes, Place, TEXT};
 use second::book::Book;
 use std::fs;
 use std::process::Output;
@@ -15,10 +15,28 @@ const CALLS: [(&str, &[u32]); 5] = [("open", ALL), ("read", &[5, 4]), ("write", 
 
 const BOOK: usize = 2048;
 
+/// How requests come: in parts, each after the replies of the one before, or all at once.
+#[derive(Clone, Copy)]
+enum Come {
+    InTurns,
+    AtOnce,
+}
+
 /// The place as it was, with no calls taken down, and then a program with one call that fails. Whether that call was made.
-fn with_a_fault(place: &Place, files: &Left, more: &[&str], set: (&str, String), input: &[u8]) -> (bool, Output) {
+fn with_a_fault(
+    place: &Place,
+    files: &Left,
+    more: &[&str],
+    set: (&str, String),
+    come: Come,
+    parts: &[Vec<u8>],
+) -> (bool, Output) {
     place.set_files(files);
-    let output = fed(place.traced(more, &[set]), input);
+    let command = place.traced(more, &[set]);
+    let output = match come {
+        Come::InTurns => fed_in_turns(command, parts),
+        Come::AtOnce => fed_at_once(command, &parts.concat()),
+    };
     (calls(&place.file("LOG")).iter().any(|call| call.name == "failed"), output)
 }
 
@@ -42,9 +60,9 @@ fn lines(output: &Output) -> usize {
 }
 
 /// A save with a fault, and the next start, to which the client sends the same and more. Whether the fault was met.
-fn a_save(place: &Place, files: &Left, more: &[&str], set: (&str, String), what: &str) -> bool {
-    let input = [writes(&records(1, 1)), looks()].concat();
-    let (met, first) = with_a_fault(place, files, more, set, &input);
+fn a_save(place: &Place, files: &Left, more: &[&str], set: (&str, String), come: Come, what: &str) -> bool {
+    let parts = [writes(&records(1, 1)), looks()];
+    let (met, first) = with_a_fault(place, files, more, set, come, &parts);
     // All three replies, or a line that says why not; that the input cannot be read any more is told in any case.
     assert!(
         lines(&first) <= usize::from(met) && (lines(&first) == 1 || replies(&first.stdout) == 3),
@@ -58,24 +76,31 @@ fn a_save(place: &Place, files: &Left, more: &[&str], set: (&str, String), what:
     met
 }
 
-fn saves(name: &str, more: &[&str], reasons: &[u32]) {
+fn saves(name: &str, more: &[&str], reasons: &[u32], come: Come) {
     let place = Place::in_memory(name);
     place.fresh_of(BOOK);
     let files = place.files();
-    let faults = every_fault(reasons, |set, what| a_save(&place, &files, more, set, what));
-    assert!(faults >= 40 && faults >= 20 * reasons.len(), "{faults} faults");
+    let faults = every_fault(reasons, |set, what| a_save(&place, &files, more, set, come, what));
+    assert!(faults >= 20 * reasons.len(), "{faults} faults");
     println!("{name}: {faults} faults");
 }
 
 #[test]
 fn a_save_with_the_lock() {
-    saves("errors-locked", &["locked"], ALL);
+    saves("errors-locked", &["locked"], ALL, Come::InTurns);
 }
 
 /// It differs but in how it comes to BOOK.new and when it waits for the disk: one reason is enough.
 #[test]
 fn a_save_without_the_lock() {
-    saves("errors", &[], &[5]);
+    saves("errors", &[], &[5], Come::InTurns);
+}
+
+/// The requests are one run: one reason is enough.
+#[test]
+fn a_run() {
+    saves("errors-run", &["locked"], &[5], Come::AtOnce);
+    saves("errors-run-unlocked", &[], &[5], Come::AtOnce);
 }
 
 /// A write that takes half of its bytes is gone on with.
@@ -84,11 +109,13 @@ fn half_a_write() {
     let place = Place::in_memory("errors-half");
     place.fresh_of(BOOK);
     let files = place.files();
-    for n in 1..=4 {
-        let (_, output) =
-            with_a_fault(&place, &files, &["locked"], ("TRACE_SHORT", n.to_string()), &writes(&records(1, 2)));
-        assert!(replies(&output.stdout) == 2 && output.stderr.is_empty(), "write {n} takes half: {output:?}");
-        place.cut_everywhere(&files).unwrap_or_else(|why| panic!("write {n} takes half, {why}"));
+    for (come, most) in [(Come::InTurns, 4), (Come::AtOnce, 2)] {
+        for n in 1..=most {
+            let set = ("TRACE_SHORT", n.to_string());
+            let (_, output) = with_a_fault(&place, &files, &["locked"], set, come, &each_write(&records(1, 2)));
+            assert!(replies(&output.stdout) == 2 && output.stderr.is_empty(), "write {n} takes half: {output:?}");
+            place.cut_everywhere(&files).unwrap_or_else(|why| panic!("write {n} takes half, {why}"));
+        }
     }
 }
 
@@ -99,7 +126,7 @@ fn a_fresh_book() {
     let files = place.files();
     let new = ["new", "3", "2048"];
     let faults = every_fault(&[28, 5], |set, what| {
-        let (met, first) = with_a_fault(&place, &files, &new, set, b"");
+        let (met, first) = with_a_fault(&place, &files, &new, set, Come::InTurns, &[]);
         assert_eq!(lines(&first), usize::from(first.stdout != b"made\n"), "{what}: {first:?}");
         if !place.file("BOOK").exists() {
             let next = place.run(&new, b"");

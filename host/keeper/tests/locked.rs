@@ -1,7 +1,7 @@
 //! Stops of every kind: a keeper that was killed leaves a BOOK.new, and one that is told that it holds the lock goes on; one that is not
 //! told never guesses. What was acknowledged is held.
 
-use keeper_trials::{acknowledged, records, writes, Place};
+use keeper_trials::{acknowledged, each_write, records, writes, Place};
 use second::frame::HEADER;
 use second::random::Random;
 use std::collections::BTreeSet;
@@ -44,22 +44,38 @@ fn begin(mut command: Command) -> (Running, ChildStdin) {
             bytes.extend_from_slice(&part[..n]);
             so_far.store(bytes.len(), Ordering::SeqCst);
         }
+        so_far.store(usize::MAX, Ordering::SeqCst);
         bytes
     });
     (Running { child, output, told }, to)
 }
 
-/// Its input ends after these requests.
-fn start(command: Command, input: Vec<u8>) -> Running {
-    let (running, mut to) = begin(command);
-    thread::spawn(move || {
-        let _ = to.write_all(&input);
-    });
+/// Its input ends after these writes, each of which is sent after the reply to the one before.
+fn start(command: Command, parts: Vec<Vec<u8>>) -> Running {
+    let (running, to) = begin(command);
+    feed(to, running.told.clone(), parts);
     running
+}
+
+/// The first now, the others each after the reply to the one before. The input is left open for who takes it.
+fn feed(mut to: ChildStdin, told: Arc<AtomicUsize>, parts: Vec<Vec<u8>>) -> JoinHandle<ChildStdin> {
+    thread::spawn(move || {
+        for (i, part) in parts.iter().enumerate() {
+            while told.load(Ordering::SeqCst) < i * REPLY {
+                thread::sleep(Duration::from_micros(200));
+            }
+            // A keeper that was killed takes nothing more.
+            let _ = to.write_all(part);
+        }
+        to
+    })
 }
 
 impl Running {
     fn ended(mut self) -> BTreeSet<[u8; 40]> {
+        let mut lines = String::new();
+        self.child.stderr.take().expect("piped").read_to_string(&mut lines).expect("its lines");
+        print!("{lines}");
         let _ = self.child.wait();
         acknowledged(&self.output.join().expect("its output"))
     }
@@ -120,14 +136,14 @@ fn another_word_is_no_lock() {
     assert!(output.stdout.is_empty() && output.stderr.starts_with(b"usage: "), "{output:?}");
 }
 
-/// Several at once, by the lock and not by it.
+/// Several at once, by the lock and not by it. In memory: where the disk keeps one waiting for five seconds, the others without the lock give up.
 #[test]
 fn several_lose_nothing() {
     for by_lock in [true, false] {
-        let place = Place::new(if by_lock { "several-locked" } else { "several" });
+        let place = Place::in_memory(if by_lock { "several-locked" } else { "several" });
         place.fresh();
         let command = || if by_lock { locked(&place) } else { place.keeper(&[]) };
-        let running: Vec<Running> = (0..4).map(|i| start(command(), writes(&records(1 + 10 * i, 10)))).collect();
+        let running: Vec<Running> = (0..4).map(|i| start(command(), each_write(&records(1 + 10 * i, 10)))).collect();
         let told: Vec<BTreeSet<[u8; 40]>> = running.into_iter().map(Running::ended).collect();
         assert_eq!(told.iter().map(BTreeSet::len).sum::<usize>(), 40, "by the lock: {by_lock}");
         assert_eq!(told.into_iter().flatten().collect::<BTreeSet<_>>(), place.held());
@@ -142,14 +158,20 @@ fn after_a_kill_the_next_start_writes() {
     let mut random = Random::new(1);
     let (mut told, mut left) = (BTreeSet::new(), 0);
     for i in 0..12 {
-        let (running, mut open) = begin(locked(&place));
-        open.write_all(&writes(&records(1 + 12 * i, 11))).expect("requests, fewer bytes than a pipe holds");
+        let (running, to) = begin(locked(&place));
+        // By turns one after another, and all at once.
+        let (parts, most) = match i % 2 {
+            0 => (each_write(&records(1 + 12 * i, 11)), 10),
+            _ => (vec![writes(&records(1 + 12 * i, 11))], 0),
+        };
+        let open = feed(to, running.told.clone(), parts);
         let after = Duration::from_micros(100 * random.within(0, 40) as u64);
-        let (running, before) = running.killed(random.within(0, 10), after);
+        let (running, before) = running.killed(random.within(0, most), after);
         assert!(running, "kill {i} met no running keeper");
+        drop(open.join().expect("its input"));
         left += usize::from(place.file("BOOK.new").exists());
         told.extend(before);
-        let next = start(locked(&place), writes(&records(12 + 12 * i, 1))).ended();
+        let next = start(locked(&place), each_write(&records(12 + 12 * i, 1))).ended();
         assert_eq!(next.len(), 1, "the start after kill {i} did not write");
         told.extend(next);
         assert!(told.is_subset(&place.held()), "kill {i} lost a record that was acknowledged");

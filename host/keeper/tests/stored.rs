@@ -21,8 +21,12 @@ fn stored_replies_are_those_of_the_second_program() {
     let (input, mut book, mut replies) = (read("stdin"), read("data/BOOK"), Vec::new());
     let (mut rest, mut met) = (input.as_slice(), [0; 9]);
     while let Some(length) = rest.first_chunk::<4>() {
-        let end = u32::from_be_bytes(*length) as usize + 4;
-        let Some(request) = rest.get(..end) else { break };
+        let length = u32::from_be_bytes(*length) as usize;
+        if !(11..=1587).contains(&length) {
+            break;
+        }
+        let end = length + 4;
+        let request = &rest[..end];
         let mut reply = vec![0; plan().frame_room()];
         let number = wire::node(&wire::plan_bytes(&plan()), request, &mut book, &mut reply);
         if number == 0 {
@@ -33,6 +37,7 @@ fn stored_replies_are_those_of_the_second_program() {
         rest = &rest[end..];
     }
     assert_eq!(replies, read("stdout"));
-    assert!(!rest.is_empty(), "the last frame is cut off");
+    assert_eq!(rest[..4], [0, 0, 0, 10], "a length that no request has");
+    assert_eq!(rest[14..18], [0, 0, 0, 11], "a request after it, which is not read");
     assert!([0, 4, 5, 6, 8].iter().all(|number| met[*number] > 0), "refusals met: {met:?}");
 }

@@ -79,7 +79,7 @@ static int same(const char *a, const char *b)
 
 // ---- a line
 
-static char line[300000];
+static char line[1200000];
 static size used;
 
 static void put(const char *s)

@@ -242,14 +242,19 @@ pub fn first_frame(bytes: &[u8]) -> Option<Vec<u8>> {
     bytes.get(..u32::from_be_bytes(*length) as usize + 4).map(<[u8]>::to_vec)
 }
 
-/// How many whole frames these are.
-pub fn replies(mut output: &[u8]) -> usize {
-    let mut count = 0;
-    while let Some(frame) = first_frame(output) {
-        output = &output[frame.len()..];
-        count += 1;
+/// These frames, each by itself.
+pub fn each_frame(mut bytes: &[u8]) -> Vec<Vec<u8>> {
+    let mut frames = Vec::new();
+    while let Some(frame) = first_frame(bytes) {
+        bytes = &bytes[frame.len()..];
+        frames.push(frame);
     }
-    count
+    frames
+}
+
+/// How many whole frames these are.
+pub fn replies(output: &[u8]) -> usize {
+    each_frame(output).len()
 }
 
 /// Calls for people, one a line.
@@ -273,11 +278,6 @@ pub fn records(first: u64, count: u64) -> Vec<Record> {
 /// The requests to write them, one frame after another.
 pub fn writes(records: &[Record]) -> Vec<u8> {
     records.iter().flat_map(|record| craft::frame(NODE, 1, Body::WriteRequest(record.clone()))).collect()
-}
-
-/// The same, each by itself.
-pub fn each_write(records: &[Record]) -> Vec<Vec<u8>> {
-    records.iter().map(|record| writes(std::slice::from_ref(record))).collect()
 }
 
 /// The requests for the time and for the latest record.

@@ -2,7 +2,7 @@
 //! half of its bytes. Nothing acknowledged is lost, by a power cut either; one line says what failed; the next start works.
 
 use keeper_trials::disk::{calls, Disk, Left};
-use keeper_trials::{each_write, fed, fed_at_once, fed_in_turns, looks, plan, records, replies, writes, Place, TEXT};
+use keeper_trials::{each_frame, fed, fed_at_once, fed_in_turns, looks, plan, records, replies, writes, Place, TEXT};
 use second::book::Book;
 use std::fs;
 use std::process::Output;
@@ -61,7 +61,7 @@ fn lines(output: &Output) -> usize {
 
 /// A save with a fault, and the next start, to which the client sends the same and more. Whether the fault was met.
 fn a_save(place: &Place, files: &Left, more: &[&str], set: (&str, String), come: Come, what: &str) -> bool {
-    let parts = [writes(&records(1, 1)), looks()];
+    let parts = each_frame(&[writes(&records(1, 1)), looks()].concat());
     let (met, first) = with_a_fault(place, files, more, set, come, &parts);
     // All three replies, or a line that says why not; that the input cannot be read any more is told in any case.
     assert!(
@@ -112,7 +112,8 @@ fn half_a_write() {
     for (come, most) in [(Come::InTurns, 4), (Come::AtOnce, 2)] {
         for n in 1..=most {
             let set = ("TRACE_SHORT", n.to_string());
-            let (_, output) = with_a_fault(&place, &files, &["locked"], set, come, &each_write(&records(1, 2)));
+            let (_, output) =
+                with_a_fault(&place, &files, &["locked"], set, come, &each_frame(&writes(&records(1, 2))));
             assert!(replies(&output.stdout) == 2 && output.stderr.is_empty(), "write {n} takes half: {output:?}");
             place.cut_everywhere(&files).unwrap_or_else(|why| panic!("write {n} takes half, {why}"));
         }

@@ -1,7 +1,7 @@
 //! Stops of every kind: a keeper that was killed leaves a BOOK.new, and one that is told that it holds the lock goes on; one that is not
 //! told never guesses. What was acknowledged is held.
 
-use keeper_trials::{acknowledged, each_write, records, writes, Place};
+use keeper_trials::{acknowledged, each_frame, records, writes, Place};
 use second::frame::HEADER;
 use second::random::Random;
 use std::collections::BTreeSet;
@@ -143,7 +143,8 @@ fn several_lose_nothing() {
         let place = Place::in_memory(if by_lock { "several-locked" } else { "several" });
         place.fresh();
         let command = || if by_lock { locked(&place) } else { place.keeper(&[]) };
-        let running: Vec<Running> = (0..4).map(|i| start(command(), each_write(&records(1 + 10 * i, 10)))).collect();
+        let running: Vec<Running> =
+            (0..4).map(|i| start(command(), each_frame(&writes(&records(1 + 10 * i, 10))))).collect();
         let told: Vec<BTreeSet<[u8; 40]>> = running.into_iter().map(Running::ended).collect();
         assert_eq!(told.iter().map(BTreeSet::len).sum::<usize>(), 40, "by the lock: {by_lock}");
         assert_eq!(told.into_iter().flatten().collect::<BTreeSet<_>>(), place.held());
@@ -159,19 +160,21 @@ fn after_a_kill_the_next_start_writes() {
     let (mut told, mut left) = (BTreeSet::new(), 0);
     for i in 0..12 {
         let (running, to) = begin(locked(&place));
-        // By turns one after another, and all at once.
-        let (parts, most) = match i % 2 {
-            0 => (each_write(&records(1 + 12 * i, 11)), 10),
-            _ => (vec![writes(&records(1 + 12 * i, 11))], 0),
-        };
+        // By turns one after another, and one and then ten at once.
+        let mut parts = each_frame(&writes(&records(1 + 12 * i, 11)));
+        let mut replies = random.within(0, 10);
+        if i % 2 == 1 {
+            parts = vec![parts[0].clone(), parts[1..].concat()];
+            replies = 1;
+        }
         let open = feed(to, running.told.clone(), parts);
         let after = Duration::from_micros(100 * random.within(0, 40) as u64);
-        let (running, before) = running.killed(random.within(0, most), after);
+        let (running, before) = running.killed(replies, after);
         assert!(running, "kill {i} met no running keeper");
         drop(open.join().expect("its input"));
         left += usize::from(place.file("BOOK.new").exists());
         told.extend(before);
-        let next = start(locked(&place), each_write(&records(12 + 12 * i, 1))).ended();
+        let next = start(locked(&place), each_frame(&writes(&records(12 + 12 * i, 1)))).ended();
         assert_eq!(next.len(), 1, "the start after kill {i} did not write");
         told.extend(next);
         assert!(told.is_subset(&place.held()), "kill {i} lost a record that was acknowledged");

@@ -2,7 +2,7 @@
 //! must have a whole book with every record of a reply that was sent, and the next start must serve it.
 
 use keeper_trials::disk::{calls, Left};
-use keeper_trials::{acknowledged, each_write, fed, fed_at_once, fed_in_turns, looks, plan, records, writes, Place};
+use keeper_trials::{acknowledged, each_frame, fed, fed_at_once, fed_in_turns, looks, plan, records, writes, Place};
 use second::book::Book;
 use std::collections::BTreeSet;
 use std::fs;
@@ -22,7 +22,7 @@ fn place(name: &str) -> (Place, Left) {
 
 /// The time, two records, and the latest one.
 fn requests() -> Vec<Vec<u8>> {
-    vec![looks(), writes(&records(1, 1)), writes(&records(2, 1)), looks()]
+    each_frame(&[looks(), writes(&records(1, 2)), looks()].concat())
 }
 
 /// Requests that come in turns, or as one run.
@@ -103,7 +103,7 @@ fn a_run_without_the_lock() {
 /// One keeper writes and is held up before each of its calls; meanwhile another tells what it reads.
 fn a_reader_beside_a_writer(name: &str, give: Fed) {
     let (place, files) = place(name);
-    let input = each_write(&records(1, 2));
+    let input = each_frame(&writes(&records(1, 2)));
     let most = calls_of(&place, &files, &[], give, &input);
     for n in 1..=most {
         place.set_files(&files);
@@ -141,7 +141,7 @@ fn a_reader_beside_one_that_writes_a_run() {
 fn several_at_once() {
     let (place, files) = place("cut-several");
     let inputs: Vec<Vec<Vec<u8>>> =
-        (0..4).map(|i| [each_write(&records(1 + 2 * i, 2)), vec![looks()]].concat()).collect();
+        (0..4).map(|i| [each_frame(&writes(&records(1 + 2 * i, 2))), vec![looks()]].concat()).collect();
     let start = |input: &Vec<Vec<u8>>| {
         let (command, input) = (place.traced(&[], &[]), input.clone());
         thread::spawn(move || fed_in_turns(command, &input))

@@ -1,14 +1,14 @@
 -- The laws of the field. Assumes nothing.
 use mathlib.Core.Path.{_≡_, refl, sym, ap, ap₂, _∙_}
 use mathlib.Core.Bool.{Bool}
-use Prim.Native.Nat.{ℕ, zero, suc, _+_, _*_, _/_, _%_, _<_}
+use Prim.Native.Nat.{ℕ, zero, suc, _+_, _-_, _*_, _/_, _%_, _≤_, _<_}
 use native.Mathlib.Nat.{mod-lt, mod-eq-of-lt, mul-zero, mul-one}
 use native.Mathlib.Omega.{arith}
 use lib.Dec.{T, eqb, eqb→eq, lit<}
-use lib.Bits.{bitXor, xor-shr, xor-mod, xor-lt, xor-block}
+use lib.Bits.{bitXor, xor-shr, xor-mod, xor-lt, xor-block, xor-zero-l, xor-zero-r}
 use Rattle.field.specs.Field.{xtime, mulN, mul}
 use Rattle.field.proofs.Below.{every, below}
-use Rattle.field.proofs.Xor.{two-cases, bit-lt, xor-swap, times-bit}
+use Rattle.field.proofs.Xor.{two-cases, bit-lt, xor-assoc, xor-swap, times-bit}
 
 -- ---- doubling
 xor-double : (a b : ℕ) → bitXor a b * 2 ≡ bitXor (a * 2) (b * 2)
@@ -113,13 +113,14 @@ m-comm : (a b : ℕ) → a < 256 → b < 256 → m a b ≡ m b a
 m-comm a b ha hb =
     ap (λ (x : ℕ). m x b) (sym (one-m a ha)) ∙ swap 1 b a ∙ ap (λ (x : ℕ). m x a) (one-m b hb)
 
+-- a byte times a bit is a byte
+pub bit-fits : (a b : ℕ) → a < 256 → a * (b % 2) < 256
+bit-fits a b h = two-cases (λ x. a * x < 256) (omega arith) (omega arith) (b % 2) (bit-lt b)
+
 mulN-lt : (n a b : ℕ) → a < 256 → mulN n a b < 256
 unfolding mulN
 mulN-lt zero a b h = lit< tt
-mulN-lt (suc n) a b h = xor-lt 8 (a * (b % 2)) (mulN n (xtime a) (b / 2)) (part (b % 2) (bit-lt b)) (mulN-lt n (xtime a) (b / 2) (xtime-lt a))
-  where
-    part : (x : ℕ) → x < 2 → a * x < 256
-    part x hx = two-cases (λ x. a * x < 256) (omega arith) (omega arith) x hx
+mulN-lt (suc n) a b h = xor-lt 8 (a * (b % 2)) (mulN n (xtime a) (b / 2)) (bit-fits a b h) (mulN-lt n (xtime a) (b / 2) (xtime-lt a))
 
 m-lt : (a b : ℕ) → a < 256 → m a b < 256
 unfolding m
@@ -171,9 +172,33 @@ pub one-mul : (b : ℕ) → b < 256 → mul 1 b ≡ b
 unfolding mul m
 one-mul b h = ap (mulN 8 1) (mod-eq-of-lt h) ∙ one-m b h
 
+-- {02} is {01} doubled
+pub two-mul : (b : ℕ) → mul 2 b ≡ xtime (mul 1 b)
+unfolding mul m
+two-mul b = let e : 2 ≡ xtime 1 = unfold xtime in refl in ap (λ (x : ℕ). mulN 8 x (b % 256)) e ∙ m-xtime 1 (b % 256)
+
 pub mul-one-f : (a : ℕ) → a < 256 → mul a 1 ≡ a
 mul-one-f a h = mul-comm-f a 1 ∙ one-mul a h
 
 -- a (b c) = b (a c)
 pub mul-left-comm : (a b c : ℕ) → mul a (mul b c) ≡ mul b (mul a c)
 mul-left-comm a b c = sym (mul-assoc-f a b c) ∙ ap (λ (x : ℕ). mul x c) (mul-comm-f a b) ∙ mul-assoc-f b a c
+
+-- ---- the loop of a product: the sum so far, and the places that are left
+pub product-start : (a b : ℕ) → a < 256 → b < 256 → bitXor 0 (mulN 8 a b) ≡ mul a b
+unfolding mul
+product-start a b ha hb = xor-zero-l (mulN 8 a b) ∙ sym (ap₂ (mulN 8) (mod-eq-of-lt ha) (mod-eq-of-lt hb))
+
+pub product-turn : (i s a x b R : ℕ) → i < 8 → x ≡ xtime a → bitXor s (mulN (8 - i) a b) ≡ R
+    → bitXor (bitXor s (a * (b % 2))) (mulN (8 - (i + 1)) x (b / 2)) ≡ R
+unfolding mulN
+product-turn i s a x b R h e q =
+    let n : 8 - i ≡ suc (8 - (i + 1)) = omega arith in
+    xor-assoc s (a * (b % 2)) (mulN (8 - (i + 1)) x (b / 2))
+    ∙ ap (λ (y : ℕ). bitXor s (bitXor (a * (b % 2)) (mulN (8 - (i + 1)) y (b / 2)))) e
+    ∙ sym (ap (λ (k : ℕ). bitXor s (mulN k a b)) n) ∙ q
+
+pub product-end : (i s a b R : ℕ) → 8 ≤ i → bitXor s (mulN (8 - i) a b) ≡ R → s ≡ R
+unfolding mulN
+product-end i s a b R h q =
+    let n : 8 - i ≡ 0 = omega arith in sym (xor-zero-r s) ∙ sym (ap (λ (k : ℕ). bitXor s (mulN k a b)) n) ∙ q

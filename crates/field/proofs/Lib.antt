@@ -1,6 +1,6 @@
 pub mod Below
 pub mod Xor
 pub mod Laws
-pub mod Tables
-pub mod Inverse
+pub mod Horner
+pub mod Division
 pub mod Loops

@@ -1,11 +1,11 @@
 -- A loop that writes a slice from its start: what has been written, and what stands as it was. Assumes nothing.
 use mathlib.Core.Path.{_≡_, refl, _∙_}
 use mathlib.Core.List.{List}
-use Prim.Native.Nat.{ℕ, _+_, _-_, _≤_, _<_}
+use Prim.Native.Nat.{ℕ, _+_, _≤_, _<_}
 use native.Mathlib.Omega.{arith}
 use native.Mathlib.Decide.{ℕ-discrete}
-use lib.ListN.{length, getD, set, take, drop, length-set}
-use lib.Seq.{getD-set-same, getD-set-other, getD-take, getD-drop}
+use lib.ListN.{length, getD, set, length-set}
+use lib.Seq.{getD-set-same, getD-set-other}
 
 -- the first i elements are as f says, the others as they were
 pub record Upto (f : ℕ → ℕ) (i : ℕ) (old new : List ℕ) : Type 0 where
@@ -30,20 +30,3 @@ upto-next f i old new v u h e =
     done : (k : ℕ) → k < i + 1 → Dec (k ≡ i) → getD (set new i v) k 0 ≡ f k
     done k l (yes q) = rw q (getD-set-same new i v 0 (omega (arith, u .same)) ∙ e)
     done k l (no q) = getD-set-other new i k v 0 q ∙ u .done k (omega arith)
-
--- an element of the part &xs[base .. base + n]
-pub part-at : (base n : ℕ) (xs : List ℕ) (j : ℕ) → j < n → getD (take (base + n - base) (drop base xs)) j 0 ≡ getD xs (base + j) 0
-part-at base n xs j h = getD-take (base + n - base) (drop base xs) j 0 (omega arith) ∙ getD-drop base xs j 0
-
--- an element that is right as it stands
-pub upto-same : (f : ℕ → ℕ) (i : ℕ) (old new : List ℕ) → Upto f i old new → i < length old → getD old i 0 ≡ f i → Upto f (i + 1) old new
-upto-same f i old new u h e =
-    record {
-      same = u .same;
-      done = λ k l. done k l (ℕ-discrete k i);
-      left = λ k l. u .left k (omega arith);
-    }
-  where
-    done : (k : ℕ) → k < i + 1 → Dec (k ≡ i) → getD new k 0 ≡ f k
-    done k l (yes q) = rw q (u .left i (omega arith) ∙ e)
-    done k l (no q) = u .done k (omega arith)

@@ -1,599 +1,72 @@
-// The field of FIPS 197, section 4.2, on bytes. The sum of two bytes is their exclusive or. Products and quotients go by the powers
-// of {03} and their logarithms, two constant tables whose rules are proved once (proofs/Tables.antt); no contract speaks of them.
+// The field of FIPS 197, section 4.2, on bytes: a byte is a polynomial of degree below 8 with coefficients 0 and 1, bit i that of x^i. Two
+// bytes are added by exclusive or; everything else here is made of one step, doubling. `sums` does that step to whole strips of bytes.
 ghost use mathlib.Core.Path.{_≡_};
 ghost use Prim.Native.Nat.{ℕ, _<_};
-ghost use lib.Bits.{bitXor};
 ghost use lib.ListN.{length, getD};
-ghost use Rattle.field.specs.Field.{pow, mul, div};
+ghost use Rattle.field.specs.Field.{xtime, mul, inv};
 
-// The powers of {03}: entry k is {03} to the power k.
-const EXP: [u8; 255] = [
-    0x01,
-    0x03,
-    0x05,
-    0x0f,
-    0x11,
-    0x33,
-    0x55,
-    0xff,
-    0x1a,
-    0x2e,
-    0x72,
-    0x96,
-    0xa1,
-    0xf8,
-    0x13,
-    0x35,
-    0x5f,
-    0xe1,
-    0x38,
-    0x48,
-    0xd8,
-    0x73,
-    0x95,
-    0xa4,
-    0xf7,
-    0x02,
-    0x06,
-    0x0a,
-    0x1e,
-    0x22,
-    0x66,
-    0xaa,
-    0xe5,
-    0x34,
-    0x5c,
-    0xe4,
-    0x37,
-    0x59,
-    0xeb,
-    0x26,
-    0x6a,
-    0xbe,
-    0xd9,
-    0x70,
-    0x90,
-    0xab,
-    0xe6,
-    0x31,
-    0x53,
-    0xf5,
-    0x04,
-    0x0c,
-    0x14,
-    0x3c,
-    0x44,
-    0xcc,
-    0x4f,
-    0xd1,
-    0x68,
-    0xb8,
-    0xd3,
-    0x6e,
-    0xb2,
-    0xcd,
-    0x4c,
-    0xd4,
-    0x67,
-    0xa9,
-    0xe0,
-    0x3b,
-    0x4d,
-    0xd7,
-    0x62,
-    0xa6,
-    0xf1,
-    0x08,
-    0x18,
-    0x28,
-    0x78,
-    0x88,
-    0x83,
-    0x9e,
-    0xb9,
-    0xd0,
-    0x6b,
-    0xbd,
-    0xdc,
-    0x7f,
-    0x81,
-    0x98,
-    0xb3,
-    0xce,
-    0x49,
-    0xdb,
-    0x76,
-    0x9a,
-    0xb5,
-    0xc4,
-    0x57,
-    0xf9,
-    0x10,
-    0x30,
-    0x50,
-    0xf0,
-    0x0b,
-    0x1d,
-    0x27,
-    0x69,
-    0xbb,
-    0xd6,
-    0x61,
-    0xa3,
-    0xfe,
-    0x19,
-    0x2b,
-    0x7d,
-    0x87,
-    0x92,
-    0xad,
-    0xec,
-    0x2f,
-    0x71,
-    0x93,
-    0xae,
-    0xe9,
-    0x20,
-    0x60,
-    0xa0,
-    0xfb,
-    0x16,
-    0x3a,
-    0x4e,
-    0xd2,
-    0x6d,
-    0xb7,
-    0xc2,
-    0x5d,
-    0xe7,
-    0x32,
-    0x56,
-    0xfa,
-    0x15,
-    0x3f,
-    0x41,
-    0xc3,
-    0x5e,
-    0xe2,
-    0x3d,
-    0x47,
-    0xc9,
-    0x40,
-    0xc0,
-    0x5b,
-    0xed,
-    0x2c,
-    0x74,
-    0x9c,
-    0xbf,
-    0xda,
-    0x75,
-    0x9f,
-    0xba,
-    0xd5,
-    0x64,
-    0xac,
-    0xef,
-    0x2a,
-    0x7e,
-    0x82,
-    0x9d,
-    0xbc,
-    0xdf,
-    0x7a,
-    0x8e,
-    0x89,
-    0x80,
-    0x9b,
-    0xb6,
-    0xc1,
-    0x58,
-    0xe8,
-    0x23,
-    0x65,
-    0xaf,
-    0xea,
-    0x25,
-    0x6f,
-    0xb1,
-    0xc8,
-    0x43,
-    0xc5,
-    0x54,
-    0xfc,
-    0x1f,
-    0x21,
-    0x63,
-    0xa5,
-    0xf4,
-    0x07,
-    0x09,
-    0x1b,
-    0x2d,
-    0x77,
-    0x99,
-    0xb0,
-    0xcb,
-    0x46,
-    0xca,
-    0x45,
-    0xcf,
-    0x4a,
-    0xde,
-    0x79,
-    0x8b,
-    0x86,
-    0x91,
-    0xa8,
-    0xe3,
-    0x3e,
-    0x42,
-    0xc6,
-    0x51,
-    0xf3,
-    0x0e,
-    0x12,
-    0x36,
-    0x5a,
-    0xee,
-    0x29,
-    0x7b,
-    0x8d,
-    0x8c,
-    0x8f,
-    0x8a,
-    0x85,
-    0x94,
-    0xa7,
-    0xf2,
-    0x0d,
-    0x17,
-    0x39,
-    0x4b,
-    0xdd,
-    0x7c,
-    0x84,
-    0x97,
-    0xa2,
-    0xfd,
-    0x1c,
-    0x24,
-    0x6c,
-    0xb4,
-    0xc7,
-    0x52,
-    0xf6,
-];
+pub mod sums;
 
-// The logarithm of each byte above 0: {03} to the power of entry a is a. Entry 0 has no meaning, and is 0.
-const LOG: [u8; 256] = [
-    0,
-    0,
-    25,
-    1,
-    50,
-    2,
-    26,
-    198,
-    75,
-    199,
-    27,
-    104,
-    51,
-    238,
-    223,
-    3,
-    100,
-    4,
-    224,
-    14,
-    52,
-    141,
-    129,
-    239,
-    76,
-    113,
-    8,
-    200,
-    248,
-    105,
-    28,
-    193,
-    125,
-    194,
-    29,
-    181,
-    249,
-    185,
-    39,
-    106,
-    77,
-    228,
-    166,
-    114,
-    154,
-    201,
-    9,
-    120,
-    101,
-    47,
-    138,
-    5,
-    33,
-    15,
-    225,
-    36,
-    18,
-    240,
-    130,
-    69,
-    53,
-    147,
-    218,
-    142,
-    150,
-    143,
-    219,
-    189,
-    54,
-    208,
-    206,
-    148,
-    19,
-    92,
-    210,
-    241,
-    64,
-    70,
-    131,
-    56,
-    102,
-    221,
-    253,
-    48,
-    191,
-    6,
-    139,
-    98,
-    179,
-    37,
-    226,
-    152,
-    34,
-    136,
-    145,
-    16,
-    126,
-    110,
-    72,
-    195,
-    163,
-    182,
-    30,
-    66,
-    58,
-    107,
-    40,
-    84,
-    250,
-    133,
-    61,
-    186,
-    43,
-    121,
-    10,
-    21,
-    155,
-    159,
-    94,
-    202,
-    78,
-    212,
-    172,
-    229,
-    243,
-    115,
-    167,
-    87,
-    175,
-    88,
-    168,
-    80,
-    244,
-    234,
-    214,
-    116,
-    79,
-    174,
-    233,
-    213,
-    231,
-    230,
-    173,
-    232,
-    44,
-    215,
-    117,
-    122,
-    235,
-    22,
-    11,
-    245,
-    89,
-    203,
-    95,
-    176,
-    156,
-    169,
-    81,
-    160,
-    127,
-    12,
-    246,
-    111,
-    23,
-    196,
-    73,
-    236,
-    216,
-    67,
-    31,
-    45,
-    164,
-    118,
-    123,
-    183,
-    204,
-    187,
-    62,
-    90,
-    251,
-    96,
-    177,
-    134,
-    59,
-    82,
-    161,
-    108,
-    170,
-    85,
-    41,
-    157,
-    151,
-    178,
-    135,
-    144,
-    97,
-    190,
-    220,
-    252,
-    188,
-    149,
-    207,
-    205,
-    55,
-    63,
-    91,
-    209,
-    83,
-    57,
-    132,
-    60,
-    65,
-    162,
-    109,
-    71,
-    20,
-    42,
-    158,
-    93,
-    86,
-    242,
-    211,
-    171,
-    68,
-    17,
-    146,
-    217,
-    35,
-    32,
-    46,
-    137,
-    180,
-    124,
-    184,
-    38,
-    119,
-    153,
-    227,
-    165,
-    103,
-    74,
-    237,
-    222,
-    197,
-    49,
-    254,
-    24,
-    13,
-    99,
-    140,
-    128,
-    192,
-    247,
-    112,
-    7,
-];
-
-// The place in the table of powers for a sum of two logarithms: {03} to the power 255 is {01}.
-fn wrap(s: usize) -> usize
-    requires { ⌜ s < 510 ⌝ }
-    ensures { λ r. ⌜ (r < 255) × (pow 3 r ≡ pow 3 s) ⌝ }
+// {02} times a, the standard's xtime (4.2.1): each bit moves up by one place. A bit that moves out at the top is an x^8, which is
+// x^4 + x^3 + x + 1 modulo the field's polynomial x^8 + x^4 + x^3 + x + 1, so {1b} is added in its place.
+pub fn double(a: u8) -> u8
+    ensures { λ r. ⌜ r ≡ xtime a ⌝ }
 {
-    if s < 255 { s } else { s - 255 }
+    (a << 1) ^ (0x1b * ((a >> 7) % 2))
 }
 
-// {03} to the power of a sum of two logarithms.
-fn power(s: usize) -> u8
-    requires { ⌜ s < 510 ⌝ }
-    ensures { λ r. ⌜ r ≡ pow 3 s ⌝ }
-{
-    let at = wrap(s);
-    EXP[at]
-}
-
-// The logarithm of a byte above 0.
-fn log(a: u8) -> usize
-    requires { ⌜ 0 < a ⌝ }
-    ensures { λ r. ⌜ (r < 255) × (pow 3 r ≡ a) ⌝ }
-{
-    LOG[a as usize] as usize
-}
-
-// The product.
+// The product (4.2.1): a doubled again and again is a times {01}, {02}, {04}, .., {80}; the sum of those of which b has the bit is a times b.
+// The standard's example, {57} times {13}, where {13} is {01} + {02} + {10} and the bits above add nothing:
+//
+//     times   by doubling       bit of {13}   sum so far
+//     {01}             {57}     1             {57}
+//     {02}    {57} ->  {ae}     1             {57} + {ae} = {f9}
+//     {04}    {ae} ->  {47}     0             {f9}
+//     {08}    {47} ->  {8e}     0             {f9}
+//     {10}    {8e} ->  {07}     1             {f9} + {07} = {fe}
 pub fn product(a: u8, b: u8) -> u8
     ensures { λ r. ⌜ r ≡ mul a b ⌝ }
 {
-    if a == 0 {
-        return 0;
-    }
-    if b == 0 {
-        return 0;
-    }
-    power(log(a) + log(b))
-}
-
-// The quotient, where the divisor is above 0.
-pub fn quotient(a: u8, b: u8) -> u8
-    requires { ⌜ 0 < b ⌝ }
-    ensures { λ r. ⌜ r ≡ div a b ⌝ }
-{
-    if a == 0 {
-        return 0;
-    }
-    power(log(a) + 255 - log(b))
-}
-
-// Adds w times each byte of src to the byte of acc in its place. The loop reads one copy of each table, made before it.
-pub fn add_scaled(acc: &mut [u8], src: &[u8], w: u8)
-    requires { ⌜ length (now acc) ≡ length (now src) ⌝ }
-    ensures { λ r. ⌜ ((i : ℕ) → i < length (now (acc .entry))
-        → getD (now (acc .exit)) i 0 ≡ bitXor (getD (now (acc .entry)) i 0) (mul w (getD (now (src .entry)) i 0))) ⌝ }
-{
-    if w == 0 {
-        return;
-    }
-    let exp = EXP;
-    let log = LOG;
-    let lw = log[w as usize] as usize;
-    let n = acc.len();
+    let mut sum: u8 = 0;
+    let mut doubled = a;
+    let mut bits = b;
     let mut i: usize = 0;
-    while i < n {
-        let b = src[i];
-        if b != 0 {
-            let s = wrap(lw + (log[b as usize] as usize));
-            acc[i] = acc[i] ^ exp[s];
-        }
+    while i < 8 {
+        // This multiple of a belongs to the sum where the lowest bit that is left of b is 1.
+        sum = sum ^ (doubled * (bits % 2));
+        // The next multiple is twice this one, and the next bit of b becomes the lowest.
+        doubled = double(doubled);
+        bits = bits / 2;
         i += 1;
+    }
+    sum
+}
+
+// The inverse of a byte above 0, the one whose product with it is {01}: a to the power 254, since a to the power 255 is {01}. 254 is
+// 2 + 4 + 8 + 16 + 32 + 64 + 128, so it is the product of the squares that follow one another. Of {00} it is {00}.
+pub fn inverse(a: u8) -> u8
+    ensures { λ r. ⌜ r ≡ inv a ⌝ }
+{
+    let a2 = product(a, a);
+    let a4 = product(a2, a2);
+    let a8 = product(a4, a4);
+    let a16 = product(a8, a8);
+    let a32 = product(a16, a16);
+    let a64 = product(a32, a32);
+    let a128 = product(a64, a64);
+    let low = product(product(a2, a4), product(a8, a16));
+    let high = product(product(a32, a64), a128);
+    product(low, high)
+}
+
+// Each byte of a row replaced by its inverse, side by side: a row is as wide as a vector of the processor.
+pub fn invert(row: &mut [u8; 16])
+    requires { ⌜ length (now row) ≡ 16 ⌝ }
+    ensures { λ _. ⌜ (length (now (row .exit)) ≡ 16) × ((k : ℕ) → k < 16 → getD (now (row .exit)) k 0 ≡ inv (getD (now (row .entry)) k 0)) ⌝ }
+{
+    let mut k: usize = 0;
+    while k < 16 {
+        row[k] = inverse(row[k]);
+        k += 1;
     }
 }

@@ -2,19 +2,17 @@
 use mathlib.Core.Path.{_≡_, refl, sym, ap, ap₂, _∙_, subst}
 use mathlib.Core.Bool.{Bool, true, false, cond}
 use mathlib.Core.List.{List, [], _∷_}
-use Prim.Native.Nat.{ℕ, zero, suc, _+_, _≤_, _<_, zero-le, suc-le-suc}
+use Prim.Native.Nat.{ℕ, zero, suc, _≤_, _<_, zero-le, suc-le-suc}
 use native.Mathlib.Nat.{not-suc-le-zero, le-of-suc-le-suc}
 use native.Mathlib.Omega.{arith}
 use lib.Dec.{T, eqb, eqb→eq, eqb-refl, lit<}
 use lib.Bits.{bitXor, xor-zero-l, xor-zero-r, xor-comm, xor-self, xor-lt}
-use native.Mathlib.Numerals.{add-one}
-use lib.ListN.{length, getD, drop, drop-of-length-le}
-use lib.Seq.{drop-cons}
+use lib.ListN.{length}
 use Rattle.field.specs.Field.{mul, inv, div}
 use Rattle.fragments.specs.Fragments.{All, Distinct, ratio, weightOf, blend, value, eval}
 use Rattle.field.proofs.Xor.{xor-assoc, xor-swap, xor-cancel, xor-eq}
 use Rattle.field.proofs.Laws.{mul-lt, mul-comm-f, mul-assoc-f, mul-left-comm, mul-plus, plus-mul, zero-mul, mul-zero-f, one-mul, mul-one-f}
-use Rattle.field.proofs.Inverse.{mul-inv, inv-lt, div-inv, mul-div, zero-div, div-lt}
+use Rattle.field.proofs.Division.{mul-inv, inv-lt, div-inv, mul-div, zero-div, div-lt}
 
 -- ---- every element of a list
 pub all : {P : ℕ → Type 0} → ((x : ℕ) → P x) → (xs : List ℕ) → All P xs
@@ -430,48 +428,3 @@ module _ (ps : List ℕ) (f : ℕ → ℕ) (d : Distinct ps) (b : Bytes ps) (h :
       value-ext zs (value ps f) (eval (newton ps f)) x (all-map (λ z hz. value-poly z hz) zs bz)
       ∙ only zs (newton ps f) x dz bz (bytes-newton ps f h) (omega (arith, length-newton ps f)) hx
       ∙ sym (value-poly x hx)
-
--- ---- a loop over the points: w times the weightOf over the points that are left stays
-weight-cons : (qs : List ℕ) (k x p : ℕ) → k < length qs
-    → weightOf (drop k qs) x p ≡ mul (ratio x p (getD qs k 0)) (weightOf (drop (k + 1) qs) x p)
-unfolding weightOf
-weight-cons qs k x p h = rw (add-one k, drop-cons qs k 0 h)
-
-pub weight-skip : (qs : List ℕ) (k x p w W : ℕ) → k < length qs → p ≡ getD qs k 0
-    → mul w (weightOf (drop k qs) x p) ≡ W → mul w (weightOf (drop (k + 1) qs) x p) ≡ W
-weight-skip qs k x p w W h e i =
-    ap (mul w) (sym (weight-cons qs k x p h
-    ∙ ap (λ (n : ℕ). mul n (weightOf (drop (k + 1) qs) x p)) (ap (ratio x p) (sym e) ∙ ratio-same x p)
-    ∙ one-mul (weightOf (drop (k + 1) qs) x p) (weight-lt (drop (k + 1) qs) x p)))
-    ∙ i
-
-pub weight-turn : (qs : List ℕ) (k x p w W : ℕ) → k < length qs → (p ≡ getD qs k 0 → ⊥)
-    → mul w (weightOf (drop k qs) x p) ≡ W
-    → mul (mul (div (bitXor x (getD qs k 0)) (bitXor p (getD qs k 0))) w) (weightOf (drop (k + 1) qs) x p) ≡ W
-weight-turn qs k x p w W h ne i =
-    let q = getD qs k 0 in
-    let r = weightOf (drop (k + 1) qs) x p in
-    ap (λ (n : ℕ). mul (mul n w) r) (sym (ratio-other x p q ne)) ∙ ap (λ (n : ℕ). mul n r) (mul-comm-f (ratio x p q) w)
-    ∙ mul-assoc-f w (ratio x p q) r ∙ ap (mul w) (sym (weight-cons qs k x p h)) ∙ i
-
-pub weight-end : (qs : List ℕ) (k x p w W : ℕ) → length qs ≤ k → w < 256 → mul w (weightOf (drop k qs) x p) ≡ W → w ≡ W
-unfolding weightOf
-weight-end qs k x p w W h hw i = sym (mul-one-f w hw) ∙ ap (λ (l : List ℕ). mul w (weightOf l x p)) (sym (drop-of-length-le qs h)) ∙ i
-
--- the same for the sum: what stands in o and the sum over the points that are left
-pub blend-turn : (qs : List ℕ) (k x : ℕ) (f : ℕ → ℕ) (o R : ℕ) → k < length qs → bitXor o (blend qs x f (drop k qs)) ≡ R
-    → bitXor (bitXor o (mul (weightOf qs x (getD qs k 0)) (f (getD qs k 0)))) (blend qs x f (drop (k + 1) qs)) ≡ R
-blend-turn qs k x f o R h i =
-    xor-assoc o (mul (weightOf qs x (getD qs k 0)) (f (getD qs k 0))) (blend qs x f (drop (k + 1) qs)) ∙ ap (bitXor o) (sym cons) ∙ i
-  where
-    cons : blend qs x f (drop k qs) ≡ bitXor (mul (weightOf qs x (getD qs k 0)) (f (getD qs k 0))) (blend qs x f (drop (k + 1) qs))
-    cons = unfold blend in rw (add-one k, drop-cons qs k 0 h)
-
-pub blend-start : (qs : List ℕ) (x : ℕ) (f : ℕ → ℕ) (o : ℕ) → o ≡ 0 → bitXor o (blend qs x f qs) ≡ value qs f x
-unfolding value
-blend-start qs x f o e = ap (λ (n : ℕ). bitXor n (blend qs x f qs)) e ∙ xor-zero-l (blend qs x f qs)
-
-pub blend-end : (qs : List ℕ) (k x : ℕ) (f : ℕ → ℕ) (o R : ℕ) → length qs ≤ k → bitXor o (blend qs x f (drop k qs)) ≡ R → o ≡ R
-unfolding blend
-blend-end qs k x f o R h i =
-    sym (xor-zero-r o) ∙ ap (λ (l : List ℕ). bitXor o (blend qs x f l)) (sym (drop-of-length-le qs h)) ∙ i

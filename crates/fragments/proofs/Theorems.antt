@@ -16,7 +16,7 @@ use lib.Seq.{take-all, take-add, getD-drop, drop-append-add, drop-drop, take-at,
 use Rattle.field.specs.Field.{mul, div}
 use Rattle.field.proofs.Xor.{xor-cancel}
 use Rattle.field.proofs.Laws.{mul-zero-f, zero-mul as zero-mul-f}
-use Rattle.field.proofs.Inverse.{div-mul}
+use Rattle.field.proofs.Division.{div-mul}
 use Rattle.octets.specs.Bytes.{part, put, Octets}
 use Rattle.octets.proofs.Laws.{length-part, length-put, part-put-same, part-put-before, put-is, slot-fits}
 use Rattle.octets.proofs.Meaning.{getD-part, octets-drop}

@@ -155,11 +155,12 @@ named-within F desk (p ∷ ps) e (suc k) h =
     named-within F desk ps (both (apart F (length desk) p ps) _ e .1) k (omega arith)
 
 module _ (m F : ℕ) (nodes : List ℕ) (desk item : ℕ) where
-  pub decode-is : decodeFits m F nodes desk item ≡ true → RunsAre m F item × (named F desk nodes ≡ true)
+  pub decode-is : decodeFits m F nodes desk item ≡ true → RunsAre m F item × (named F desk nodes ≡ true) × (length nodes ≡ m)
   unfolding decodeFits
   decode-is e =
-      let e2 = rest _ _ (rest _ _ e .1) in
-      (runs-are _ _ _ (e2 .0), sym (last _) ∙ e2 .1)
+      let e1 = rest _ _ e in
+      let e2 = rest _ _ (e1 .1) in
+      (runs-are _ _ _ (e2 .0), sym (last _) ∙ e2 .1, eqb-true _ _ (e1 .0))
 
   pub decode-no : ((length nodes ≡ m) × (runsFit m F item ≡ true) → ⊥) → false ≡ decodeFits m F nodes desk item
   unfolding decodeFits

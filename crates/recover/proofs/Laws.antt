@@ -18,7 +18,8 @@ use Rattle.terms.specs.declared.Plan.{Plan}
 use Rattle.terms.specs.declared.Slots.{Slots}
 use Rattle.terms.specs.Terms.{slotsOf, slotAt}
 use Rattle.terms.proofs.Picks.{neither}
-use Rattle.fragments.specs.Fragments.{among, regenerated}
+use Rattle.fragments.specs.Fragments.{among, regenerated, Sources}
+use Rattle.fragments.proofs.Laws.{length-regenerated}
 use Rattle.record.specs.Record.{fragmentHash}
 use Rattle.record.specs.Desk.{row, crossMade}
 use Rattle.record.proofs.Desks.{length-cross}
@@ -28,6 +29,11 @@ use Rattle.recover.specs.Recover.{validates, slotFilled, refilled}
 -- the head of slot a, by the numbers of the plan's slots
 pub head-room : (p : Plan) (slots : Slots) → slots ≡ slotsOf p → (a l : ℕ) → slotAt (slotsOf p) a + slotsOf p .head ≤ l → slotAt slots a + slots .head ≤ l
 head-room p slots e a l h = rw e h
+
+-- a fragment has the plan's length
+pub refit : (p : Plan) (d qs : List ℕ) (slots : Slots) (k : ℕ) (g : List ℕ) → slots ≡ slotsOf p → Sources d (slotsOf p) qs → g ≡ regenerated d slots qs k
+    → length g ≡ p .f
+refit p d qs slots k g e h r = ap length r ∙ rw e (length-regenerated d (slotsOf p) qs k h)
 
 module _ (p : Plan) (g : ℕ → List ℕ) (d : List ℕ) (at : ℕ) where
   abbrev agrees : ℕ → Bool

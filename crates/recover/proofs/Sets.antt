@@ -31,6 +31,9 @@ module _ (p : Plan) (c : Close) (a : ℕ) (d : List ℕ) (u : Usable p c a d) wh
   pub few : p .m ≡ length qs
   few = sym (length-take-le (p .m) (c .set .nodes) (omega (arith, m16, u .nodes)))
 
+  pub few16 : length qs ≤ 16
+  few16 = omega (arith, few, m16)
+
   pub sources : Sources d (slotsOf p) qs
   sources k h =
       let hk : k < p .m = omega (arith, few) in

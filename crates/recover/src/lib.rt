@@ -9,10 +9,12 @@ ghost use lib.ListN.{length};
 ghost use Rattle.octets.specs.Bytes.{part, put};
 ghost use Rattle.terms.specs.Terms.{planOk, recordLength, slotsOf, slotAt};
 ghost use Rattle.fragments.specs.Fragments.{Sources};
+ghost use Rattle.fragments.specs.Inside.{pointsOf, Ready};
 ghost use Rattle.rounds.specs.Rounds.{told};
 ghost use Rattle.recover.specs.Inside.{Usable};
 ghost use Rattle.recover.specs.Recover.{validates, slotFilled, refilled, sound, decoded, collected, repaired};
 ghost use Rattle.recover.specs.Records.{stampFor, recordsFor};
+use fragments::Basis;
 use rounds::Close;
 use terms::Clients;
 use terms::Plan;
@@ -21,10 +23,10 @@ use terms::Time;
 use terms::Timestamp;
 
 // Validation, each fragment computed into scratch and hashed once: its hash is its entry of the cross checksum in slot a.
-fn valid(p: Plan, desk: &[u8], qs: &[u8], a: usize, scratch: &mut [u8]) -> bool
-    requires { ⌜ (planOk p ≡ true) × (Sources (now desk) (slotsOf p) (now qs)) × (length (now scratch) ≡ p .f)
-        × (slotAt (slotsOf p) a + slotsOf p .head ≤ length (now desk)) ⌝ }
-    ensures { λ x. ⌜ x ≡ validates p (now (desk .entry)) (now (qs .entry)) a ⌝ }
+fn valid(p: Plan, desk: &[u8], b: Basis, a: usize, scratch: &mut [u8]) -> bool
+    requires { ⌜ (planOk p ≡ true) × (Sources (now desk) (slotsOf p) (pointsOf b)) × (length (now scratch) ≡ p .f)
+        × (slotAt (slotsOf p) a + slotsOf p .head ≤ length (now desk)) × (Ready b) ⌝ }
+    ensures { λ x. ⌜ x ≡ validates p (now (desk .entry)) (pointsOf b) a ⌝ }
 {
     let slots = terms::slots_of(p);
     let n = slots.n;
@@ -32,7 +34,7 @@ fn valid(p: Plan, desk: &[u8], qs: &[u8], a: usize, scratch: &mut [u8]) -> bool
     let at = a * size + 40;
     let mut i: usize = 0;
     while i < n {
-        fragments::regenerate(desk, slots, qs, i as u8, scratch);
+        fragments::regenerate(desk, slots, b, i as u8, scratch);
         if !record::entry_ok(p, i, scratch, desk, at + 32 * i) {
             return false;
         }
@@ -62,26 +64,27 @@ pub struct Led {
 }
 
 // Slot k gets its record of a set; the slot of a source stays.
-fn fill_slot(desk: &mut [u8], set: Led, qs: &[u8], k: usize, scratch: &mut [u8])
-    requires { ⌜ (Sources (now desk) (set .slots) (now qs)) × (length (now scratch) ≡ set .slots .fragment)
+fn fill_slot(desk: &mut [u8], set: Led, b: Basis, k: usize, scratch: &mut [u8])
+    requires { ⌜ (Sources (now desk) (set .slots) (pointsOf b)) × (length (now scratch) ≡ set .slots .fragment)
         × (set .slots .size ≡ set .slots .head + set .slots .fragment) × (k < 16)
-        × (slotAt (set .slots) k + set .slots .size ≤ length (now desk)) × (slotAt (set .slots) (set .lead) + set .slots .size ≤ length (now desk)) ⌝ }
-    ensures { λ _. ⌜ now (desk .exit) ≡ slotFilled (now (desk .entry)) (set .slots) (now (qs .entry)) (set .lead) k ⌝ }
+        × (slotAt (set .slots) k + set .slots .size ≤ length (now desk)) × (slotAt (set .slots) (set .lead) + set .slots .size ≤ length (now desk))
+        × (Ready b) ⌝ }
+    ensures { λ _. ⌜ now (desk .exit) ≡ slotFilled (now (desk .entry)) (set .slots) (pointsOf b) (set .lead) k ⌝ }
 {
     let slots = set.slots;
     let a = set.lead;
-    if fragments::is_among(qs, k as u8) {
+    if b.has(k as u8) {
         return;
     }
-    fragments::regenerate(&desk[..], slots, qs, k as u8, scratch);
+    fragments::regenerate(&desk[..], slots, b, k as u8, scratch);
     write_slot(desk, slots, a, k, scratch);
 }
 
 // All slots, in place.
-fn refill(desk: &mut [u8], slots: Slots, qs: &[u8], a: usize, scratch: &mut [u8])
-    requires { ⌜ (Sources (now desk) slots (now qs)) × (length (now scratch) ≡ slots .fragment) × (slots .size ≡ slots .head + slots .fragment) × (slots .n ≤ 16)
-        × (slots .n * slots .size ≤ length (now desk)) × (a < slots .n) ⌝ }
-    ensures { λ _. ⌜ now (desk .exit) ≡ refilled (now (desk .entry)) slots (now (qs .entry)) a (slots .n) ⌝ }
+fn refill(desk: &mut [u8], slots: Slots, b: Basis, a: usize, scratch: &mut [u8])
+    requires { ⌜ (Sources (now desk) slots (pointsOf b)) × (length (now scratch) ≡ slots .fragment) × (slots .size ≡ slots .head + slots .fragment) × (slots .n ≤ 16)
+        × (slots .n * slots .size ≤ length (now desk)) × (a < slots .n) × (Ready b) ⌝ }
+    ensures { λ _. ⌜ now (desk .exit) ≡ refilled (now (desk .entry)) slots (pointsOf b) a (slots .n) ⌝ }
 {
     let n = slots.n;
     let set = Led {
@@ -90,30 +93,32 @@ fn refill(desk: &mut [u8], slots: Slots, qs: &[u8], a: usize, scratch: &mut [u8]
     };
     let mut k: usize = 0;
     while k < n {
-        fill_slot(desk, set, qs, k, scratch);
+        fill_slot(desk, set, b, k, scratch);
         k += 1;
     }
 }
 
 // Whether the set of slot a validates, with room of its own for one fragment.
 fn validated(p: Plan, desk: &[u8], qs: &[u8], a: usize) -> bool
-    requires { ⌜ (planOk p ≡ true) × (Sources (now desk) (slotsOf p) (now qs)) × (slotAt (slotsOf p) a + slotsOf p .head ≤ length (now desk)) ⌝ }
+    requires { ⌜ (planOk p ≡ true) × (Sources (now desk) (slotsOf p) (now qs)) × (slotAt (slotsOf p) a + slotsOf p .head ≤ length (now desk)) × (length (now qs) ≤ 16) ⌝ }
     ensures { λ x. ⌜ x ≡ validates p (now (desk .entry)) (now (qs .entry)) a ⌝ }
 {
     let f = p.f as usize;
+    let b = fragments::basis_of(qs);
     let mut scratch = [0u8; 1024];
-    valid(p, desk, qs, a, &mut scratch[..f])
+    valid(p, desk, b, a, &mut scratch[..f])
 }
 
 // The desk filled with all records of the set of slot a, with room of its own for one fragment.
 fn mend(desk: &mut [u8], slots: Slots, qs: &[u8], a: usize)
     requires { ⌜ (Sources (now desk) slots (now qs)) × (slots .fragment ≤ 1024) × (slots .size ≡ slots .head + slots .fragment) × (slots .n ≤ 16)
-        × (slots .n * slots .size ≤ length (now desk)) × (a < slots .n) ⌝ }
+        × (slots .n * slots .size ≤ length (now desk)) × (a < slots .n) × (length (now qs) ≤ 16) ⌝ }
     ensures { λ _. ⌜ now (desk .exit) ≡ refilled (now (desk .entry)) slots (now (qs .entry)) a (slots .n) ⌝ }
 {
     let f = slots.fragment;
+    let b = fragments::basis_of(qs);
     let mut scratch = [0u8; 1024];
-    refill(desk, slots, qs, a, &mut scratch[..f]);
+    refill(desk, slots, b, a, &mut scratch[..f]);
 }
 
 // Validation: the clients of the plan are trusted, or the cross checksum agrees.

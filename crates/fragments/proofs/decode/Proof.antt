@@ -9,8 +9,13 @@ decode-spec =
     tie.close
     (tie.spec
     (λ c κs. tt)
+    (λ c κs. c .before .before .before .before .pre .3)
     (λ c κs.
-    let e = c .before .before .before .before .before in
-    rw (c .before .runs-of .ensures) (e .pre .0, refl, e .pre .1, runs-room (e .args .m) (e .args .s .fragment) (e .args .item .now) (e .pre .2)))
+    let e = c .before .before .before .before .before .before in
+    let b = c .before .basis-of in
+    rw (c .before .before .runs-of .ensures)
+    (b .ensures .0, rw (b .ensures .1) (e .pre .0), refl, e .pre .1, runs-room (e .args .m) (e .args .s .fragment) (e .args .item .now) (e .pre .2)))
     (λ c. search needs)
-    (λ c. c .before .before .lay .ensures ∙ rw (c .before .before .before .before .runs-of .ensures)))
+    (λ c.
+    let b = c .before .before .before .before in
+    c .before .before .lay .ensures ∙ rw (b .basis-of .ensures .1, b .before .runs-of .ensures)))

@@ -1,6 +1,7 @@
 use Rattle.primitives.proofs.Laws.{done, refused, decode-is, named-within}
 use borrow.Author.Tests.{not-true, not-false}
 use mathlib.Core.Path.{sym, _∙_}
+use native.Mathlib.Omega.{arith}
 use borrow.Author.Needs.{needs}
 use Rattle.primitives.proofs.primitives_decode.Statement.{statement}
 use Rattle.primitives.proofs.primitives_decode.Tie as tie
@@ -16,7 +17,7 @@ primitives-decode-spec =
     let t = c .before .before in
     let a = t .before .before .before .before .before .args in
     let h = decode-is _ _ _ _ _ (sym (t .before .decode-fits .ensures) ∙ not-false (t .before .decode-fits .result) (t .if1 .left)) in
-    rw (c .before .runs-of .ensures) (named-within _ (a .desk .now) (a .nodes .now) (h .1), h .0 .high, h .0 .length-is))
+    rw (c .before .runs-of .ensures) (named-within _ (a .desk .now) (a .nodes .now) (h .1), h .0 .high, h .0 .length-is, omega (arith, h .2, h .0 .high)))
     (λ c. search needs)
     (λ c.
     let r = c .before .before .before .before in

@@ -21,7 +21,7 @@ decode-spec =
     let e = c .before .before .before .before .before .before .before in
     let a = e .args in
     rw (c .before .before .before .before .slots-of .ensures)
-    (laws.sources (a .p) (a .c) (a .a) (a .desk .now) (e .pre .0), laws.m16 (a .p) (a .c) (a .a) (a .desk .now) (e .pre .0), e .pre .1))
+    (laws.sources (a .p) (a .c) (a .a) (a .desk .now) (e .pre .0), laws.m16 (a .p) (a .c) (a .a) (a .desk .now) (e .pre .0), e .pre .1, laws.few16 (a .p) (a .c) (a .a) (a .desk .now) (e .pre .0)))
     (λ c. search needs)
     (λ c.
     let s = c .before .before .before .before .before .before .before in

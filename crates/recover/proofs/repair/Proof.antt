@@ -24,7 +24,7 @@ repair-spec =
     let a = e .args in
     let q = plan-is _ (e .pre .plan) in
     rw (c .before .before .before .before .slots-of .ensures)
-    (laws.sources (a .p) (a .c) (a .a) (a .desk .now) (e .pre), q .f-high, record-length (a .p), q .n-high, omega (arith, e .pre .desk), e .pre .lead))
+    (laws.sources (a .p) (a .c) (a .a) (a .desk .now) (e .pre), q .f-high, record-length (a .p), q .n-high, omega (arith, e .pre .desk), e .pre .lead, laws.few16 (a .p) (a .c) (a .a) (a .desk .now) (e .pre)))
     (λ c. search needs)
     (λ c.
     let s = c .before .before .before .before .before .before .before in

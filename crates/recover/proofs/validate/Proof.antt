@@ -20,7 +20,7 @@ validate-spec =
     (λ c κs.
     let e = c .before .before .before .before .before .before in
     let a = e .args in
-    (e .pre .plan, laws.sources (a .p) (a .c) (a .a) (a .desk .now) (e .pre), laws.head-room (a .p) (a .c) (a .a) (a .desk .now) (e .pre)))
+    (e .pre .plan, laws.sources (a .p) (a .c) (a .a) (a .desk .now) (e .pre), laws.head-room (a .p) (a .c) (a .a) (a .desk .now) (e .pre), laws.few16 (a .p) (a .c) (a .a) (a .desk .now) (e .pre)))
     (λ c.
     let e = c .before .before .before in
     let a = e .args in

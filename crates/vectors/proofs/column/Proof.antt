@@ -23,7 +23,7 @@ column-spec =
     (λ c κs. search needs) (λ c. search needs) (λ c. search needs)
     (λ c κs. rw (c .before .before .runs-of .ensures) (search needs, omega arith, omega arith, λ k h. slots-fit _ (search needs) k h))
     (λ c. search needs) (λ c. search needs) (λ c. search needs)
-    (λ c κs. rw (c .before .before .before .before .before .before .before .runs-of .ensures) (λ k h. sources-fit _ (search needs) k h, omega arith, search needs))
+    (λ c κs. rw (c .before .before .before .before .before .before .before .runs-of .ensures) (λ k h. sources-fit _ (search needs) k h, omega arith, search needs, omega arith))
     (λ c. search needs) (λ c κs. search needs) (λ c. search needs) (λ c κs. search needs) (λ c κs. search needs)
     (λ c. search needs) (λ c κs. search needs) (λ c. search needs) (λ c κs. search needs) (λ c κs. search needs)
     (λ c. search needs) (λ c κs. search needs)

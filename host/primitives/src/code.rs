@@ -22,21 +22,32 @@ fn some_length(random: &mut Random) -> usize {
     random.within(1, most)
 }
 
-/// Random items, for every N and m, at random F.
+/// One random item encoded, over a desk of random bytes.
+fn encoding(random: &mut Random, n: usize, m: usize, f: usize) -> Result<(), String> {
+    let item = random.bytes(m * f);
+    let points: Vec<u8> = (0..m as u8).collect();
+    let want = field::runs_through(&points, &runs(&item, f), n);
+    let what = format!("encode, N {n} m {m} F {f}");
+    done(&what, library::encode(&item, n, m, f, &random.bytes(n * f)), &want)
+}
+
+/// Random items, for every N and m at random F, and for every F at random N and m: the library's loops take 32, 16, 8 or 1 bytes a turn.
 pub fn encodings(random: &mut Random) -> Checked {
     let mut cases = 0;
     for n in 1..=16 {
         for m in 1..=n {
             for _ in 0..20 {
                 let f = some_length(random);
-                let item = random.bytes(m * f);
-                let points: Vec<u8> = (0..m as u8).collect();
-                let want = field::runs_through(&points, &runs(&item, f), n);
-                let what = format!("encode, N {n} m {m} F {f}");
-                done(&what, library::encode(&item, n, m, f, &random.bytes(n * f)), &want)?;
+                encoding(random, n, m, f)?;
                 cases += 1;
             }
         }
+    }
+    for f in 1..=1024 {
+        let n = random.within(1, 16);
+        let m = random.within(1, n);
+        encoding(random, n, m, f)?;
+        cases += 1;
     }
     Ok(cases)
 }

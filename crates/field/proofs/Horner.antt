@@ -5,17 +5,17 @@ use mathlib.Core.Bool.{Bool, true, false, cond}
 use mathlib.Core.List.{List}
 use Prim.Native.Nat.{ℕ, zero, suc, _+_, _-_, _*_, _/_, _%_, _^_, _≤_, _<_}
 use native.Mathlib.Omega.{arith}
-use native.Mathlib.Nat.{pow-suc, mul-zero, mul-one, div-div-eq-div-mul, div-le-self, div-one, zero-div}
+use native.Mathlib.Nat.{pow-suc, mul-zero, mul-one, div-div-eq-div-mul, div-le-self, div-one}
 use native.Mathlib.Decide.{ℕ-discrete}
 use native.Mathlib.Numerals.{add-one}
 use borrow.Author.Tests.{ltb-true, ltb-false, lt-ltb, le-ltb}
 use lib.Bits.{bitXor, xor-comm, xor-zero-r, xor-zero-l}
-use lib.Dec.{ltb}
-use lib.ListN.{length, getD, List·getD-eq-default}
+use lib.Dec.{ltb, lit<}
+use lib.ListN.{length, getD}
 use Rattle.field.specs.Field.{xtime, mulN, mul}
 use Rattle.field.specs.Sums.{sumFrom, weighted}
 use Rattle.field.specs.Inside.{bitOf, withBit, pair, Next}
-use Rattle.field.proofs.Laws.{xtime-plus, mulN-xtime, mul-comm-f, zero-mul, one-mul, two-mul}
+use Rattle.field.proofs.Laws.{xtime-plus, mulN-xtime, mul-comm-f, zero-mul, one-mul, mul-lt, twice-mul}
 use Rattle.field.proofs.Xor.{xor-assoc, xor-swap}
 
 -- ---- one weight: its lowest bit apart
@@ -37,10 +37,6 @@ last-bit w f hw hf =
     ∙ ap₂ (mulN 8) ef ew
     ∙ ap (bitXor (f * (w % 2))) (mulN-xtime 7 f (w / 2) ∙ ap xtime (sym (mulN-more 7 f (w / 2) (omega arith)) ∙ sym (ap₂ (mulN 8) ef eq) ∙ mul-comm-f f (w / 2)))
     ∙ xor-comm (f * (w % 2)) (xtime (mul (w / 2) f))
-
-xtime-zero : xtime 0 ≡ 0
-unfolding xtime
-xtime-zero = refl
 
 halved : (w b : ℕ) → w / 2 ^ b / 2 ≡ w / 2 ^ suc b
 halved w b = div-div-eq-div-mul w (2 ^ b) 2 ∙ ap (λ (n : ℕ). w / n) (sym (pow-suc 2 b))
@@ -89,22 +85,21 @@ module _ (ws at src : List ℕ) (i : ℕ) where
     unfolding high source
     lower b = next-bit b (λ j. getD ws j 0) source hw (λ j. hs (getD at j 0 + i)) 0 (length ws) ∙ ap (bitXor (xtime (high (suc b)))) (sym (with-all b))
 
-    -- the first turn: no weight has a bit above this one
-    pub horner-first : (b r x y : ℕ) → r ≡ suc b → ((k : ℕ) → getD ws k 0 / 2 ^ r ≡ 0) → y ≡ bitXor (mul 0 x) (withBit b ws at src i 0) → y ≡ high b
+    -- before the first turn
+    pub horner-start : (x : ℕ) → mul 0 x ≡ high 8
     unfolding high
-    horner-first b r x y e z t =
-        let nothing : xtime (high (suc b)) ≡ 0 = ap xtime (none b r e z) ∙ xtime-zero in
-        t ∙ ap (λ (n : ℕ). bitXor n (withBit b ws at src i 0)) (zero-mul x ∙ sym nothing) ∙ sym (lower b)
+    horner-start x =
+        zero-mul x
+        ∙ sym (sum-zero (λ j. mul (getD ws j 0 / 2 ^ 8) (getD src (getD at j 0 + i) 0))
+        (λ j. ap (λ (n : ℕ). mul n (getD src (getD at j 0 + i) 0)) (byte (getD ws j 0) (hw j)) ∙ zero-mul (getD src (getD at j 0 + i) 0)) 0 (length ws))
       where
-        none : (b r : ℕ) → r ≡ suc b → ((k : ℕ) → getD ws k 0 / 2 ^ r ≡ 0) → high (suc b) ≡ 0
-        none b r e z =
-            sum-zero (λ j. mul (getD ws j 0 / 2 ^ suc b) (getD src (getD at j 0 + i) 0))
-            (λ j. ap (λ (n : ℕ). mul n (getD src (getD at j 0 + i) 0)) (rw (← e) (z j)) ∙ zero-mul (getD src (getD at j 0 + i) 0)) 0 (length ws)
+        byte : (n : ℕ) → n < 256 → n / 2 ^ 8 ≡ 0
+        byte n h = omega arith
 
-    -- a turn more
-    pub horner-turn : (b c x y : ℕ) → c ≡ suc b → x < 256 → x ≡ high c → y ≡ bitXor (mul 2 x) (withBit b ws at src i 0) → y ≡ high b
-    horner-turn b c x y e h p t =
-        t ∙ ap (λ (n : ℕ). bitXor n (withBit b ws at src i 0)) (two-mul x ∙ ap xtime (one-mul x h ∙ p ∙ ap high e)) ∙ sym (lower b)
+    -- a turn: x is the sum so far, y twice that, z the turn's
+    pub horner-turn : (b c x y z : ℕ) → c ≡ suc b → x ≡ high c → y ≡ xtime x → z ≡ bitXor y (withBit b ws at src i 0) → z ≡ high b
+    horner-turn b c x y z e p q t =
+        t ∙ ap (λ (n : ℕ). bitXor n (withBit b ws at src i 0)) (q ∙ ap xtime (p ∙ ap high e)) ∙ sym (lower b)
 
     -- after the turn of bit 0
     pub horner-end : (b x : ℕ) → b ≡ 0 → x ≡ high b → x ≡ weighted ws at src i
@@ -194,8 +189,8 @@ module _ (b : ℕ) (ws at src : List ℕ) (i : ℕ) where
   pub turn-start : (k g x : ℕ) → Next b ws 0 k → bitXor (mul g x) (withBit b ws at src i k) ≡ bitXor (mul g x) (withBit b ws at src i 0)
   turn-start k g x n = ap (bitXor (mul g x)) (sym (with-next 0 k n))
 
-  pub turn-end : (k g x y R : ℕ) → length ws ≤ k → bitXor (mul g x) (withBit b ws at src i k) ≡ R → y ≡ mul g x → y ≡ R
-  turn-end k g x y R h q p = p ∙ sym (xor-zero-r (mul g x)) ∙ ap (bitXor (mul g x)) (sym (with-end k h)) ∙ q
+  pub turn-end : (k y R : ℕ) → length ws ≤ k → bitXor y (withBit b ws at src i k) ≡ R → y ≡ R
+  turn-end k y R h q = sym (xor-zero-r y) ∙ ap (bitXor y) (sym (with-end k h)) ∙ q
 
 -- ---- looking for the next weight with the bit
 pub found : (b : ℕ) (ws : List ℕ) (from k : ℕ) → from ≤ k → k < length ws → ((j : ℕ) → from ≤ j → j < k → bitOf b ws j ≡ 0)
@@ -230,24 +225,6 @@ further b ws k r s h n o =
     go true e = let q : r + 1 ≤ s = o .past (omega (arith, ltb-true r (length ws) e)) in omega (arith, n .past (omega arith), o .within)
     go false e = let q : s ≡ length ws = o .none (omega (arith, ltb-false r (length ws) e)) in omega arith
 
--- a weight that has no bit from r on, and not the one below
-pub lower-top : (ws : List ℕ) (r t n : ℕ) → r ≡ suc t → Next t ws 0 n → length ws ≤ n → ((k : ℕ) → getD ws k 0 / 2 ^ r ≡ 0) → (k : ℕ) → getD ws k 0 / 2 ^ t ≡ 0
-lower-top ws r t n e x h z k =
-    let half : getD ws k 0 / 2 ^ t / 2 ≡ 0 = halved (getD ws k 0) t ∙ ap (λ (p : ℕ). getD ws k 0 / 2 ^ p) (sym e) ∙ z k in
-    let low : getD ws k 0 / 2 ^ t % 2 ≡ 0 = lowest (ltb k (length ws)) refl in
-    whole (getD ws k 0 / 2 ^ t) half low
-  where
-    whole : (y : ℕ) → y / 2 ≡ 0 → y % 2 ≡ 0 → y ≡ 0
-    whole y a b = omega arith
-
-    lowest : (q : Bool) → ltb k (length ws) ≡ q → getD ws k 0 / 2 ^ t % 2 ≡ 0
-    lowest true q = unfold bitOf in x .between k (omega arith) (omega (arith, ltb-true k (length ws) q))
-    lowest false q = ap (λ (v : ℕ). v / 2 ^ t % 2) (List·getD-eq-default ws 0 (ltb-false k (length ws) q)) ∙ ap (λ (v : ℕ). v % 2) (zero-div (2 ^ t))
-
--- a byte has 8 bits
-pub top-8 : (ws : List ℕ) → ((k : ℕ) → getD ws k 0 < 256) → (k : ℕ) → getD ws k 0 / 2 ^ 8 ≡ 0
-top-8 ws h k = let l = h k in omega arith
-
 -- ---- one pass: two sources, or one
 pub both-folded : (at src : List ℕ) (k i j x : ℕ) → j < length at
     → bitXor x (bitXor (getD src (getD at i 0 + k) 0) (getD src (getD at j 0 + k) 0)) ≡ bitXor x (pair at src k i j)
@@ -257,3 +234,7 @@ both-folded at src k i j x h = rw (lt-ltb j (length at) h)
 pub one-folded : (at src : List ℕ) (k i j x : ℕ) → length at ≤ j → bitXor x (getD src (getD at i 0 + k) 0) ≡ bitXor x (pair at src k i j)
 unfolding pair
 one-folded at src k i j x h = rw (le-ltb j (length at) h) (ap (bitXor x) (sym (xor-zero-r (getD src (getD at i 0 + k) 0))))
+
+-- ---- what is owed, doubled
+pub paid-twice : (x y : ℕ) → y ≡ mul 4 x → mul 2 y ≡ xtime (mul 4 x)
+paid-twice x y e = twice-mul 1 y (lit< tt) ∙ ap xtime (ap (mul 1) e ∙ one-mul (mul 4 x) (mul-lt 4 x))

@@ -172,10 +172,20 @@ pub one-mul : (b : ℕ) → b < 256 → mul 1 b ≡ b
 unfolding mul m
 one-mul b h = ap (mulN 8 1) (mod-eq-of-lt h) ∙ one-m b h
 
--- {02} is {01} doubled
-pub two-mul : (b : ℕ) → mul 2 b ≡ xtime (mul 1 b)
+-- twice a factor below 128, which needs no reducing
+twice-small : (a : ℕ) → a < 128 → xtime a ≡ a * 2
+unfolding xtime
+twice-small a h =
+    let e : a * 2 % 256 ≡ a * 2 = omega arith in
+    let z : 27 * (a / 128 % 2) ≡ 0 = omega arith in
+    ap₂ bitXor e z ∙ xor-zero-r (a * 2)
+
+pub twice-mul : (a b : ℕ) → a < 128 → mul (a * 2) b ≡ xtime (mul a b)
 unfolding mul m
-two-mul b = let e : 2 ≡ xtime 1 = unfold xtime in refl in ap (λ (x : ℕ). mulN 8 x (b % 256)) e ∙ m-xtime 1 (b % 256)
+twice-mul a b h =
+    let l : a % 256 ≡ a = omega arith in
+    let e : a * 2 % 256 ≡ xtime a = omega (arith, twice-small a h) in
+    ap (λ (x : ℕ). mulN 8 x (b % 256)) e ∙ m-xtime a (b % 256) ∙ ap (λ (x : ℕ). xtime (mulN 8 x (b % 256))) (sym l)
 
 pub mul-one-f : (a : ℕ) → a < 256 → mul a 1 ≡ a
 mul-one-f a h = mul-comm-f a 1 ∙ one-mul a h
@@ -202,3 +212,10 @@ pub product-end : (i s a b R : ℕ) → 8 ≤ i → bitXor s (mulN (8 - i) a b) 
 unfolding mulN
 product-end i s a b R h q =
     let n : 8 - i ≡ 0 = omega arith in sym (xor-zero-r s) ∙ sym (ap (λ (k : ℕ). bitXor s (mulN k a b)) n) ∙ q
+
+-- a doubled is {02} times a, and twice doubled {04} times a
+pub doubled-once : (a x : ℕ) → a < 256 → x ≡ xtime a → x ≡ mul 2 a
+doubled-once a x h e = e ∙ sym (twice-mul 1 a (lit< tt) ∙ ap xtime (one-mul a h))
+
+pub doubled-again : (a x y : ℕ) → a < 256 → x ≡ xtime a → y ≡ xtime x → y ≡ mul 4 a
+doubled-again a x y h e f = f ∙ ap xtime (doubled-once a x h e) ∙ sym (twice-mul 2 a (lit< tt))

@@ -8,6 +8,10 @@ use lib.Dec.{ltb}
 use lib.ListN.{length, getD}
 use Rattle.field.specs.Sums.{sumFrom}
 
+-- what a pass multiplies by
+abbrev pub Factor : ℕ → Type 0
+Factor g = (g < 5) × (g ≡ 3 → ⊥)
+
 -- bit b of weight k
 unfoldable pub bitOf : ℕ → List ℕ → ℕ → ℕ
 bitOf b ws k = getD ws k 0 / 2 ^ b % 2

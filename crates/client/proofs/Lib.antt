@@ -2,6 +2,8 @@ pub mod Reading
 pub mod Writing
 pub mod Client
 pub mod Endings
+pub mod Went
+pub mod Wrote
 pub mod Round
 pub mod Counting
 pub mod Repair
@@ -15,5 +17,7 @@ pub mod Sets
 pub mod SameStamp
 pub mod OneItem
 pub mod Validation
+pub mod Older
+pub mod Quorums
 pub mod Asks
 pub mod Instances

@@ -48,11 +48,11 @@ use Rattle.session.specs.declared.Session.{Session}
 use Rattle.session.specs.Reader.{closed}
 use Rattle.client.specs.Turns.{Turn, ReadTurn, Calls}
 use Rattle.client.specs.Sessions.{lastItem}
-use Rattle.client.specs.Repair.{Through, EachTurn}
+use Rattle.client.specs.Repair.{Through}
 use Rattle.client.specs.Held.{ReadDone}
 use Rattle.client.specs.SameStamp.{NoClash, ItemsUnlike}
 use Rattle.client.proofs.Bytes.{stamp-for, same-verifier}
-use Rattle.client.proofs.Slots.{Brings}
+use Rattle.client.proofs.Slots.{EachBrings}
 use Rattle.client.proofs.Held.{Closing, Found, run-finds}
 use Rattle.client.proofs.Sets.{lowest-so, lowest-slots, lead-slot, lead-long, lead-stamp}
 use Rattle.client.proofs.Repair.{through-slots, regenerated-value, long-regenerated}
@@ -206,10 +206,10 @@ module _ (p : Plan) (u : Session) (e : List ℕ) (a : ℕ) (c : Closing (Sure p)
 
 -- ---- a read that ends done
 module _ (p : Plan) where
-  all-sure : (s : Session) (d : List ℕ) (cs : List Turn) → Calls (ReadTurn p) s d cs → EachTurn (λ (c : Turn). Brings (Sure p) p (c .reply)) cs
+  all-sure : (s : Session) (d : List ℕ) (cs : List Turn) → Calls (ReadTurn p) s d cs → EachBrings (Sure p) p cs
   all-sure s d [] h = tt
   all-sure s d (c ∷ cs) h = (
-    λ b q. record { hashes = q .hashes; octets = octets-drop (headBytes (versionOf (c .reply))) (c .reply) (h .0 .0) },
+    λ k b l q. record { hashes = q .hashes; octets = octets-drop (headBytes (versionOf (c .reply))) (c .reply) (h .0 .0) },
     all-sure (c .took .session) (c .deskLeft) cs (h .1),
   )
 

@@ -138,7 +138,7 @@ module _ (p : Plan) (s : Session) (f d i : List ℕ) where
     unfolding closeWith
     verdict-is = ap (λ (x : Closed). x .verdict) led
 
-    stamp-is : c .stamp ≡ stampAt e (a * recordLength p)
+    pub stamp-is : c .stamp ≡ stampAt e (a * recordLength p)
     unfolding closeWith
     stamp-is = ap (λ (x : Closed). x .stamp) led
 

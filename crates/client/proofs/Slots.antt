@@ -2,7 +2,7 @@
 --   mark-none no-mark slot-own slot-other   marks of which none is set; a slot that is put, and the others
 --   none-marked first-heard record-heard    where a round opens, after a first triple, after a record
 --   accepted-passed    a record that is accepted passed 5 and 6
---   Brings reply-heard a reply that brings such a record, if any; after an accepted one
+--   Brings EachBrings reply-heard   a reply that brings such a record, if any; after an accepted one
 use Prim.Native.Nat.{ℕ, zero, suc, _+_, _*_, _≤_, _<_}
 use mathlib.Core.Path.{_≡_, refl, sym, ap, _∙_, subst}
 use mathlib.Core.Bool.{Bool, true, false, cond}
@@ -31,6 +31,8 @@ use Rattle.session.specs.Reply.{bears}
 use Rattle.session.proofs.Slots.{long-body}
 use Rattle.client.specs.Endings.{readLadder, afterReply, deskAfter}
 use Rattle.client.specs.Held.{EverySlot, Passed}
+use Rattle.client.specs.Turns.{Turn, Takes}
+use Rattle.client.specs.Repair.{EachTurn}
 use Rattle.client.proofs.Reading.{Taken, taken}
 
 -- ---- marks of which none is set
@@ -88,7 +90,11 @@ module _ (P : ℕ → List ℕ → Type 0) (p : Plan) where
 
 -- a reply whose record, where it bears one that passes, is of the kind P
 abbrev pub Brings : (ℕ → List ℕ → Type 0) → Plan → List ℕ → Type 0
-Brings P p f = bears p f ≡ true → Passed p (frameNode f) (bodyOf f) → P (frameNode f) (bodyOf f)
+Brings P p f = bears p f ≡ true → frameNode f < p .n → Passed p (frameNode f) (bodyOf f) → P (frameNode f) (bodyOf f)
+
+-- each reply of some calls that is accepted brings one
+abbrev pub EachBrings : (ℕ → List ℕ → Type 0) → Plan → List Turn → Type 0
+EachBrings P p cs = EachTurn (λ (c : Turn). Takes c → Brings P p (c .reply)) cs
 
 -- a record that is accepted passed
 pub accepted-passed : (p : Plan) (s : Session) (f d : List ℕ) (item : ℕ) → None (readLadder p s f d item) → bears p f ≡ true → Passed p (frameNode f) (bodyOf f)
@@ -110,5 +116,5 @@ reply-heard P p s f d item n before brings = go (bears p f) refl
     go : (b : Bool) → bears p f ≡ b
         → EverySlot P p (set (s .marks) (frameNode f) (record { is = cond b Record First })) (cond b (put d (frameNode f * recordLength p) (bodyOf f)) d)
     go true b =
-        record-heard P p (s .marks) d before (frameNode f) (bodyOf f) (t .node) (t .desk) (long-body p f b) (brings b (accepted-passed p s f d item n b))
+        record-heard P p (s .marks) d before (frameNode f) (bodyOf f) (t .node) (t .desk) (long-body p f b) (brings b (t .node) (accepted-passed p s f d item n b))
     go false b = first-heard P p (s .marks) d before (frameNode f)

@@ -12,6 +12,7 @@ use lib.ListN.{length}
 use Rattle.octets.specs.Bytes.{Octets}
 use Rattle.octets.proofs.Meaning.{is-alike, octets-drop}
 use Rattle.terms.specs.Ladder.{None}
+use Rattle.terms.specs.Stamp.{stampNumber}
 use Rattle.terms.specs.Terms.{recordLength, slotsOf}
 use Rattle.terms.specs.declared.Plan.{Plan}
 use Rattle.terms.specs.declared.Timestamp.{Timestamp}
@@ -54,7 +55,7 @@ trusts Byzantine = refl
 
 module _ (p : Plan) (t : ℕ) (i : List ℕ) (bytes : Octets i) (whole : length i ≡ p .m * p .f) where
   -- of the records of a write
-  module _ (u : Session) (e : List ℕ) (a : ℕ) (c : Closing (Fair p t i bytes whole) p u e a) (stamped : closed p u e .stamp ≡ stampFor p t i) where
+  module _ (u : Session) (e : List ℕ) (a : ℕ) (c : Closing (Fair p t i bytes whole) p u e a) (stamped : stampNumber (closed p u e .stamp) ≡ stampNumber (stampFor p t i)) where
     abbrev qs : List ℕ
     qs = lowest p (closed p u e)
 
@@ -76,7 +77,7 @@ module _ (p : Plan) (t : ℕ) (i : List ℕ) (bytes : Octets i) (whole : length 
         ap (crossOf p) (all-among (λ (z : ℕ). slotOf p e z ≡ slotOf p (recordsFor p t i) z) a qs slots (l .leader))
         ∙ written-cross p t i (c .plan) bytes whole i whole a (all-among (λ (z : ℕ). z < p .n) a qs (l .below) (l .leader))
 
-    set-validates : sound p (closed p u e) a e ≡ true
+    pub set-validates : sound p (closed p u e) a e ≡ true
     unfolding sound validates crossFor
     set-validates =
         ap (trusted (p .clients))
@@ -116,11 +117,11 @@ module _ (p : Plan) (t : ℕ) (i : List ℕ) (bytes : Octets i) (whole : length 
               (run-slots (Fair p t i bytes whole) p (r .ask) (r .opened) (r .opens) (r .accepted) (r .desk) (r .before) (r .calls)
               (all-fair p t i bytes whole (r .opened .session) (r .desk) (r .before) (r .calls) (unlike .1))
               (asking (s .round .stage) (r .closes .asks) (clear (readLadder p s f d (length (r .last .item))) n 14)))
-              (λ b q. record { hashes = q .hashes; octets = octets-drop (headBytes (versionOf f)) f (r .call .0); unlike = unlike .0 b });
+              (λ b l q. record { hashes = q .hashes; octets = octets-drop (headBytes (versionOf f)) f (r .call .0); unlike = unlike .0 b });
         }
 
     pub written-validates : setValid p stamp r ≡ true
-    written-validates = set-validates (afterReply p s f) (deskAfter p f d) (r .node) closing (leading .stamp-is ∙ sym (r .of) ∙ sym made)
+    written-validates = set-validates (afterReply p s f) (deskAfter p f d) (r .node) closing (ap stampNumber (leading .stamp-is ∙ sym (r .of) ∙ sym made))
 
 -- WHERE ONE READ ENDED DONE WITH A TIMESTAMP, EVERY SET OF THAT TIMESTAMP VALIDATES, in whichever read and of whichever nodes
 pub valid-for-all : (p : Plan) → p .clients ≡ Byzantine → (t : Timestamp) (item : List ℕ) → ReadDone p t item → (r : SetCloses p t)

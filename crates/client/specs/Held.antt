@@ -2,7 +2,7 @@
 -- reading: a record that is accepted goes into its node's slot; "Refusal numbers": 5, time 0; 6, a hash check fails.
 --   EverySlot          every slot that is marked record holds such a record
 --   Passed             a record that 5 and 6 do not refuse, for a node
---   SomeTurn Gave      what holds of one of some calls; the reply of a call is node k's and bears the record
+--   SomeTurn Gave      what holds of one of some calls; the reply of a call is node k's, bears the record and is accepted
 --   Held               a record that passed and that one of some calls brought
 --   ReadDone           a read that ends done: its opening, its desk, its calls, and the item that the last of them left
 --   SetCloses setValid a read whose last call closes a read round on a set that can be decoded; whether that set validates
@@ -30,7 +30,7 @@ use Rattle.session.specs.declared.opening.Opening.the-variants.{Accepted}
 use Rattle.session.specs.Opening.{OpenCall}
 use Rattle.session.specs.Reply.{bears}
 use Rattle.session.specs.Session.{done}
-use Rattle.client.specs.Turns.{Turn, ReadTurn, Calls, lastSaid}
+use Rattle.client.specs.Turns.{Turn, ReadTurn, Calls, Takes, lastSaid}
 use Rattle.client.specs.Sessions.{lastSession, lastDesk, lastItem}
 use Rattle.client.specs.Endings.{deskAfter, Closes, Candidate, size, valid}
 
@@ -47,6 +47,7 @@ SomeTurn P [] = ⊥
 SomeTurn P (t ∷ ts) = P t ⊎ SomeTurn P ts
 
 pub record Gave (p : Plan) (k : ℕ) (rec : List ℕ) (t : Turn) : Type 0 where
+  pub taken : Takes t
   pub bore : bears p (t .reply) ≡ true
   pub node : frameNode (t .reply) ≡ k
   pub is : bodyOf (t .reply) ≡ rec

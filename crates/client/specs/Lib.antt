@@ -7,3 +7,4 @@ pub mod Sessions
 pub mod Asks
 pub mod SameStamp
 pub mod Held
+pub mod Older

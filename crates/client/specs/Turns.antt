@@ -3,13 +3,14 @@
 --   Turn               a reply with what the call was lent and left
 --   ReadTurn WriteTurn EitherTurn   what one call met: a reader's contract, a writer's, either
 --   Calls              calls one after another, each on the session and desk that the one before it handed back
+--   Takes              the reply was accepted
 --   counts             the reply was accepted in a read round
 --   closedRounds       a read round closes at its N-t-th accepted reply; k were accepted in the round that is open
 --   Reports            an answer reports this number of rounds, where it reports one
 -- Assumes nothing.
 use Prim.{Unit}
 use Prim.Native.Nat.{ℕ, _+_}
-use mathlib.Core.Bool.{Bool, cond, not}
+use mathlib.Core.Bool.{Bool, false, cond, not}
 use mathlib.Core.List.{List, [], _∷_}
 use mathlib.Core.Path.{_≡_}
 use mathlib.Core.Logic.{_⊎_}
@@ -45,6 +46,9 @@ EitherTurn p s d t = WriteTurn p s d t ⊎ ReadTurn p s d t
 abbrev pub Calls : (Session → List ℕ → Turn → Type 0) → Session → List ℕ → List Turn → Type 0
 Calls C s d [] = Unit {0}
 Calls C s d (t ∷ ts) = C s d t × Calls C (t .took .session) (t .deskLeft) ts
+
+abbrev pub Takes : Turn → Type 0
+Takes t = isRefused (saidOf (t .took .answer)) ≡ false
 
 abbrev pub counts : Session → Turn → Bool
 counts s t = isAsking (s .round .stage) and not (isRefused (saidOf (t .took .answer)))

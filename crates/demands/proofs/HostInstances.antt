@@ -41,7 +41,8 @@ use Rattle.report.specs.Sent.{Commands, WriteCommands, inResponseSet, inWriteSe
 use Rattle.report.specs.Run.{Polled, unpolled, messageOf, polls, polledOver, EachTells, AllFull, Apart, AllApart}
 use Rattle.report.specs.WriteRun.{noneOf, untimed, timedOver, EachWrites}
 use Rattle.report.specs.Figure2.{clocks}
-use Rattle.report.specs.NewTime.{numberOf, NearHonest}
+use Rattle.rounds.specs.Numbers.{numberOf}
+use Rattle.report.specs.NewTime.{NearHonest}
 use Rattle.client.specs.Sessions.{lastSession, lastDesk}
 use Rattle.packing.specs.PlanBytes.{memberOf, clientsOf, planBytes, planShaped, planAt, planOf}
 use Rattle.packing.specs.SessionBytes.{sessionLength, boundBytes, timesBytes, markBytes, roundBytes, askBytes, heardBytes, sessionBytes, operationOf, stageOf, heardOf, boundShaped, boundOf, timesAt, marksShaped, marksOf, sessionShaped, roundAt, sessionAt, sessionOf}

@@ -31,7 +31,8 @@ use Rattle.report.specs.WriteRun.{untimed, EachWrites, timedOver}
 use Rattle.report.specs.Triple.{In}
 use Rattle.report.specs.Figure2.{Clock, clocks}
 use Rattle.report.specs.Figure3.{READ}
-use Rattle.report.specs.NewTime.{numberOf, ToWrite, NearHonest, AnswersAfter}
+use Rattle.rounds.specs.Numbers.{numberOf}
+use Rattle.report.specs.NewTime.{ToWrite, NearHonest, AnswersAfter}
 use Rattle.report.specs.Ours.{family}
 use Rattle.report.specs.Sent.{Commands, WriteCommands, inResponseSet, inWriteSet, Owes}
 use Rattle.packing.specs.PlanBytes.{planOf}

@@ -19,7 +19,8 @@ use Rattle.clock.proofs.Kth as kth
 use Rattle.report.specs.Triple.{In}
 use Rattle.report.specs.Figure2.{Clock}
 use Rattle.report.specs.Ours.{family, reported}
-use Rattle.report.specs.NewTime.{numberOf, ToWrite, newTimeOf, timeReplies, ToSpent, spentReplies, NearHonest, AnswersAfter}
+use Rattle.rounds.specs.Numbers.{numberOf}
+use Rattle.report.specs.NewTime.{ToWrite, newTimeOf, timeReplies, ToSpent, spentReplies, NearHonest, AnswersAfter}
 use Rattle.report.proofs.NewTime as new-time
 
 -- ---- the rule, for any replies and any k of them

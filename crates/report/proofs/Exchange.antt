@@ -56,12 +56,12 @@ use Rattle.book.proofs.Laid.{Sized}
 use Rattle.book.proofs.Laws as books
 use Rattle.node.specs.declared.Answer.{Answer}
 use Rattle.node.specs.declared.Answer.the-variants.{Refused, Replied}
-use Rattle.node.specs.Node.{timeFails, hashFails, nodeLadder, replied, ServedOutcome, Reply, replyTo, sends, answered, NodeCall}
+use Rattle.node.specs.Node.{timeFails, hashFails, nodeLadder, replyTo, NodeCall}
 use Rattle.store.specs.Deliver.{Among}
 use Rattle.store.specs.History.{AllPass}
-use Rattle.store.proofs.Order as order
 use Rattle.store.proofs.Node as calls
-use Rattle.store.proofs.Times.{cut-off}
+use Rattle.store.proofs.Replies.{cut-off, replied-frame}
+use Rattle.store.proofs.Latest.{last-of, those-of, sized-of}
 use Rattle.client.specs.Held.{Passed}
 use Rattle.report.specs.Together.{NoneOf}
 
@@ -297,41 +297,6 @@ not-refused-there p f b y at a b₂ y₂ c r e =
     quiet-given (4 ∷ 5 ∷ 6 ∷ []) (nodeLadder p f b y) (quiet-node p f b y at) (refusalNumber r)
     (calls.refused-is p f b y r b₂ y₂ (subst (λ (x : Answer). NodeCall p f b y x b₂ y₂) e c) .0)
 
--- ---- records of a book
-last-of : (rs : List (List ℕ)) → (lastOf rs ≡ []) ⊎ Among (lastOf rs) rs
-unfolding lastOf
-last-of [] = inl refl
-last-of (x ∷ []) = inr (order.among-first x x [] refl)
-last-of (x ∷ y ∷ rs) = go (last-of (y ∷ rs))
-  where
-    go : (lastOf (y ∷ rs) ≡ []) ⊎ Among (lastOf (y ∷ rs)) (y ∷ rs) → (lastOf (y ∷ rs) ≡ []) ⊎ Among (lastOf (y ∷ rs)) (x ∷ y ∷ rs)
-    go (inl e) = inl e
-    go (inr m) = inr (order.among-later x (lastOf (y ∷ rs)) (y ∷ rs) m)
-
-those-of : (t : List ℕ → Bool) (z : List ℕ) (rs : List (List ℕ)) → Among z (those t rs) → Among z rs × (t z ≡ true)
-unfolding those
-those-of t z [] h = absurd (order.among-none z h)
-those-of t z (x ∷ rs) h = go (t x) refl h (those-of t z rs)
-  where
-    later : Among z rs × (t z ≡ true) → Among z (x ∷ rs) × (t z ≡ true)
-    later q = (order.among-later x z rs (q .0), q .1)
-
-    here : t x ≡ true → (x ≡ z) ⊎ Among z (those t rs) → (Among z (those t rs) → Among z rs × (t z ≡ true)) → Among z (x ∷ rs) × (t z ≡ true)
-    here e (inl q) more = (order.among-first x z rs q, ap t (sym q) ∙ e)
-    here e (inr q) more = later (more q)
-
-    go : (u : Bool) → t x ≡ u → Among z (cond u (x ∷ those t rs) (those t rs)) → (Among z (those t rs) → Among z rs × (t z ≡ true)) → Among z (x ∷ rs) × (t z ≡ true)
-    go true e k more = here e (order.among-case x z (those t rs) k) more
-    go false e k more = later (more k)
-
-sized-of : (r : ℕ) (rs : List (List ℕ)) → Sized r rs → (z : List ℕ) → Among z rs → length z ≡ r
-sized-of r [] q z h = absurd (order.among-none z h)
-sized-of r (x ∷ rs) q z h = go (order.among-case x z rs h) (sized-of r rs (q .1) z)
-  where
-    go : (x ≡ z) ⊎ Among z rs → (Among z rs → length z ≡ r) → length z ≡ r
-    go (inl e) more = ap length (sym e) ∙ q .0
-    go (inr m) more = more m
-
 -- THE REPLY TO IT PASSES 4, 5, 6, 10 AND 12 AT THE SESSION THAT ASKED
 module _ (p : Plan) (s : Session) (S : ℕ) (d f : List ℕ) (w : Written p s S d f) (ready : Sendable p s d)
     (b y : List ℕ) (good : goodBook p b ≡ true) (node : nodeOf b ≡ S) (all : AllPass p b)
@@ -345,24 +310,13 @@ module _ (p : Plan) (s : Session) (S : ℕ) (d f : List ℕ) (w : Written p s S 
   sized-rs : Sized (recordLength p) rs
   sized-rs = laid.sized b (recordLength p) (countOf b) (bookHead 1) (books.good-is p b good .fill .inside)
 
-  -- the reply that was written
-  replied-frame : take n y₂ ≡ frameOf (replying (headerIn f) (replyTo (kindOf f) (bodyOf f) rs .kind)) (replyTo (kindOf f) (bodyOf f) rs .body)
-  unfolding answered sends
-  replied-frame =
-      let t = calls.replied-is p f b y n b₂ y₂ c .1 in
-      let r : Reply = replyTo (kindOf f) (bodyOf f) rs in
-      let e : replied n ≡ replied (framed (versionOf f) (length (r .body))) = ap (λ (o : ServedOutcome). o .answer) t in
-      let l : n ≡ framed (versionOf f) (length (r .body)) = cc in
-      cut-off (frameOf (replying (headerIn f) (r .kind)) (r .body)) y y₂ n (ap (λ (o : ServedOutcome). o .reply) t)
-      (l ∙ sym (built.length-frame (replying (headerIn f) (r .kind)) (r .body)))
-
   reply-is : (kind : ℕ) (body : List ℕ) → kind < 256 → f ≡ frame kind S ask body → take n y₂ ≡ frame (replyTo kind body rs .kind) S ask (replyTo kind body rs .body)
   reply-is kind body k e =
       let S-low : S < 256 = omega (arith, plan-is p (w .plan) .n-high, w .low) in
       let h : headerIn f ≡ headerOf kind S ask =
       ap (λ (x : List ℕ). headerIn x) e ∙ built.header-frame (headerOf kind S ask) body (omega arith) k S-low (w .ask) in
       let x : bodyOf f ≡ body = ap (λ (x : List ℕ). bodyOf x) e ∙ built.body-frame (headerOf kind S ask) body in
-      replied-frame ∙ (λ i. frameOf (replying (h i) (replyTo (h i .kind) (x i) rs .kind)) (replyTo (h i .kind) (x i) rs .body))
+      replied-frame p f b y n b₂ y₂ c ∙ (λ i. frameOf (replying (h i) (replyTo (h i .kind) (x i) rs .kind)) (replyTo (h i .kind) (x i) rs .body))
 
   passes-here : (z : List ℕ) → Among z rs → Passed p S z
   passes-here z m = let q = all z m in record { timed = q .0; hashes = ap (λ (k : ℕ). hashesOk p k z) (sym node) ∙ q .1 }

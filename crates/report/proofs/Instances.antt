@@ -8,7 +8,8 @@ use mathlib.Core.Bool.{true, cond}
 use mathlib.Core.List.{List, [], _∷_}
 use mathlib.Core.Logic.{inl, inr}
 use native.Mathlib.Omega.{arith}
-use lib.Dec.{ltb}
+use borrow.Author.Tests.{eq-eqb}
+use lib.Dec.{ltb, eqb}
 use lib.ListN.{length, replicate, take}
 use Rattle.octets.specs.Bytes.{part, put, over, num, numFrom, be, beOnto, alike}
 use Rattle.sha256.specs.Sha256.{sha256, after, compressOf, addedOf, roundsOf, roundOf, T1, T2, scheduleOf, words, padding, bigEndian, K}
@@ -58,7 +59,8 @@ use Rattle.client.specs.Turns as turns
 use Rattle.terms.proofs.Small.{small, small-octets}
 use Rattle.report.specs.Run.{received, Polled, unpolled, messageOf, polls, polledOver, EachTells, AllFull, Apart, AllApart}
 use Rattle.report.specs.WriteRun.{noneOf, untimed, clockOf, timing, EachWrites}
-use Rattle.report.specs.NewTime.{numberOf, ToWrite, newTimeOf, timeReplies, AnswersAfter}
+use Rattle.rounds.specs.Numbers.{numberOf}
+use Rattle.report.specs.NewTime.{ToWrite, newTimeOf, timeReplies, AnswersAfter}
 use Rattle.report.proofs.NewTime.{passes-what-is-complete}
 use Rattle.report.proofs.Node.{write-acts, fresh-run}
 use Rattle.report.proofs.Run.{opened-read}
@@ -68,7 +70,7 @@ use Rattle.report.specs.Acts.{Executes, Added}
 use Rattle.report.specs.Figure1 as figure1
 use Rattle.report.specs.Figure3.{VALIDATE, in-time, has, with-it, receives, DO-READ, READ, ResponseSet}
 
-abbrev plan : Plan
+abbrev pub plan : Plan
 plan = record { n = 1; t = 0; b = 0; q = 1; m = 1; f = 1; member = Repairable; clients = Byzantine; w = 1 }
 
 abbrev ask : Ask
@@ -159,7 +161,7 @@ opens-to-write : OpenCall Write plan ask opened-to-write
 unfolding opened-to-write openWith first planOk countsOk limitsOk columnOf all
 opens-to-write = record { is = refl }
 
-time-reply : List ℕ
+pub time-reply : List ℕ
 time-reply = frame timeReplyKind 0 5 (be 8 1)
 
 time-small : small time-reply ≡ true
@@ -199,14 +201,14 @@ storing-is = refl
 pub book : List ℕ
 book = over (laidOut plan 0 []) (replicate (bookHead 1 + 73) 0)
 
-book-small : small book ≡ true
+pub book-small : small book ≡ true
 unfolding book small over laidAs header joined recordLength be beOnto
 book-small = refl
 
 pub request : List ℕ
 request = frame writeRequestKind 0 5 rec
 
-request-small : small request ≡ true
+pub request-small : small request ≡ true
 unfolding request rec small be beOnto
 request-small = refl
 
@@ -217,7 +219,7 @@ replied-is : taken .answer ≡ replied 55
 unfolding taken request book rec served first planOk countsOk limitsOk columnOf all recordLength node.bookReplyOk goodBook headed filled rising timed recordsFrom goodRequest goodFrame suits shaped forParty oneOf bodyFits timeFails hashFails otherHeld noRoom some fragmentHash prefixOf hashesOk timeZero answered sends replyTo over laidAs header joined num numFrom part be beOnto alike sha256 after compressOf addedOf roundsOf roundOf T1 T2 scheduleOf words padding bigEndian K
 replied-is = refl
 
-node-met : NodeCall plan request book (replicate 88 0) (Replied 55) (taken .book) (taken .reply)
+pub node-met : NodeCall plan request book (replicate 88 0) (Replied 55) (taken .book) (taken .reply)
 unfolding taken
 node-met = record { is = λ j. node.servedOutcome (sym replied-is j) (taken .book) (taken .reply) }
 
@@ -244,7 +246,7 @@ added =
     }
 
 -- the book is a fresh one
-made-so : FreshCall plan 0 (replicate (bookHead 1 + 73) 0) Fresh book
+pub made-so : FreshCall plan 0 (replicate (bookHead 1 + 73) 0) Fresh book
 unfolding book freshened first planOk countsOk limitsOk columnOf all
 made-so = record { is = refl }
 
@@ -273,17 +275,17 @@ node-so =
     (small-octets request request-small, (small-octets request request-small, tt))
 
 -- ---- the new time: node 0, which executed that request, of time 1, tells its time to a write, which comes to its write round
-time-request : List ℕ
+pub time-request : List ℕ
 time-request = frame timeRequestKind 0 5 []
 
 pub asked : node.ServedOutcome
 asked = served plan time-request (taken .book) (replicate 88 0)
 
-asked-is : (asked .answer ≡ replied 23) × (take 23 (asked .reply) ≡ time-reply) × (small (taken .book) ≡ true)
+pub asked-is : (asked .answer ≡ replied 23) × (take 23 (asked .reply) ≡ time-reply) × (small (taken .book) ≡ true)
 unfolding asked time-request time-reply small taken request book rec served first planOk countsOk limitsOk columnOf all recordLength node.bookReplyOk goodBook headed filled rising above timed recordsFrom goodRequest goodFrame suits shaped forParty oneOf bodyFits timeFails hashFails otherHeld noRoom some fragmentHash prefixOf hashesOk timeZero answered sends replyTo node.bookAfter insertRecord lastOf over laidAs header joined num numFrom part be beOnto alike sha256 after compressOf addedOf roundsOf roundOf T1 T2 scheduleOf words padding bigEndian K
 asked-is = (refl, refl, refl)
 
-asked-met : NodeCall plan time-request (taken .book) (replicate 88 0) (Replied 23) (asked .book) (asked .reply)
+pub asked-met : NodeCall plan time-request (taken .book) (replicate 88 0) (Replied 23) (asked .book) (asked .reply)
 unfolding asked
 asked-met = record { is = λ j. node.servedOutcome (sym (asked-is .0) j) (asked .book) (asked .reply) }
 
@@ -291,11 +293,22 @@ is-time : kindOf time-request ≡ 1
 unfolding time-request num numFrom part be beOnto
 is-time = refl
 
+pub is-write : eqb (kindOf request) writeRequestKind ≡ true
+is-write = eq-eqb (kindOf request) 3 kind-is
+
+pub time-kind : kindOf time-reply ≡ 2
+unfolding time-reply num numFrom part be beOnto
+time-kind = refl
+
+pub asking-small : small time-request ≡ true
+unfolding time-request small be beOnto
+asking-small = refl
+
 of-node-0 : nodeOf book ≡ 0
 unfolding book over laidAs header joined num numFrom part be beOnto
 of-node-0 = refl
 
-of-time-1 : (time (bodyOf request) ≡ 1) × (clockOf time-reply ≡ record { S = 0; Time = 1 })
+pub of-time-1 : (time (bodyOf request) ≡ 1) × (clockOf time-reply ≡ record { S = 0; Time = 1 })
 unfolding request time-reply rec num numFrom part be beOnto
 of-time-1 = (refl, refl)
 
@@ -342,7 +355,7 @@ to-write =
     }
 
 -- the one time reply that it counted
-replies-are : timeReplies to-write ≡ record { S = 0; Time = 1 } ∷ []
+pub replies-are : timeReplies to-write ≡ record { S = 0; Time = 1 } ∷ []
 unfolding to-write write-call opened-to-write timing noneOf in-set GATHERED time-reply desk planOk countsOk limitsOk columnOf all recordLength lengthsOk inRange standingRules roundRules openRules every heardCount slotsFit slotFits goodReply goodFrame suits shaped forParty oneOf bodyFits awaited askIn awaitsIn num numFrom part be beOnto
 replies-are = refl
 

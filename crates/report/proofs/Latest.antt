@@ -16,13 +16,14 @@ use Rattle.report.specs.Triple.{Triple, suchThat, each, MAX}
 use Rattle.report.specs.Figure1.{initial, stamps, RECEIVE-TIME-REQUEST, Latest, RECEIVE-READ-LATEST, PreHistory, RECEIVE-READ-PREVIOUS}
 use Rattle.report.specs.Ours.{tripleOf}
 use Rattle.store.proofs.Order.{among-first}
-use Rattle.store.proofs.Times as times
+use Rattle.store.proofs.Latest.{above-those}
+use Rattle.store.proofs.Latest as latest
 use Rattle.report.proofs.Lists.{larger-low, larger-high}
 use Rattle.report.proofs.Triples.{stamp-none, none-is, stamp-low}
 
 -- ---- a rising list: its last is its greatest
 last-high : (x : List ℕ) (rs : List (List ℕ)) → above (stamp x) rs ≡ true → stamp x ≤ stamp (lastOf (x ∷ rs))
-last-high x rs a = times.last-high x (x ∷ rs) (unfold rising in a) (among-first x x rs refl) .0
+last-high x rs a = latest.last-high x (x ∷ rs) (unfold rising in a) (among-first x x rs refl) .0
 
 module _ (p : Plan) where
   abbrev triples : List (List ℕ) → List Triple
@@ -62,27 +63,6 @@ module _ (p : Plan) where
   history-is : (rs : List (List ℕ)) → initial ∷ triples rs ≡ triples ([] ∷ rs)
   unfolding each
   history-is rs = ap (λ (X : Triple). X ∷ triples rs) (sym (none-is p))
-
-  -- ---- a part of a rising list is rising
-  above-less : (low high : ℕ) (rs : List (List ℕ)) → low ≤ high → above high rs ≡ true → above low rs ≡ true
-  unfolding above
-  above-less low high [] h a = refl
-  above-less low high (x ∷ rs) h a =
-      let q = both (ltb high (stamp x)) (above (stamp x) rs) a in
-      let l : high < stamp x = ltb-true _ _ (q .0) in
-      rw (lt-ltb low (stamp x) (omega arith)) (q .1)
-
-  above-those : (t : List ℕ → Bool) (low : ℕ) (rs : List (List ℕ)) → above low rs ≡ true → above low (records.those t rs) ≡ true
-  unfolding above records.those
-  above-those t low [] a = refl
-  above-those t low (x ∷ rs) a = go (t x) (above-those t (stamp x) rs (q .1))
-    where
-      q : (ltb low (stamp x) ≡ true) × (above (stamp x) rs ≡ true)
-      q = both (ltb low (stamp x)) (above (stamp x) rs) a
-
-      go : (b : Bool) → above (stamp x) (records.those t rs) ≡ true → above low (cond b (x ∷ records.those t rs) (records.those t rs)) ≡ true
-      go true ih = rw (q .0) ih
-      go false ih = let l : low < stamp x = ltb-true _ _ (q .0) in above-less low (stamp x) (records.those t rs) (omega arith) ih
 
   below-is : (s : ℕ) (rs : List (List ℕ)) → suchThat (λ (X : Triple). ltb (X .ts) s) (triples rs) ≡ triples (records.those (λ (x : List ℕ). ltb (stamp x) s) rs)
   unfolding each suchThat records.those

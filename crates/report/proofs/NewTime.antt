@@ -36,7 +36,8 @@ use Rattle.report.specs.Triple.{MAX, In}
 use Rattle.report.specs.Figure2.{enough, in-set, GATHERED, Clock, clocks, Times, READ-TIMESTAMP}
 use Rattle.report.specs.Ours.{family, familyWith, reported}
 use Rattle.report.specs.WriteRun.{Responses, untimed, isResponse, clockOf, timing, timedOver, Wrote, EachWrites}
-use Rattle.report.specs.NewTime.{numberOf, ToWrite, newTimeOf, timeReplies, ToSpent, spentReplies, NearHonest, AnswersAfter}
+use Rattle.rounds.specs.Numbers.{numberOf}
+use Rattle.report.specs.NewTime.{ToWrite, newTimeOf, timeReplies, ToSpent, spentReplies, NearHonest, AnswersAfter}
 use Rattle.report.proofs.Lists.{length-each, larger-low, larger-high}
 use Rattle.report.proofs.Gathers.{off}
 use Rattle.report.proofs.Votes.{nodeOf, Apart, some-honest, enough-reach}

@@ -39,7 +39,8 @@ use Rattle.session.specs.Reply.{awaited, isHeard}
 use Rattle.recover.specs.Records.{crossFor, stampFor, recordsFor}
 use Rattle.session.specs.Writer.{timedOf, kthReply, timeEnd, timeTurn, acceptedWrite, writeReply, WriteReplyCall}
 use Rattle.client.specs.Turns.{Turn}
-use Rattle.report.specs.NewTime.{numberOf, ToWrite, newTimeOf, timeReplies, ToSpent, spentReplies, NearHonest}
+use Rattle.rounds.specs.Numbers.{numberOf}
+use Rattle.report.specs.NewTime.{ToWrite, newTimeOf, timeReplies, ToSpent, spentReplies, NearHonest}
 use Rattle.report.proofs.NewTime.{near-an-honest-reply, spent-by-an-honest-reply}
 
 abbrev plan : Plan

@@ -11,7 +11,7 @@ use borrow.Author.Tests.{eqb-false, not-false, leb-true}
 use lib.Dec.{eqb, leb, ltb}
 use lib.ListN.{length, length-append}
 use Rattle.octets.specs.Bytes.{part, put, num, be, alike, Octets}
-use Rattle.octets.proofs.Laws.{length-be, part-part, part-left, part-first, part-all, slot-room}
+use Rattle.octets.proofs.Laws.{length-be, part-part, part-left, slot-room}
 use Rattle.octets.proofs.Meaning.{be-part, octets-drop, octets-put, alike-is, is-alike}
 use Rattle.sha256.specs.Sha256.{sha256}
 use Rattle.sha256.proofs.Laws.{sha256-length}
@@ -63,7 +63,8 @@ use Rattle.client.specs.Endings.{readLadder, writeLadder, afterReply, deskAfter
 use Rattle.client.specs.Held.{Passed}
 use Rattle.client.specs.Repair.{EachTurn}
 use Rattle.client.proofs.Held.{Closing, Mended, run-mended}
-use Rattle.client.proofs.Slots.{Brings}
+use Rattle.client.proofs.Bytes.{written-stamp}
+use Rattle.client.proofs.Slots.{EachBrings}
 use Rattle.client.proofs.Repair.{head-is, fragment-held}
 use Rattle.client.specs.SameStamp.{NoClash}
 use Rattle.client.proofs.Sets.{lead-slot, lead-number}
@@ -78,15 +79,16 @@ use Rattle.client.proofs.Round.Order.{length-after}
 use Rattle.report.proofs.Exchange.{Sendable}
 
 -- ---- a write
--- the desk is the N records that our writer made of an item at a time
-record Wrote (p : Plan) (s : Session) (d : List ℕ) : Type 0 where
-  at : ℕ
-  item : List ℕ
-  whole : length item ≡ p .m * p .f
-  low : 1 ≤ at
-  high : at < 256 ^ 8
-  desk : d ≡ recordsFor p at item
-  stamped : s .stamp ≡ stampFor p at item
+-- the desk is the N records that our writer made of an item at a time; P holds of each item that is lent
+pub record Wrote (P : List ℕ → Type 0) (p : Plan) (s : Session) (d : List ℕ) : Type 0 where
+  pub at : ℕ
+  pub item : List ℕ
+  pub lent : P item
+  pub whole : length item ≡ p .m * p .f
+  pub low : 1 ≤ at
+  pub high : at < 256 ^ 8
+  pub desk : d ≡ recordsFor p at item
+  pub stamped : s .stamp ≡ stampFor p at item
 
 -- so is every slot a record of the timestamp being written, whose hashes hold
 module _ (p : Plan) (t : ℕ) (i : List ℕ) (whole : length i ≡ p .m * p .f) (low : 1 ≤ t) (high : t < 256 ^ 8) (k : ℕ) (h : k < p .n) where
@@ -103,25 +105,19 @@ module _ (p : Plan) (t : ℕ) (i : List ℕ) (whole : length i ≡ p .m * p .f) 
   slot-time =
       ap num (ap (λ (l : List ℕ). part l 0 8) (record-is p t i whole k h) ∙ part-left made _ 0 8 (omega (arith, long-made))) ∙ time-made t (crossFor p i) high
 
-  slot-stamp : stamp rec ≡ stampNumber (stampFor p t i)
-  unfolding stampFor
-  slot-stamp =
-      ap num (ap (λ (l : List ℕ). part l 0 40) (record-is p t i whole k h) ∙ part-first made _ 40 long-made ∙ sym (part-all made) ∙ ap (part made 0) long-made)
-      ∙ sym (stamp-at-number made 0 (omega (arith, long-made)))
-
   made-fine : Passed p k rec × (stamp rec ≡ stampNumber (stampFor p t i))
-  made-fine = (record { timed = omega (arith, slot-time); hashes = record-passes p t i whole k h }, slot-stamp)
+  made-fine = (record { timed = omega (arith, slot-time); hashes = record-passes p t i whole k h }, written-stamp p t i whole k h)
 
 -- what holds of what a call left: the operation stays, and in the write round the desk is written
-abbrev Keeps : Plan → Session → List ℕ → Type 0
-Keeps p s d = (isRead (s .operation) ≡ false) × (isStoring (s .round .stage) ≡ true → Wrote p s d)
+abbrev Keeps : (List ℕ → Type 0) → Plan → Session → List ℕ → Type 0
+Keeps P p s d = (isRead (s .operation) ≡ false) × (isStoring (s .round .stage) ≡ true → Wrote P p s d)
 
-module _ (p : Plan) (s : Session) (f d i : List ℕ) (k : Keeps p s d) where
+module _ (P : List ℕ → Type 0) (p : Plan) (s : Session) (f d i : List ℕ) (lent : P i) (k : Keeps P p s d) where
   abbrev Good : Leaves → Type 0
-  Good o = WideTimes (o .session .times) → Keeps p (o .session) (o .desk)
+  Good o = WideTimes (o .session .times) → Keeps P p (o .session) (o .desk)
 
   -- a session that ended, or is in its time round
-  away : (u : Session) (e : List ℕ) → isRead (u .operation) ≡ false → isStoring (u .round .stage) ≡ false → Keeps p u e
+  away : (u : Session) (e : List ℕ) → isRead (u .operation) ≡ false → isStoring (u .round .stage) ≡ false → Keeps P p u e
   away u e r x = (r, λ y. absurd (clash (sym y ∙ x)))
 
   in-write : isStoring (s .round .stage) ≡ true → Good (writeTurn p (markedOf s (frameNode f) Record) d)
@@ -131,7 +127,7 @@ module _ (p : Plan) (s : Session) (f d i : List ℕ) (k : Keeps p s d) where
       go : (t : Bool) → Good (cond t (leaves stillOpen (markedOf s (frameNode f) Record) d) (leaves (done (s .stamp) 0) (endedOf (markedOf s (frameNode f) Record)) d))
       go true c =
           let w = k .1 x in
-          (k .0, λ y. record { at = w .at; item = w .item; whole = w .whole; low = w .low; high = w .high; desk = w .desk; stamped = w .stamped })
+          (k .0, λ y. record { at = w .at; item = w .item; lent = w .lent; whole = w .whole; low = w .low; high = w .high; desk = w .desk; stamped = w .stamped })
       go false c = away (endedOf (markedOf s (frameNode f) Record)) d (k .0) refl
 
   -- the write round opens: the time has 8 bytes, since the one that it is above is not the last
@@ -145,6 +141,7 @@ module _ (p : Plan) (s : Session) (f d i : List ℕ) (k : Keeps p s d) where
         record {
           at = newTime (kthReply p u);
           item = i;
+          lent = lent;
           whole = l;
           low = omega arith;
           high = strict (newTime (kthReply p u)) (256 ^ 8) (omega (arith, reply-wide p u c)) (λ z. n (omega arith));
@@ -178,20 +175,35 @@ module _ (p : Plan) (s : Session) (f d i : List ℕ) (k : Keeps p s d) where
       subst Good (sym (writing.one-ladder p s f d i))
       (by-ladder Good (writeLadder p s f d (length i)) (λ (j : ℕ). leaves (refused j) s d) (acceptedWrite p s f d i) (λ j g c. k) taken)
 
-run-writes : (p : Plan) (s : Session) (d : List ℕ) (cs : List Turn) → Kept p s d → Keeps p s d → Calls (WriteTurn p) s d cs → Keeps p (lastSession s cs) (lastDesk d cs)
-run-writes p s d [] g k h = k
-run-writes p s d (c ∷ cs) g k h =
+run-writes : (P : List ℕ → Type 0) (p : Plan) (s : Session) (d : List ℕ) (cs : List Turn) → Kept p s d → Keeps P p s d → Calls (WriteTurn p) s d cs → EachTurn (λ (c : Turn). P (c .item)) cs
+    → Keeps P p (lastSession s cs) (lastDesk d cs)
+run-writes P p s d [] g k h l = k
+run-writes P p s d (c ∷ cs) g k h l =
     let v = write-kept p s (c .reply) d (c .item) (h .0 .0) g (c .took) (c .deskLeft) (h .0 .1) in
-    run-writes p (c .took .session) (c .deskLeft) cs v
-    (subst (Good p s (c .reply) d (c .item) k) (sym (h .0 .1 .is)) (call-writes p s (c .reply) d (c .item) k) (v .clock)) (h .1)
+    run-writes P p (c .took .session) (c .deskLeft) cs v
+    (subst (Good P p s (c .reply) d (c .item) (l .0) k) (sym (h .0 .1 .is)) (call-writes P p s (c .reply) d (c .item) (l .0) k) (v .clock)) (h .1) (l .1)
+
+opened-writes : (P : List ℕ → Type 0) (p : Plan) (a : Ask) (r : Opened) (d : List ℕ) (cs : List Turn) → OpenCall Write p a r → r .answer ≡ Accepted
+    → length d ≡ p .n * recordLength p → Calls (WriteTurn p) (r .session) d cs → EachTurn (λ (c : Turn). P (c .item)) cs → Keeps P p (lastSession (r .session) cs) (lastDesk d cs)
+opened-writes P p a r d cs opens e ld h l =
+    let start : Keeps P p (r .session) d = subst (λ (x : Session). Keeps P p x d) (sym (accepted-session Write p a r opens e)) (refl, λ y. absurd (clash (sym y))) in
+    run-writes P p (r .session) d cs (opened-kept Write p a r opens e d ld) start h l
+
+-- IN A WRITE ROUND THE DESK IS THE N RECORDS OF AN ITEM THAT WAS LENT, at the time of the timestamp being written
+pub write-made : (P : List ℕ → Type 0) (p : Plan) (a : Ask) (r : Opened) (d : List ℕ) (cs : List Turn) → OpenCall Write p a r → r .answer ≡ Accepted
+    → length d ≡ p .n * recordLength p → Calls (WriteTurn p) (r .session) d cs → EachTurn (λ (c : Turn). P (c .item)) cs
+    → isStoring (lastSession (r .session) cs .round .stage) ≡ true → Wrote P p (lastSession (r .session) cs) (lastDesk d cs)
+write-made P p a r d cs opens e ld h l = opened-writes P p a r d cs opens e ld h l .1
+
+any-item : (cs : List Turn) → EachTurn (λ (c : Turn). Unit {0}) cs
+any-item [] = tt
+any-item (c ∷ cs) = (tt, any-item cs)
 
 -- FROM AN ACCEPTED OPENING, after any calls of a write
 pub write-sendable : (p : Plan) (a : Ask) (r : Opened) (d : List ℕ) (cs : List Turn) → OpenCall Write p a r → r .answer ≡ Accepted
     → length d ≡ p .n * recordLength p → Calls (WriteTurn p) (r .session) d cs → Sendable p (lastSession (r .session) cs) (lastDesk d cs)
 write-sendable p a r d cs opens e ld h =
-    let z = accepted-session Write p a r opens e in
-    let start : Keeps p (r .session) d = subst (λ (x : Session). Keeps p x d) (sym z) (refl, λ y. absurd (clash (sym y))) in
-    let k = run-writes p (r .session) d cs (opened-kept Write p a r opens e d ld) start h in
+    let k = opened-writes (λ (i : List ℕ). Unit {0}) p a r d cs opens e ld h (any-item cs) in
     record {
       bound = λ y x u b. absurd (clash (sym x ∙ k .0));
       slots = λ x j l.
@@ -388,9 +400,9 @@ module _ (p : Plan) (s : Session) (d : List ℕ) (m : Mended (Passed p) p s d) (
         ap num (head-so (Passed p) p s d m k h 0 40 (omega arith)) ∙ sym (lead-number (Passed p) p (m .session) (m .desk) (m .node) (m .closing)) ∙ ap stampNumber (sym (m .stamped)),
       )
 
-all-pass : (p : Plan) (cs : List Turn) → EachTurn (λ (e : Turn). Brings (Passed p) p (e .reply)) cs
+all-pass : (p : Plan) (cs : List Turn) → EachBrings (Passed p) p cs
 all-pass p [] = tt
-all-pass p (e ∷ cs) = ((λ b q. q), all-pass p cs)
+all-pass p (e ∷ cs) = ((λ t b l q. q), all-pass p cs)
 
 -- FROM AN ACCEPTED OPENING, after any calls of a read that has not ended
 pub read-sendable : (p : Plan) (a : Ask) (r : Opened) (d : List ℕ) (cs : List Turn) → OpenCall Read p a r → r .answer ≡ Accepted → Octets d
@@ -411,7 +423,7 @@ unfolding crossFor
 written-fits p a r d cs opens e h t i bytes whole stamped unlike crash stores =
     let F : ℕ → List ℕ → Type 0 = Fair p t i bytes whole in
     let m = run-mended F p a r opens e d cs h (all-fair p t i bytes whole (r .session) d cs h unlike) stores in
-    let z : closed p (m .session) (m .desk) .stamp ≡ stampFor p t i = sym (m .stamped) ∙ stamped in
+    let z : stampNumber (closed p (m .session) (m .desk) .stamp) ≡ stampNumber (stampFor p t i) = ap stampNumber (sym (m .stamped) ∙ stamped) in
     let n16 = plan-is p (m .closing .plan) .n-high in
     from-lead F p (lastSession (r .session) cs) (lastDesk d cs) m (fragment (p .m) (p .f) i)
     (λ k l. pieces p t i bytes whole (m .session) (m .desk) (m .node) (m .closing) z k (omega (arith, n16, l)))

@@ -1,14 +1,13 @@
 -- The new time of a write against the nodes that answered. Document 02, Q-2: "A complete write is still passed: at least b+1 honest repliers hold it.
 -- Prove that with at most b lying nodes the new time is at most one above some honest reply."
---   numberOf           how many of the first n nodes a test holds of
 --   ToWrite ToSpent    a write, over any replies from an accepted opening on, that has come to its write round; one that ended clock spent
 --   newTimeOf timeReplies spentReplies   the time that it stores; READ_TIMESTAMP's response set, the N-t time replies that it counted
 --   NearHonest         one of some time replies is of a node that does not lie, and v is at most one above it
 --   AnswersAfter       a time reply is our node's own, from a book in which it had executed a write of this time before
 -- Assumes nothing.
-use Prim.Native.Nat.{ℕ, zero, suc, _+_, _≤_}
+use Prim.Native.Nat.{ℕ, _+_, _≤_}
 use mathlib.Core.Path.{_≡_}
-use mathlib.Core.Bool.{Bool, true, false, cond}
+use mathlib.Core.Bool.{Bool, true, false}
 use mathlib.Core.List.{List, _∷_}
 use lib.ListN.{take}
 use Rattle.octets.specs.Bytes.{Octets}
@@ -31,11 +30,6 @@ use Rattle.client.specs.Turns.{Turn, WriteTurn, Calls, lastSaid}
 use Rattle.report.specs.Triple.{In}
 use Rattle.report.specs.Figure2.{Clock, clocks}
 use Rattle.report.specs.WriteRun.{untimed, clockOf, timedOver}
-
--- of the nodes 0 to n-1
-unfoldable pub numberOf : (ℕ → Bool) → ℕ → ℕ
-numberOf test zero = 0
-numberOf test (suc n) = cond (test n) 1 0 + numberOf test n
 
 -- the desk and the items lent are any
 pub record ToWrite (p : Plan) : Type 0 where

@@ -3,7 +3,10 @@ pub mod Node
 pub mod One
 pub mod Run
 pub mod Kept
+pub mod Replies
+pub mod Latest
 pub mod Times
 pub mod Passed
+pub mod Lives
 pub mod Books
 pub mod Instances

@@ -1,59 +1,35 @@
--- THE TIME THAT A NODE TELLS is no lower than that of any record that it holds (tells-every-time): the last of rising records is the greatest
--- (last-high), and a greater timestamp has no lower time (time-order). A frame cut off by its length (cut-off). Assumes nothing.
+-- THE TIME THAT A NODE TELLS is no lower than that of any record that it holds (tells-every-time): a greater timestamp has no lower time
+-- (time-order). Assumes nothing.
 use Prim.Native.Nat.{ℕ, zero, suc, _+_, _*_, _^_, _≤_, _<_}
 use mathlib.Core.Path.{_≡_, refl, sym, ap, _∙_, subst}
 use mathlib.Core.Bool.{Bool, true, false}
-use mathlib.Core.List.{List, [], _∷_}
+use mathlib.Core.List.{List}
 use mathlib.Core.Logic.{_⊎_, inl, inr}
 use native.Mathlib.Nat.{mul-le-mul-right, suc-mul}
 use native.Mathlib.Omega.{arith}
 use borrow.Author.Tests.{leb-true, leb-false}
 use lib.Dec.{leb}
-use lib.ListN.{length, take, drop}
-use lib.Seq.{take-at}
-use Rattle.octets.specs.Bytes.{part, num, be, over, Octets}
+use lib.ListN.{length, take}
+use Rattle.octets.specs.Bytes.{part, num, be, Octets}
 use Rattle.octets.proofs.Laws.{length-part, length-be, part-all}
 use Rattle.octets.proofs.Meaning.{num-append, num-be, num-small, part-add, part-small, bytes-part, bytes-all, octets-part}
-use Rattle.terms.specs.Ladder.{None}
 use Rattle.terms.specs.Stamp.{stamp, time}
 use Rattle.terms.specs.Terms.{recordLength}
 use Rattle.terms.specs.declared.Plan.{Plan}
 use Rattle.terms.proofs.Places.{record-length}
-use Rattle.frame.specs.Frame.{timeRequestKind, timeReplyKind, kindOf, headerIn, bodyOf, frameOf, framed, replying}
+use Rattle.frame.specs.Frame.{timeRequestKind, timeReplyKind, kindOf, headerIn, bodyOf, replying}
 use Rattle.frame.proofs.Built as built
-use Rattle.book.specs.Records.{rising, lastOf}
+use Rattle.book.specs.Records.{lastOf}
 use Rattle.book.specs.Book.{recordsFrom, recordsOf, countOf, bookHead}
-use Rattle.book.proofs.Lists.{above-rising}
 use Rattle.book.proofs.Laid as laid
 use Rattle.book.proofs.Laws as books
 use Rattle.node.specs.declared.Answer.the-variants.{Replied}
-use Rattle.node.specs.Node.{replied, ServedOutcome, servedOutcome, Reply, replyOf, replyTo, sends, answered, nodeLadder, NodeCall}
+use Rattle.node.specs.Node.{Reply, replyOf, replyTo, NodeCall}
 use Rattle.store.specs.Deliver.{Among}
-use Rattle.store.proofs.Order.{among-first, among-later, among-case, among-none, among-above}
+use Rattle.store.proofs.Order.{among-case, among-none}
 use Rattle.store.proofs.Node as calls
-
--- ---- the last of rising records
-last-in : (x : List ℕ) (rs : List (List ℕ)) → Among (lastOf (x ∷ rs)) (x ∷ rs)
-unfolding lastOf
-last-in x [] = among-first x x [] refl
-last-in x (y ∷ rs) = among-later x _ (y ∷ rs) (last-in y rs)
-
-pub last-high : (z : List ℕ) (rs : List (List ℕ)) → rising rs ≡ true → Among z rs → (stamp z ≤ stamp (lastOf rs)) × Among (lastOf rs) rs
-unfolding lastOf rising
-last-high z [] r h = absurd (among-none z h)
-last-high z (x ∷ []) r h = go (among-case x z [] h)
-  where
-    go : (x ≡ z) ⊎ Among z [] → (stamp z ≤ stamp x) × Among x (x ∷ [])
-    go (inl e) = (subst (λ (y : List ℕ). stamp z ≤ stamp y) (sym e) (omega arith), among-first x x [] refl)
-    go (inr k) = absurd (among-none z k)
-last-high z (x ∷ y ∷ rs) r h = go (among-case x z (y ∷ rs) h) (last-high z (y ∷ rs) (above-rising (stamp x) (y ∷ rs) r))
-  where
-    go : (x ≡ z) ⊎ Among z (y ∷ rs) → (Among z (y ∷ rs) → (stamp z ≤ stamp (lastOf (y ∷ rs))) × Among (lastOf (y ∷ rs)) (y ∷ rs))
-        → (stamp z ≤ stamp (lastOf (y ∷ rs))) × Among (lastOf (y ∷ rs)) (x ∷ y ∷ rs)
-    go (inl e) ih =
-        let l = among-above (stamp x) _ (y ∷ rs) r (last-in y rs) in
-        (subst (λ (v : List ℕ). stamp v ≤ stamp (lastOf (y ∷ rs))) e (omega arith), among-later x _ (y ∷ rs) (last-in y rs))
-    go (inr k) ih = (ih k .0, among-later x _ (y ∷ rs) (ih k .1))
+use Rattle.store.proofs.Replies.{replied-frame}
+use Rattle.store.proofs.Latest.{last-high}
 
 -- ---- a timestamp is its time, and then its verifier
 high-part : (m a b x y : ℕ) → y < m → a * m + x ≤ b * m + y → a ≤ b
@@ -86,11 +62,6 @@ each-record P b r h (suc m) at l z k = go (among-case (part b at r) z (recordsFr
     go (inl e) ih = subst P e (h at (omega (arith, suc-mul m r)))
     go (inr q) ih = ih q
 
--- ---- a frame that was written into a buffer, cut off by its length
-pub cut-off : (f y y₂ : List ℕ) (n : ℕ) → y₂ ≡ over f y → n ≡ length f → take n y₂ ≡ f
-unfolding over
-cut-off f y y₂ n e l = ap (take n) e ∙ take-at f (drop (length f) y) n (sym l)
-
 module _ (p : Plan) (f b y : List ℕ) (k : kindOf f ≡ timeRequestKind) (n : ℕ) (b₂ y₂ : List ℕ) (c : NodeCall p f b y (Replied n) b₂ y₂) where
   abbrev body : List ℕ
   body = be 8 (time (lastOf (recordsOf p b)))
@@ -102,23 +73,14 @@ module _ (p : Plan) (f b y : List ℕ) (k : kindOf f ≡ timeRequestKind) (n : �
   unfolding replyTo
   told-so = rw k
 
-  done : None (nodeLadder p f b y) × (servedOutcome (replied n) b₂ y₂ ≡ answered p (headerIn f) (bodyOf f) b y)
-  done = calls.replied-is p f b y n b₂ y₂ c
-
   -- the reply bears the time of the last record
   bears-last : bodyOf (take n y₂) ≡ body
-  unfolding answered sends
   bears-last =
-      let bytes : y₂ ≡ over (frameOf (replying (headerIn f) (told .kind)) (told .body)) y = ap (λ (o : ServedOutcome). o .reply) (done .1) in
-      let size : replied n ≡ replied (framed (headerIn f .version) (length (told .body))) = ap (λ (o : ServedOutcome). o .answer) (done .1) in
-      let long : n ≡ framed (headerIn f .version) (length (told .body)) = cc in
-      let h = replying (headerIn f) (told .kind) in
-      ap bodyOf (cut-off (frameOf h (told .body)) y y₂ n bytes (long ∙ sym (built.length-frame h (told .body))))
-      ∙ built.body-frame h (told .body) ∙ ap (λ (r : Reply). r .body) told-so
+      ap bodyOf (replied-frame p f b y n b₂ y₂ c) ∙ built.body-frame (replying (headerIn f) (told .kind)) (told .body) ∙ ap (λ (r : Reply). r .body) told-so
 
   module _ (o : Octets b) where
     good : laid.BookIs 1 (bookHead 1) p b
-    good = books.good-is p b (calls.clear p f b y (done .0) .good)
+    good = books.good-is p b (calls.clear p f b y (calls.replied-is p f b y n b₂ y₂ c .0) .good)
 
     whole : (w : List ℕ) → Among w (recordsOf p b) → (40 ≤ length w) × Octets w
     whole =

@@ -1,0 +1,10 @@
+pub mod Rounds
+pub mod Answers
+pub mod Requests
+pub mod Heeds
+pub mod Theorem
+pub mod Done
+pub mod After
+pub mod Saved
+pub mod NewTime
+pub mod Instances

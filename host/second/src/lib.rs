@@ -1,6 +1,6 @@
 //! A second program for document 01 and of document 02, written from the documents alone: it shares no code, no table and no data
 //! layout in memory with the proved library. The modules follow the documents; `wire` is the host interface on bytes; `library`, `craft`,
-//! `mutate`, `gen`, `wishes`, `runs`, `driver` and `cases` make and compare calls.
+//! `mutate`, `gen`, `wishes`, `runs`, `older`, `driver` and `cases` make and compare calls.
 
 pub mod book;
 pub mod cases;
@@ -13,6 +13,7 @@ pub mod gen;
 pub mod library;
 pub mod mutate;
 pub mod node;
+pub mod older;
 pub mod plan;
 pub mod random;
 pub mod reader;

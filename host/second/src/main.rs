@@ -1,6 +1,8 @@
 //! second run SEED COUNT            random histories, COUNT calls, compared; exit 1 if they differ or an answer was met too seldom
 //! second wishes SEED               every small wish and 10,000 of 64 bits, compared; exit 1 if they differ or an answer was met too seldom
 //! second runs SEED                 runs of frames, drawn and long ones, compared; exit 1 if they differ or something was met too seldom
+//! second older SEED COUNT          COUNT runs of a read after a write, and runs that drop a condition (document 02, Q-5), compared; exit 1 if
+//!                                  they differ, if one breaks the sentence or should and does not, or if something was met too seldom
 //! second emit SEED COUNT stdin     stored calls on standard output, up to COUNT of each answer of each call (their form: cases.rs)
 //! second emit SEED COUNT stdout    the outcomes of the same calls, by the second program
 //! second replay                    makes the stored calls on standard input again, and writes their outcomes
@@ -15,7 +17,7 @@ use second::craft::Size;
 use second::driver::{Driver, Outcome, Stop, ENOUGH};
 use second::gen::histories;
 use second::library::{Call, Second};
-use second::{runs, wishes};
+use second::{older, runs, wishes};
 
 #[cfg(feature = "archive")]
 use second::archive::Archive as Other;
@@ -30,7 +32,7 @@ const COMPARED: &str =
                         what the generator meets and says nothing of the proved library";
 
 const USAGE: &str =
-    "usage: second run SEED COUNT | second wishes SEED | second runs SEED | second emit SEED COUNT stdin|stdout | second replay";
+    "usage: second run SEED COUNT | second wishes SEED | second runs SEED | second older SEED COUNT | second emit SEED COUNT stdin|stdout | second replay";
 
 fn main() -> ExitCode {
     let words: Vec<String> = std::env::args().skip(1).collect();
@@ -39,6 +41,7 @@ fn main() -> ExitCode {
         ["run", seed, count] => numbers(seed, count).and_then(|(seed, count)| run(seed, count)),
         ["wishes", seed] => number(seed).and_then(wishes),
         ["runs", seed] => number(seed).and_then(runs),
+        ["older", seed, count] => numbers(seed, count).and_then(|(seed, count)| older(seed, count)),
         ["emit", seed, count, "stdin"] => {
             numbers(seed, count).and_then(|(seed, count)| emit(seed, count, |call, _| asked(call)))
         }
@@ -93,6 +96,11 @@ fn wishes(seed: u64) -> Result<(), String> {
 
 fn runs(seed: u64) -> Result<(), String> {
     println!("{COMPARED}: {}", runs::compare(&mut Second, &mut Other, seed)?);
+    Ok(())
+}
+
+fn older(seed: u64, count: u64) -> Result<(), String> {
+    println!("{COMPARED}: never an older sheet, {}", older::compare(&mut Second, &mut Other, seed, count)?);
     Ok(())
 }
 

@@ -258,6 +258,7 @@ impl Block<'_> {
         if message.reply {
             return self.take(message);
         }
+        self.before_answer(&message);
         let kill = !self.calm && self.random.chance(2);
         if !kill && frame_kind(&message.frame) == 3 && self.nodes.side_by_side() {
             return self.deliver_two(message);
@@ -273,9 +274,21 @@ impl Block<'_> {
         self.answered(message, answer)
     }
 
+    /// Before a good node answers an open for the first time: how much has been executed by then (document 02, Q-5).
+    fn before_answer(&mut self, message: &Message) {
+        let Message { client, node, call, ref frame, .. } = *message;
+        if matches!(frame_kind(frame), 5 | 6) && self.nodes.answers(node) {
+            let moment = self.nodes.moment();
+            if let Some(operation) = self.clients[client].as_mut().filter(|operation| operation.call == call) {
+                operation.answered.get_or_insert(moment);
+            }
+        }
+    }
+
     /// Requests that wait for one node, as it takes them together.
     fn deliver_run(&mut self, first: Message, others: Vec<Message>) -> Result<(), Trouble> {
         let all: Vec<Message> = [first].into_iter().chain(others).collect();
+        all.iter().for_each(|message| self.before_answer(message));
         let answers = self.nodes.serve_run(&all, &mut self.random)?;
         all.into_iter().zip(answers).try_for_each(|(message, answer)| self.answered(message, answer))
     }
@@ -353,7 +366,7 @@ impl Block<'_> {
             Told::Ended(ending) => {
                 let operation = self.clients[client].take().expect("it is there");
                 self.network.forget(client, if self.calm { 0 } else { 80 }, &mut self.random);
-                self.judge.returned(&operation, &ending)?;
+                self.judge.returned(&operation, &ending, &mut self.nodes)?;
                 // A time round that hears one node too few misses a save; where b is 0 there is no liar by whom it is found too.
                 let often = if self.plan.b == 0 { 80 } else { 40 };
                 if operation.save() && self.probes.is_empty() && self.random.chance(often) {

@@ -1,6 +1,6 @@
 //! One operation of a client: a session, and between its calls whatever is wrong with the client.
 
-use crate::library::{Session, DONE};
+use crate::library::{Session, ABORTED, DONE};
 use crate::plan::{frame_kind, time_of, Plan, Stamp, FRAME_HEAD};
 use crate::tactics::First;
 use crate::wrong::Wrong;
@@ -22,6 +22,8 @@ pub struct Operation {
     pub held: Option<usize>,
     /// Whom its read rounds hear first, where that is settled.
     pub probe: Option<First>,
+    /// How much good nodes had executed before one of them answered this open; none: none has.
+    pub answered: Option<usize>,
     /// The time replies that were taken: what each said, and whether its node was good when it was taken, and so when it spoke.
     told: Vec<(u64, bool)>,
 }
@@ -73,6 +75,7 @@ impl Operation {
             cut: None,
             held: None,
             probe: None,
+            answered: None,
             told: Vec::new(),
         }
     }
@@ -100,6 +103,11 @@ impl Operation {
         self.told.iter().filter(|(_, good)| *good).map(|(time, _)| *time).max()
     }
 
+    /// Whether it had this timestamp written, in a write or repair round.
+    pub fn wrote(&self, stamp: &Stamp) -> bool {
+        self.session.writing() == *stamp
+    }
+
     /// The time that it writes, in a write or repair round.
     pub fn time(&self) -> u64 {
         time_of(&self.session.writing())
@@ -115,7 +123,11 @@ impl Operation {
         if frame_kind(frame) == 2 {
             self.told.push((time_of(&frame[FRAME_HEAD..]), good));
         }
-        let said = if said == 0 { self.go_wrong(frame, storing) } else { said };
+        let said = match said {
+            0 => self.go_wrong(frame, storing),
+            ABORTED if self.wrong == Some(Wrong::WalksOn) => self.session.walk_on(),
+            _ => said,
+        };
         if said >= DONE {
             return Told::Ended(self.ending(said));
         }

@@ -17,6 +17,9 @@ pub struct Counts {
     /// Saves that are done although a reply said 2^64-1.
     pub told_last: usize,
     pub repaired: usize,
+    /// Opens that ended done or never written after Q good nodes had executed a save, and those of them where nobody had completed it.
+    pub held: usize,
+    pub unfinished: usize,
     /// Opens that returned what the Byzantine client wrote.
     pub strays: usize,
     pub poisoned: usize,
@@ -56,6 +59,7 @@ impl Counts {
     pub fn line(&self) -> String {
         let Counts { saved, given_up, clock, opened, repaired, strays, never, aborted, spent, opens_given_up, .. } =
             self;
+        let Counts { held, unfinished, .. } = self;
         let Counts { told_last, poisoned, believed, partitions, lost, good, stale, unjudged, faults, .. } = self;
         let Faults { kills, midway, restarts, damages, setbacks, liars, stuck, lies, beside, handed, cleared, .. } =
             faults;
@@ -66,6 +70,9 @@ impl Counts {
         [
             format!("saves {saved} done ({told_last} of them told 2^64-1), {given_up} given up, {clock} clock spent"),
             format!("{opens}, {never} never written, {aborted} aborted, {spent} spent, {opens_given_up} given up"),
+            format!(
+                "{held} held to what Q good nodes had executed, {unfinished} of them where nobody had completed it"
+            ),
             format!(
                 "{keepers}, {beside} requests beside another, {handed} locks handed over, {cleared} new files removed"
             ),

@@ -3,9 +3,12 @@
 use crate::client::{Ending, Operation};
 use crate::counts::Counts;
 use crate::library::{ABORTED, CLOCK_SPENT, DONE, NEVER_WRITTEN, ROUNDS_SPENT};
+use crate::nodes::Nodes;
 use crate::plan::{Plan, Stamp, STAMP};
 use crate::register::{judged, stale_copies, Call, Outcome, Verdict};
 use second::random::Random;
+use std::cmp::Ordering;
+use std::collections::BTreeMap;
 
 pub struct Judge<'a> {
     plan: Plan,
@@ -20,12 +23,15 @@ pub struct Judge<'a> {
     strays: Vec<usize>,
     /// The greatest timestamp of a completed save or open.
     top: Stamp,
+    /// The item of each timestamp of a completed save or open.
+    sheets: BTreeMap<Stamp, Vec<u8>>,
 }
 
 impl Judge<'_> {
     pub fn new(plan: Plan, counts: &mut Counts) -> Judge<'_> {
         let (history, items, stamps, strays) = (Vec::new(), Vec::new(), Vec::new(), Vec::new());
-        Judge { plan, counts, now: 0, history, items, stamps, strays, top: [0; STAMP] }
+        let sheets = BTreeMap::new();
+        Judge { plan, counts, now: 0, history, items, stamps, strays, top: [0; STAMP], sheets }
     }
 
     pub fn calls(&self) -> usize {
@@ -81,9 +87,17 @@ impl Judge<'_> {
     }
 
     /// An operation has ended: the sentences are held against it, and the history takes it.
-    pub fn returned(&mut self, operation: &Operation, ending: &Ending) -> Result<(), String> {
+    pub fn returned(&mut self, operation: &Operation, ending: &Ending, nodes: &mut Nodes) -> Result<(), String> {
         let call = operation.call;
-        let outcome = if operation.save() { self.saved(operation, ending)? } else { self.opened(operation, ending)? };
+        let outcome = if operation.save() {
+            self.saved(operation, ending)?
+        } else {
+            self.not_older(operation, ending, nodes)?;
+            self.opened(operation, ending)?
+        };
+        if ending.said == DONE {
+            self.executed(operation, ending, nodes)?;
+        }
         self.top = self.top.max(ending.stamp);
         self.stamps[call] = ending.stamp;
         self.history[call] = Call { called: self.history[call].called, returned: self.now, outcome };
@@ -114,6 +128,44 @@ impl Judge<'_> {
             }
             CLOCK_SPENT if spent => Ok(Outcome::Nothing),
             said => Err(format!("save {call} ended with {said}")),
+        }
+    }
+
+    /// Document 02, Q-5: an open does not pass over what Q good nodes had executed before one of them answered it.
+    fn not_older(&mut self, operation: &Operation, ending: &Ending, nodes: &mut Nodes) -> Result<(), String> {
+        let call = operation.call;
+        let moment = operation.answered.unwrap_or(nodes.moment());
+        let ended = matches!(ending.said, DONE | NEVER_WRITTEN);
+        let Some((stamp, item)) = ended.then(|| nodes.sheet(moment)).flatten() else { return Ok(()) };
+        self.counts.held += 1;
+        self.counts.unfinished += !self.sheets.contains_key(&stamp) as usize;
+        match ending.stamp.cmp(&stamp) {
+            _ if ending.said == NEVER_WRITTEN => {
+                Err(format!("open {call} found nothing, and Q good nodes had executed a save"))
+            }
+            Ordering::Less => {
+                Err(format!("open {call} returned an older sheet than one that Q good nodes had executed"))
+            }
+            Ordering::Equal if ending.item != item => {
+                Err(format!("open {call} returned other bytes than Q good nodes had executed"))
+            }
+            _ => Ok(()),
+        }
+    }
+
+    /// What a call is done with was executed by good nodes: by all but b of those whose replies ended its write or repair round, or by Q where an
+    /// open found it complete. And a timestamp has one sheet.
+    fn executed(&mut self, operation: &Operation, ending: &Ending, nodes: &Nodes) -> Result<(), String> {
+        let (call, Plan { n, t, b, q, .. }) = (operation.call, self.plan);
+        let least = if operation.wrote(&ending.stamp) { n - t - b } else { q };
+        if nodes.executed_by(&ending.stamp) < least {
+            return Err(format!("call {call} is done, and fewer than {least} good nodes have executed its sheet"));
+        }
+        match self.sheets.insert(ending.stamp, ending.item.clone()) {
+            Some(before) if before != ending.item => {
+                Err(format!("call {call} is done at a timestamp that has had other bytes"))
+            }
+            _ => Ok(()),
         }
     }
 

@@ -1,6 +1,6 @@
 //! The calls of libpasis.a that a client makes, and the plan that goes with every one of them.
 
-use crate::plan::{Plan, Stamp, FRAME_HEAD, STAMP};
+use crate::plan::{stamp_of, Plan, Stamp, FRAME_HEAD, STAMP};
 use pasis_raw as raw;
 
 pub const DONE: u32 = 101;
@@ -9,8 +9,9 @@ pub const ABORTED: u32 = 103;
 pub const ROUNDS_SPENT: u32 = 104;
 pub const CLOCK_SPENT: u32 = 105;
 
-/// A session's bytes, and where it has the timestamp being written and the marks.
+/// A session's bytes, and where it has the bound, the timestamp being written and the marks.
 const SESSION: usize = 237;
+const BOUND: usize = 4;
 const WRITING: usize = 181;
 const MARKS: usize = 221;
 /// The longest book that may be lent.
@@ -107,6 +108,20 @@ impl Session {
 
     pub fn heard(&self, node: usize) -> bool {
         self.bytes[MARKS + node] != 0
+    }
+
+    /// Opens the next round of a read that has ended, below its greatest record, or tells that its rounds are spent.
+    pub fn walk_on(&mut self) -> u32 {
+        let slots = self.desk.chunks(self.plan.record()).zip(&self.bytes[MARKS..]);
+        let candidate = slots.filter(|(_, mark)| **mark == 2).map(|(record, _)| stamp_of(record)).max();
+        let round = u16::from_be_bytes([self.bytes[2], self.bytes[3]]);
+        let Some(candidate) = candidate.filter(|_| round < self.plan.w) else { return ROUNDS_SPENT };
+        self.bytes[1] = 0;
+        self.bytes[2..BOUND].copy_from_slice(&(round + 1).to_be_bytes());
+        self.bytes[BOUND] = 1;
+        self.bytes[BOUND + 1..BOUND + 1 + STAMP].copy_from_slice(&candidate);
+        self.bytes[MARKS..].fill(0);
+        0
     }
 
     /// The timestamp of an ending; zeros where it has none.

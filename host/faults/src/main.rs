@@ -6,6 +6,7 @@ mod block;
 mod client;
 mod counts;
 mod damage;
+mod executed;
 mod histories;
 mod judge;
 mod keeper;
@@ -70,7 +71,7 @@ fn command(wanted: &Wanted, seed: u64, run: usize, plan: &Plan) -> io::Result<Op
 fn enough(operations: usize, counts: &Counts) -> bool {
     let Counts { saved, opened, faults: Faults { kills, damages, setbacks, lies, stuck, runs, .. }, .. } = counts;
     let nodes = [*damages, *setbacks, *lies, *stuck, *runs, counts.told_last];
-    let others = [counts.given_up, counts.repaired, counts.poisoned, counts.partitions];
+    let others = [counts.given_up, counts.repaired, counts.poisoned, counts.partitions, counts.unfinished];
     let some = operations < 600 || nodes.iter().chain(&others).all(|count| *count > 0);
     *saved >= operations / 8 && *opened >= operations / 4 && *kills >= operations / 40 && some
 }

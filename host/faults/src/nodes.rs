@@ -1,6 +1,7 @@
 //! The nodes of one run: what serves them, their books, and the faults done to them, within the plan's limits.
 
 use crate::damage::damaged;
+use crate::executed::Executed;
 use crate::keeper::Answer;
 use crate::liar::{Asked, Liar};
 use crate::library::fresh_book;
@@ -64,6 +65,7 @@ pub struct Nodes {
     /// Liars may tell of records with times near 2^64-1.
     pub late: bool,
     pub faults: Faults,
+    executed: Executed,
 }
 
 impl Nodes {
@@ -91,7 +93,8 @@ impl Nodes {
             });
         }
         let still = still || command.is_none();
-        Ok(Nodes { plan, nodes, still, wrong, way, late: false, faults: Faults::default() })
+        let (faults, executed) = Default::default();
+        Ok(Nodes { plan, nodes, still, wrong, way, late: false, faults, executed })
     }
 
     /// Starts a silent node again. What a killed keeper left beside its book is written over by one that has the lock; without the lock it
@@ -158,6 +161,27 @@ impl Nodes {
 
     pub fn overhear(&mut self, i: usize, request: &[u8]) {
         self.nodes[i].liar.overhear(request);
+        self.executed.overhear(i, request);
+    }
+
+    /// How much good nodes have executed by now.
+    pub fn moment(&self) -> usize {
+        self.executed.moment()
+    }
+
+    /// How many nodes that have been good until now have executed this timestamp.
+    pub fn executed_by(&self, stamp: &Stamp) -> usize {
+        self.executed.by(stamp, |i| self.good(i))
+    }
+
+    /// The greatest write of an item that Q nodes had executed at this moment, of those that have been good until now.
+    pub fn sheet(&mut self, moment: usize) -> Option<(Stamp, Vec<u8>)> {
+        self.executed.sheet(&self.plan, moment, |i| !self.nodes[i].bad)
+    }
+
+    /// Whether a request to node i is answered as its book has it.
+    pub fn answers(&self, i: usize) -> bool {
+        self.good(i) && self.nodes[i].server.up()
     }
 
     /// From now on node i lies, if it may.
@@ -316,12 +340,19 @@ impl Nodes {
         Ok(reply)
     }
 
-    /// Keeps what an undamaged node acknowledges.
+    /// Keeps what an undamaged node acknowledges, and what it tells that it has executed.
     fn note(&mut self, i: usize, request: &[u8], reply: &[u8]) {
         let node = &mut self.nodes[i];
-        if frame_kind(request) == 3 && frame_kind(reply) == 4 && !node.bad {
-            node.acknowledged.push(request[FRAME_HEAD..].to_vec());
-            node.top = node.top.max(stamp_of(&request[FRAME_HEAD..]));
+        match (frame_kind(request), frame_kind(reply)) {
+            _ if node.bad => {}
+            (3, 4) => {
+                let stamp = stamp_of(&request[FRAME_HEAD..]);
+                node.acknowledged.push(request[FRAME_HEAD..].to_vec());
+                node.top = node.top.max(stamp);
+                self.executed.note(i, stamp);
+            }
+            (_, 7) if reply.len() > FRAME_HEAD => self.executed.note(i, stamp_of(&reply[FRAME_HEAD..])),
+            _ => {}
         }
     }
 

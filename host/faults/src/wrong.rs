@@ -18,6 +18,8 @@ pub enum Wrong {
     SaveFirst,
     /// A reader takes Byzantine clients for crash clients: nothing is validated.
     NoValidation,
+    /// A reader of a plan without repair takes an unclassifiable set for an incomplete one and walks on.
+    WalksOn,
     /// A client opens all its operations with the same ask number.
     SameAsk,
     /// A keeper acknowledges every third new record and drops it.
@@ -27,7 +29,7 @@ pub enum Wrong {
 }
 
 /// All of them, by the name that `--wrong` takes.
-pub const ALL: [(&str, Wrong); 10] = [
+pub const ALL: [(&str, Wrong); 11] = [
     ("repair-first", Wrong::RepairFirst),
     ("ignores-b", Wrong::IgnoresB),
     ("write-twice", Wrong::WriteTwice),
@@ -35,6 +37,7 @@ pub const ALL: [(&str, Wrong); 10] = [
     ("greatest", Wrong::Greatest),
     ("save-first", Wrong::SaveFirst),
     ("no-validation", Wrong::NoValidation),
+    ("walks-on", Wrong::WalksOn),
     ("same-ask", Wrong::SameAsk),
     ("keeper-drops", Wrong::KeeperDrops),
     ("keeper-early", Wrong::KeeperEarly),

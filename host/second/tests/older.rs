@@ -14,7 +14,7 @@ use second::wire;
 fn no_run_breaks_the_sentence() {
     let told = older::compare(&mut Second, &mut Second, 5, 400).expect("no run breaks it");
     assert_eq!(told.lines().filter(|line| line.starts_with("  without '")).count(), told.lines().count() - 1);
-    assert!(told.starts_with("400 runs: done at the write "), "{told}");
+    assert!(told.starts_with("400 runs: every condition kept "), "{told}");
 }
 
 /// What is done around a call of our own program.

@@ -24,7 +24,8 @@ const ASK: u64 = 1 << 32;
 const OFTEN: u64 = 100;
 
 /// What a run may meet.
-pub const MET: [&str; 17] = [
+pub const MET: [&str; 18] = [
+    "every condition kept",
     "done at the write",
     "done above it",
     "aborted",
@@ -41,7 +42,7 @@ pub const MET: [&str; 17] = [
     "a reply at or above the bound refused",
     "the write by a session of ours",
     "more liars than b",
-    "another t at the reader",
+    "another t or b at the reader",
 ];
 
 /// Which of these it has met.
@@ -162,8 +163,10 @@ impl Run<'_> {
         liars.truncate(if random.chance(10) { plan.n - plan.q } else { many });
         let readers = readers(&mut random, &plan);
         let mut met = Met::default();
-        met.mark("more liars than b", liars.len() > plan.b);
-        met.mark("another t at the reader", readers.t != plan.t);
+        let (many, other) = (liars.len() > plan.b, readers != plan);
+        met.mark("every condition kept", !many && !other);
+        met.mark("more liars than b", many);
+        met.mark("another t or b at the reader", other);
         let mut house = House::new(maker, plan, OTHERS + 4)?;
         let read = house.open_read(&readers, ASK)?;
         let near = random.pick(&[5, 5, 5, 5, 1, u64::MAX - 2]);

@@ -61,6 +61,8 @@ struct Known {
     /// The N records of each write, and of each that liars have made up.
     writes: Vec<Vec<Record>>,
     made_up: Vec<Vec<Record>>,
+    /// The timestamps of poisonous writes.
+    poisonous: Vec<Timestamp>,
     /// Write requests of others.
     waiting: Vec<Vec<u8>>,
     /// Replies that come late or again, of this read and of other operations.
@@ -203,9 +205,14 @@ impl Run<'_> {
             return self.save(&nodes).map(|_| ());
         }
         let time = self.time();
-        let poison = if self.house.plan.clients == Clients::Byzantine { 35 } else { 8 };
-        let make = if self.random.chance(poison) { craft::poisonous } else { craft::honest };
-        let records = make(&mut self.random, &self.house.plan, time);
+        let often = if self.house.plan.clients == Clients::Byzantine { 35 } else { 8 };
+        let records = if self.random.chance(often) {
+            let records = craft::poisonous(&mut self.random, &self.house.plan, time);
+            self.known.poisonous.push(records[0].stamp);
+            records
+        } else {
+            craft::honest(&mut self.random, &self.house.plan, time)
+        };
         self.spread(records, &nodes).map(|_| ())
     }
 
@@ -487,7 +494,8 @@ impl Run<'_> {
         if done && self.holders(stamp).len() < least {
             return Err(self.wrong(&format!("fewer than {least} honest nodes have executed what it is done with")));
         }
-        if answer < DONE && (session.stage != Stage::Storing || plan.clients == Clients::Byzantine) {
+        let refused = session.stage == Stage::Storing && self.known.poisonous.contains(&session.stamp);
+        if answer < DONE && (!refused || plan.clients == Clients::Byzantine) {
             return Err(self.wrong("the read does not end"));
         }
         let at = done && stamp == self.written.as_ref().expect("it is written").stamp;

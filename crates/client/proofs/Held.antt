@@ -102,6 +102,11 @@ KeepsAt Ended P p s d = Unit {0}
 abbrev pub Keeps : (ℕ → List ℕ → Type 0) → Plan → Session → List ℕ → Type 0
 Keeps P p s d = KeepsAt (s .round .stage) P p s d
 
+pub is-asking : (x : Stage) → isAsking x ≡ true → x ≡ Asking
+is-asking Asking e = refl
+is-asking Storing e = absurd (clash (sym e))
+is-asking Ended e = absurd (clash (sym e))
+
 pub at-asking : (x : Stage) → isStoring x ≡ false → isEnded x ≡ false → x ≡ Asking
 at-asking Asking e g = refl
 at-asking Storing e g = absurd (clash e)

@@ -17,7 +17,7 @@ use borrow.Author.Tests.{not-false}
 use lib.Dec.{eqb}
 use lib.ListN.{length, length-set}
 use Rattle.octets.specs.Bytes.{part, num, be, Octets}
-use Rattle.octets.proofs.Laws.{part-part, part-all, length-be, length-part, slot-room}
+use Rattle.octets.proofs.Laws.{part-part, part-all, length-be, slot-room}
 use Rattle.octets.proofs.Meaning.{part-add, is-alike, num-be, part-small}
 use Rattle.terms.specs.Ladder.{None, _and_}
 use Rattle.terms.specs.Stamp.{stamp, stampNumber}
@@ -62,8 +62,8 @@ use Rattle.client.specs.Older.{Above, AtLeast, Heeds, OpensAbove, NotBel
 use Rattle.client.proofs.Bytes.{one-stamp}
 use Rattle.client.proofs.Reading.{Taken, taken}
 use Rattle.client.proofs.Round.Order.{length-after}
-use Rattle.client.proofs.Slots.{mark-none, none-marked, Brings, EachBrings, reply-heard}
-use Rattle.client.proofs.Held.{lead-of, at-asking, at-storing, Closing, KeepsAt, Keeps, left, is-taken, one}
+use Rattle.client.proofs.Slots.{mark-none, long-slot, none-marked, Brings, EachBrings, reply-heard}
+use Rattle.client.proofs.Held.{lead-of, is-asking, at-asking, at-storing, Closing, KeepsAt, Keeps, left, is-taken, one}
 use Rattle.client.proofs.Went as went
 use Rattle.client.proofs.Went.{Went}
 
@@ -78,11 +78,6 @@ is-record : (h : Heard) → eqb (bitOf h) 1 ≡ true → (h ≡ First → ⊥) �
 is-record Unheard e n = absurd (clash (sym e))
 is-record First e n = absurd (n refl)
 is-record Record e n = refl
-
-is-asking : (x : Stage) → isAsking x ≡ true → x ≡ Asking
-is-asking Asking e = refl
-is-asking Storing e = absurd (clash (sym e))
-is-asking Ended e = absurd (clash (sym e))
 
 module _ (p : Plan) (ok : planOk p ≡ true) (ts : ℕ) (executed : ℕ → Bool) (enough : p .q ≤ numberOf executed (p .n)) where
   -- the record of a node that executed the write
@@ -169,9 +164,6 @@ module _ (p : Plan) (ok : planOk p ≡ true) (ts : ℕ) (executed : ℕ → Bool
       unfolding slotStamp
       stamp-in j = sym (stamp-at p e (j * recordLength p))
 
-      long-slot : (j : ℕ) → j < p .n → length (slotOf p e j) ≡ recordLength p
-      long-slot j l = length-part e (j * recordLength p) (recordLength p) (slot-room j (p .n) (recordLength p) (length e) l (omega (arith, long)))
-
       -- one of them
       record Some : Type 0 where
         node : ℕ
@@ -230,8 +222,8 @@ module _ (p : Plan) (ok : planOk p ≡ true) (ts : ℕ) (executed : ℕ → Bool
               let x = slots j l m in
               let y = slots a low marked-lead in
               let g : stamp (slotOf p e a) ≡ ts = sym number ∙ same in
-              let b = one-stamp (slotOf p e j) (slotOf p e a) (octets j _ x) (octets a _ y) (omega (arith, long-slot j l, record-length p)) (omega (arith, long-slot a low, record-length p)) (h ∙ sym g) in
-              let c = one-cross j a _ _ x y h g (omega (arith, long-slot j l, record-length p)) (omega (arith, long-slot a low, record-length p)) in
+              let b = one-stamp (slotOf p e j) (slotOf p e a) (octets j _ x) (octets a _ y) (omega (arith, long-slot p e j long l, record-length p)) (omega (arith, long-slot p e a long low, record-length p)) (h ∙ sym g) in
+              let c = one-cross j a _ _ x y h g (omega (arith, long-slot p e j long l, record-length p)) (omega (arith, long-slot p e a long low, record-length p)) in
               head j ∙ (λ i. b i ++ c i) ∙ sym (head a)
 
           joins : (j : ℕ) → j < p .n → both-so j ≡ true → joinsOf e (slotsOf p) a j (markOf (u .marks) j) ≡ true

@@ -13,7 +13,7 @@ use mathlib.Core.List.{List, [], _∷_, _++_, append-nil}
 use native.Mathlib.Omega.{arith}
 use lib.ListN.{length}
 use Rattle.octets.specs.Bytes.{part, be, alike, Octets}
-use Rattle.octets.proofs.Laws.{length-part, length-be, part-part, part-all, part-middle, slot-fits}
+use Rattle.octets.proofs.Laws.{length-be, part-part, part-all, part-middle}
 use Rattle.octets.proofs.Meaning.{part-add, alike-is, octets-drop}
 use Rattle.sha256.specs.Sha256.{sha256}
 use Rattle.sha256.proofs.Laws.{sha256-length}
@@ -39,7 +39,7 @@ use Rattle.client.specs.Sessions.{lastItem}
 use Rattle.client.specs.SameStamp.{Unlike, NoClash}
 use Rattle.client.specs.Held.{ReadDone}
 use Rattle.client.proofs.Bytes.{made-stamp, stamp-for}
-use Rattle.client.proofs.Slots.{EachBrings}
+use Rattle.client.proofs.Slots.{long-slot, EachBrings}
 use Rattle.client.proofs.Held.{Closing, Found, run-finds}
 use Rattle.client.proofs.Sets.{lowest-so, lowest-slots, lead-slot, lead-long, lead-number, lowest-stamps}
 use Rattle.client.proofs.ComesBack.{slots-come-back}
@@ -90,8 +90,7 @@ record Bears (p : Plan) (t : ℕ) (i d : List ℕ) (z : ℕ) : Type 0 where
 slots-written : (p : Plan) (t : ℕ) (i : List ℕ) → length i ≡ p .m * p .f → (d nodes : List ℕ) → length d ≡ p .n * recordLength p → All (Bears p t i d) nodes
     → All (λ (z : ℕ). slotOf p d z ≡ slotOf p (recordsFor p t i) z) nodes
 slots-written p t i whole d nodes long held =
-    all-map (λ z b. record-written p t i whole z (b .low) (slotOf p d z)
-    (length-part d (z * recordLength p) (recordLength p) (omega (arith, slot-fits z (p .n) (recordLength p) (b .low)))) (b .stamped) (b .hashed) (b .unlike)) nodes held
+    all-map (λ z b. record-written p t i whole z (b .low) (slotOf p d z) (long-slot p d z long (b .low)) (b .stamped) (b .hashed) (b .unlike)) nodes held
 
 -- ---- a read that ends done with the timestamp of a write
 module _ (p : Plan) (t : ℕ) (i : List ℕ) (bytes : Octets i) (whole : length i ≡ p .m * p .f) where

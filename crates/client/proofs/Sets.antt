@@ -10,7 +10,7 @@ use mathlib.Core.List.{List}
 use native.Mathlib.Omega.{arith}
 use lib.ListN.{length}
 use Rattle.octets.specs.Bytes.{part, num}
-use Rattle.octets.proofs.Laws.{length-part, part-part, slot-room}
+use Rattle.octets.proofs.Laws.{part-part, slot-room}
 use Rattle.octets.proofs.Meaning.{alike-is}
 use Rattle.terms.specs.Stamp.{stamp, stampAt, stampNumber}
 use Rattle.terms.specs.Terms.{recordLength, slotsOf}
@@ -33,6 +33,7 @@ use Rattle.recover.specs.Recover.{lowest}
 use Rattle.session.specs.declared.Session.{Session}
 use Rattle.session.specs.Reader.{closed}
 use Rattle.session.proofs.Closings.{Led, led, lead-low, Lowest, lowest-are}
+use Rattle.client.proofs.Slots.{long-slot}
 use Rattle.client.proofs.Held.{Closing}
 
 module _ (P : ℕ → List ℕ → Type 0) (p : Plan) (u : Session) (e : List ℕ) (a : ℕ) (c : Closing P p u e a) where
@@ -66,7 +67,7 @@ module _ (P : ℕ → List ℕ → Type 0) (p : Plan) (u : Session) (e : List �
   lead-fits = slot-room a (p .n) (recordLength p) (length e) (lead-low p u e a leading) (omega (arith, c .long))
 
   pub lead-long : length (slotOf p e a) ≡ recordLength p
-  lead-long = length-part e (a * recordLength p) (recordLength p) lead-fits
+  lead-long = long-slot p e a (c .long) (lead-low p u e a leading)
 
   -- the timestamp of the close is that of the lead's slot, and of each of the m lowest
   pub lead-stamp : closed p u e .stamp ≡ stampAt e (a * recordLength p)

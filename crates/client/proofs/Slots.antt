@@ -1,5 +1,5 @@
 -- What every slot that is marked record holds, from one reply to the next. Assumes nothing.
---   mark-none no-mark slot-own slot-other   marks of which none is set; a slot that is put, and the others
+--   mark-none no-mark slot-own slot-other long-slot   marks of which none is set; a slot that is put, and the others; its length
 --   none-marked first-heard record-heard    where a round opens, after a first triple, after a record
 --   accepted-passed    a record that is accepted passed 5 and 6
 --   Brings EachBrings reply-heard   a reply that brings such a record, if any; after an accepted one
@@ -12,7 +12,7 @@ use native.Mathlib.Omega.{arith}
 use borrow.Author.Tests.{eqb-false, not-false}
 use lib.ListN.{length, set, replicate}
 use Rattle.octets.specs.Bytes.{part, put}
-use Rattle.octets.proofs.Laws.{part-put-same, slot-fits}
+use Rattle.octets.proofs.Laws.{length-part, part-put-same, slot-fits, slot-room}
 use Rattle.terms.specs.Ladder.{None}
 use Rattle.terms.specs.Stamp.{time}
 use Rattle.terms.specs.Terms.{recordLength}
@@ -56,6 +56,10 @@ module _ (d x : List ℕ) (r n i : ℕ) (ld : length d ≡ n * r) (lx : length x
   slot-other k h =
       let z : k * r ≡ k * r + 0 = omega arith in
       ap (λ (y : ℕ). part (put d (i * r) x) y r) z ∙ slot-stays d x r i k lx fits h 0 r (omega arith) ∙ ap (λ (y : ℕ). part d y r) (sym z)
+
+-- a slot of a desk has R bytes
+pub long-slot : (p : Plan) (d : List ℕ) (k : ℕ) → length d ≡ p .n * recordLength p → k < p .n → length (slotOf p d k) ≡ recordLength p
+long-slot p d k ld h = length-part d (k * recordLength p) (recordLength p) (slot-room k (p .n) (recordLength p) (length d) h (omega arith))
 
 -- ---- what holds of every slot that is marked record
 module _ (P : ℕ → List ℕ → Type 0) (p : Plan) where

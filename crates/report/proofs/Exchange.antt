@@ -17,7 +17,7 @@ use borrow.Author.Tests.{eq-eqb, ne-eqb, not-false, ltb-true}
 use lib.Dec.{eqb, ltb}
 use lib.ListN.{length, take}
 use Rattle.octets.specs.Bytes.{num, be, over}
-use Rattle.octets.proofs.Laws.{length-part, length-be, part-part, slot-room}
+use Rattle.octets.proofs.Laws.{length-part, length-be, part-part}
 use Rattle.terms.specs.Ladder.{Rung, on, Given, _and_}
 use Rattle.terms.specs.Stamp.{stamp, time, stampNumber}
 use Rattle.terms.specs.Terms.{planOk, recordLength, refusalNumber}
@@ -60,6 +60,7 @@ use Rattle.node.specs.Node.{timeFails, hashFails, nodeLadder, replyTo, NodeCall
 use Rattle.store.specs.Deliver.{Among}
 use Rattle.store.specs.History.{AllPass}
 use Rattle.store.proofs.Node as calls
+use Rattle.client.proofs.Slots.{long-slot}
 use Rattle.store.proofs.Replies.{cut-off, replied-frame}
 use Rattle.store.proofs.Latest.{last-of, those-of, sized-of}
 use Rattle.client.specs.Held.{Passed}
@@ -253,9 +254,6 @@ module _ (p : Plan) (s : Session) (S : ℕ) (d q : List ℕ) (n : ℕ) (q₂ : L
         is = cut-off (requestOf p s S d) q q₂ n (ap (λ (x : Dues). x .request) z) (cc);
       })
       (call .is)
-
-long-slot : (p : Plan) (d : List ℕ) (k : ℕ) → length d ≡ p .n * recordLength p → k < p .n → length (slotOf p d k) ≡ recordLength p
-long-slot p d k ld h = length-part d (k * recordLength p) (recordLength p) (slot-room k (p .n) (recordLength p) (length d) h (omega arith))
 
 -- IT PASSES 4, 5 AND 6 AT ITS NODE
 module _ (p : Plan) (s : Session) (S : ℕ) (d f : List ℕ) (w : Written p s S d f) (ready : Sendable p s d) where

@@ -72,7 +72,7 @@ use Rattle.client.specs.Turns.{ReadTurn, Calls}
 use Rattle.client.specs.Sessions.{lastSession, lastDesk}
 use Rattle.client.specs.Held.{EverySlot, Passed}
 use Rattle.client.proofs.Reading.{one-ladder}
-use Rattle.client.proofs.Held.{at-storing}
+use Rattle.client.proofs.Held.{is-asking, at-storing}
 use Rattle.client.proofs.Slots.{mark-none, none-marked, first-heard, record-heard}
 use Rattle.report.specs.WriteRun.{noneOf, isResponse}
 use Rattle.report.proofs.Gathers.{listed, off, all-off, put-in, kept-out, Marked, marked-none, marked-more}
@@ -370,13 +370,8 @@ module _ (p : Plan) (s : Session) (f d i : List ℕ) (w : Polled) where
     node-low : node < p .n
     node-low = reply-is p f (not-false (goodReply p f) (r 4 refl)) .node-low
 
-    at-asking : (x : Stage) → isAsking x ≡ true → x ≡ Asking
-    at-asking Asking e = refl
-    at-asking Storing e = absurd (clash (sym e))
-    at-asking Ended e = absurd (clash (sym e))
-
     st : s .round .stage ≡ Asking
-    st = at-asking (s .round .stage) (m .asks)
+    st = is-asking (s .round .stage) (m .asks)
 
     k : Asks p s d w
     k = subst (λ (x : Stage). KeepsAt x p s d w) st keep

@@ -47,14 +47,10 @@ use Rattle.report.proofs.Sendable.{write-made}
 use Rattle.safety.specs.Run.{Life, Nodes, Ours, Reading}
 use Rattle.safety.specs.Safety.{OwnNumbers, HonestLives, FewOthers, NoneAlike, cross-borne, NeverOlder}
 use Rattle.safety.specs.Done.{Done, HonestQuorum, Saved, After}
-use Rattle.safety.proofs.Rounds.{calls-of, calls-on}
+use Rattle.safety.proofs.Rounds.{each-of, each-at, calls-of, calls-on}
 use Rattle.safety.proofs.Heeds.{all-heed}
 use Rattle.safety.proofs.Theorem.{all-apart, opens-free, sheet-safe}
-use Rattle.safety.proofs.Done.{life-of, each-last, done-is-executed, saved-is-executed}
-
-pub each-of : (P : Turn → Type 0) (a b : List Turn) → EachTurn P (a ++ b) → EachTurn P a
-each-of P [] b h = tt
-each-of P (t ∷ a) b h = (h .0, each-of P a b (h .1))
+use Rattle.safety.proofs.Done.{life-of, done-is-executed, saved-is-executed}
 
 pub early-lives : {p : Plan} (N : Nodes) → HonestLives p N → (i : ℕ) → i < p .n → N .honest i ≡ true → Life p i (N .early i)
 early-lives {p} N lives i l h = life-of p i (N .early i) (N .late i) (lives i l h)
@@ -149,7 +145,7 @@ module _ {p : Plan} (N : Nodes) (lives : HonestLives p N) (few : FewOthers p N) 
   later-read-as-written at item bytes size made apart apart₂ =
       let F : ℕ → List ℕ → Type 0 = Fair p at item bytes size in
       let o = earlier in
-      let found = each-last _ (ended .before) (ended .last) (o .turns) (ended .is)
+      let found = each-at _ (ended .before) (ended .last) [] (o .turns) (ended .is)
       (each-finds F p (o .opened .session) (o .desk) (o .turns) (start F p (o .ask) (o .opened) (o .opens) (o .accepted) (o .desk)) (o .calls)
       (all-apart p item at bytes size (o .opened .session) (o .desk) (o .turns) (o .calls) apart)) v (ended .rounds) (ended .says) in
       let e : stampNumber v ≡ stampNumber (stampFor p at item) = ap stampNumber made in (

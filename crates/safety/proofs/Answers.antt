@@ -16,28 +16,26 @@ use Rattle.terms.specs.Terms.{recordLength}
 use Rattle.terms.specs.declared.Plan.{Plan}
 use Rattle.frame.specs.Frame.{kindOf, versionOf, askOf, headerIn, frameOf, framed, replying, readReplyKind}
 use Rattle.frame.proofs.Built as built
-use Rattle.book.specs.Book.{goodBook}
+use Rattle.book.specs.Book.{goodBook, nodeOf}
 use Rattle.node.specs.declared.Answer.{Answer}
 use Rattle.node.specs.declared.Answer.the-variants.{Replied}
 use Rattle.node.specs.Node.{NodeCall}
 use Rattle.session.specs.Reply.{bears}
-use Rattle.store.specs.History.{Call, lastBook, EachCall, Moment, Executed, Wrote}
+use Rattle.store.specs.History.{Call, History, lastBook, Moment, Executed, Wrote}
 use Rattle.store.proofs.Kept.{history-keeps}
 use Rattle.store.proofs.One as one
-use Rattle.store.proofs.Passed.{laid-fresh}
+use Rattle.store.proofs.Passed.{laid-fresh, fresh-passes}
 use Rattle.store.proofs.Replies.{replied-ask}
 use Rattle.store.proofs.Latest.{Seeks, Bears, reads-high}
-use Rattle.store.proofs.Lives.{history-of, history-on, each-one, within, later-holds}
+use Rattle.store.proofs.Lives.{history-of, history-on, each-one, each-after, within, later-holds}
 use Rattle.client.specs.Older.{AtLeast}
 use Rattle.safety.specs.Run.{Served, Life}
+use Rattle.safety.proofs.Rounds.{cons-both}
 
 -- ---- a moment of a life of two parts
 pub record Side (xs : List Call) (c : Call) : Type 0 where
   pub at : Moment xs
   pub is : at .call ≡ c
-
-cons-both : (x y : Call) (xs ys : List Call) → _≡_ {A = List Call} (x ∷ xs) (y ∷ ys) → (x ≡ y) × (xs ≡ ys)
-cons-both x y xs ys e = (cc, cc)
 
 pub split-moment : (early late : List Call) (x : Moment (early ++ late)) → Side early (x .call) ⊎ Side late (x .call)
 split-moment early late x = go early (x .before) (x .is)
@@ -62,6 +60,18 @@ module _ (p : Plan) (i : ℕ) (life : List Call) (l : Life p i life) where
 
   abbrev pub bookAt : Moment life → List ℕ
   bookAt x = lastBook (l .book) (x .before)
+
+  -- the book is this node's
+  pub book-node : (x : Moment life) → nodeOf (bookAt x) ≡ i
+  book-node x =
+      fresh-passes p i (bookAt x) (record {
+        lent = l .lent;
+        fresh = l .book;
+        makes = l .fresh;
+        calls = x .before;
+        history = history-of (l .book) (x .before) (x .call ∷ x .after) (subst (History (l .book)) (x .is) (l .calls));
+        is = refl;
+      }) .1
 
   pub replied-call : (x : Moment life) (n : ℕ) → x .call .answer ≡ Replied n
       → NodeCall p (x .call .request) (bookAt x) (x .call .reply) (Replied n) (x .call .bookLeft) (x .call .replyLeft)
@@ -98,17 +108,13 @@ module _ (p : Plan) (i : ℕ) (early late : List Call) (l : Life p i (early ++ l
   good-late =
       history-keeps p (l .book) early (fresh-good p i (early ++ late) l) (history-of (l .book) early late (l .calls)) .good
 
-  served-late : (xs ys : List Call) → EachCall (Served p) (xs ++ ys) → EachCall (Served p) ys
-  served-late [] ys h = h
-  served-late (c ∷ xs) ys h = served-late xs ys (h .1)
-
   pub late-answers : (y : Moment late) (n : ℕ) → y .call .answer ≡ Replied n → Seeks (stamp z) (y .call .request) → AtLeast p (stamp z) (take n (y .call .replyLeft))
   late-answers y n e s =
       let c = y .call in
       let b = lastBook (lastBook (l .book) early) (y .before) in
       let w = within p (lastBook (l .book) early) late good-late (history-on (l .book) early late (l .calls)) y in
       let call : NodeCall p (c .request) b (c .reply) (Replied n) (c .bookLeft) (c .replyLeft) =
-      subst (λ (q : Plan). NodeCall q (c .request) b (c .reply) (Replied n) (c .bookLeft) (c .replyLeft)) (each-one (Served p) late (served-late early late (l .served)) y .plan)
+      subst (λ (q : Plan). NodeCall q (c .request) b (c .reply) (Replied n) (c .bookLeft) (c .replyLeft)) (each-one (Served p) late (each-after (Served p) early late (l .served)) y .plan)
       (subst (λ (a : Answer). NodeCall (c .plan) (c .request) b (c .reply) a (c .bookLeft) (c .replyLeft)) e (w .call)) in
       bears-it p (stamp z) (c .request) b (take n (c .replyLeft))
       (reads-high p (c .request) b (c .reply) (w .good) n (c .bookLeft) (c .replyLeft) call z (later-holds p z (l .book) early late (fresh-good p i (early ++ late) l) (l .calls) x y) s)

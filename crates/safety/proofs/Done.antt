@@ -24,6 +24,7 @@ use Rattle.terms.specs.declared.Timestamp.{Timestamp}
 use Rattle.terms.proofs.Facts.{facts}
 use Rattle.terms.proofs.Rungs.{both, clash}
 use Rattle.frame.specs.Frame.{frameNode, kindOf, bodyOf, readReplyKind, writeReplyKind}
+use Rattle.rounds.specs.Numbers.{numberOf}
 use Rattle.rounds.specs.Rounds.{joinsOf, markOf}
 use Rattle.rounds.proofs.Numbers.{number-both, number-not, number-left}
 use Rattle.standing.specs.declared.Operation.{Operation}
@@ -32,9 +33,9 @@ use Rattle.standing.specs.Standing.{replies}
 use Rattle.session.specs.Reply.{bears}
 use Rattle.session.proofs.Openings.{accepted-plan}
 use Rattle.session.proofs.Slots.{long-body}
-use Rattle.store.specs.History.{Call, History, EachCall, Executed, ExecutedAt, Wrote}
+use Rattle.store.specs.History.{Call, History, Executed, ExecutedAt, Wrote}
 use Rattle.store.proofs.Latest.{borne-held, acked-write}
-use Rattle.store.proofs.Lives.{history-of, within, held-executed, executed-more}
+use Rattle.store.proofs.Lives.{history-of, each-before, within, held-executed, executed-more}
 use Rattle.client.specs.Turns.{Turn, Takes}
 use Rattle.client.specs.Repair.{EachTurn}
 use Rattle.client.proofs.Slots.{EachBrings}
@@ -44,16 +45,13 @@ use Rattle.client.proofs.Quorums.{Tells, Quorum, read-quorum, write-quorum}
 use Rattle.safety.specs.Run.{Served, Life, Nodes, Honest, Ours, Reading}
 use Rattle.safety.specs.Safety.{OwnNumbers, FewOthers}
 use Rattle.safety.specs.Done.{Done, HadExecuted, HonestQuorum}
+use Rattle.safety.proofs.Rounds.{each-at}
 use Rattle.safety.proofs.Answers.{fresh-good, bookAt, replied-call}
 
 -- ---- an early part of a life is a life
 pub life-of : (p : Plan) (i : ℕ) (early late : List Call) → Life p i (early ++ late) → Life p i early
 life-of p i early late l =
-    record { lent = l .lent; book = l .book; fresh = l .fresh; calls = history-of (l .book) early late (l .calls); served = first early (l .served) }
-  where
-    first : (xs : List Call) → EachCall (Served p) (xs ++ late) → EachCall (Served p) xs
-    first [] h = tt
-    first (c ∷ xs) h = (h .0, first xs (h .1))
+    record { lent = l .lent; book = l .book; fresh = l .fresh; calls = history-of (l .book) early late (l .calls); served = each-before (Served p) early late (l .served) }
 
 -- ---- what a reply of an honest node tells
 module _ (p : Plan) (i : ℕ) (life : List Call) (l : Life p i life) (f : List ℕ) (w : Wrote f life) where
@@ -92,13 +90,9 @@ module _ (p : Plan) (i : ℕ) (life : List Call) (l : Life p i life) (f : List �
         executed = executed-more (bodyOf sent) life (w .at .before) (w .at .call ∷ w .at .after) (w .at .is) (borne-executed b .1);
       }
 
--- ---- one call of many
-pub each-last : (P : Turn → Type 0) (a : List Turn) (t : Turn) (cs : List Turn) → cs ≡ a ++ (t ∷ []) → EachTurn P cs → P t
-each-last P a t cs e h = go a (subst (EachTurn P) e h)
-  where
-    go : (xs : List Turn) → EachTurn P (xs ++ (t ∷ [])) → P t
-    go [] k = k .0
-    go (x ∷ xs) k = go xs (k .1)
+-- ---- of many nodes at most b are not honest
+pub few-left : (p : Plan) (N : Nodes) → FewOthers p N → (test : ℕ → Bool) (many : ℕ) → many ≤ numberOf test (p .n) → many - p .b ≤ numberOf (λ (k : ℕ). test k and N .honest k) (p .n)
+few-left p N few test many h = omega (arith, few, h, number-both test (N .honest) (p .n), number-not (N .honest) (p .n))
 
 module _ {op : Operation} {p : Plan} (N : Nodes) (o : Ours op p) (part : ℕ → List Call) (lives : Honest p N (λ (i : ℕ). Life p i (part i))) (few : FewOthers p N)
     (numbers : OwnNumbers N o part) where
@@ -116,12 +110,11 @@ module _ {op : Operation} {p : Plan} (N : Nodes) (o : Ours op p) (part : ℕ →
         go cs (n .1),
       )
 
-  -- of many nodes at most b are not honest
   honest-of : (many x : ℕ) → Quorum p Tale many x → HonestQuorum p N part (many - p .b) x
   honest-of many x w =
       record {
         executed = λ k. w .test k and N .honest k;
-        enough = omega (arith, w .enough, few, number-both (w .test) (N .honest) (p .n), number-not (N .honest) (p .n));
+        enough = few-left p N few (w .test) many (w .enough);
         honest = λ i l e. both (w .test i) (N .honest i) e .1;
         each = λ i l e. let q = both (w .test i) (N .honest i) e in w .each i l (q .0) (q .1);
       }
@@ -130,7 +123,7 @@ module _ {op : Operation} {p : Plan} (N : Nodes) (o : Ours op p) (part : ℕ →
 pub done-is-executed : {p : Plan} (N : Nodes) (r : Reading p) (part : ℕ → List Call) → Honest p N (λ (i : ℕ). Life p i (part i)) → FewOthers p N → OwnNumbers N r part
     → (v : Timestamp) → Done r v → HonestQuorum p N part (p .q) (stampNumber v)
 done-is-executed {p} N r part lives few numbers v w =
-    let q = each-last _ (w .before) (w .last) (r .turns) (w .is)
+    let q = each-at _ (w .before) (w .last) [] (r .turns) (w .is)
     (read-quorum p (Tale N r part lives few numbers) (r .ask) (r .opened) (r .opens) (r .accepted) (r .desk) (r .turns) (r .calls) (tells N r part lives few numbers)) v (w .rounds) (w .says) in
     let h = honest-of N r part lives few numbers (COMPLETE p) (stampNumber v) q in
     record { executed = h .executed; enough = omega (arith, h .enough); honest = h .honest; each = h .each }
@@ -139,7 +132,7 @@ done-is-executed {p} N r part lives few numbers v w =
 pub saved-is-executed : {p : Plan} (N : Nodes) (o : Ours Write p) (part : ℕ → List Call) → Honest p N (λ (i : ℕ). Life p i (part i)) → FewOthers p N → OwnNumbers N o part
     → (v : Timestamp) → Done o v → HonestQuorum p N part (p .n - p .t - p .b) (stampNumber v) × (p .q ≤ p .n - p .t - p .b)
 saved-is-executed {p} N o part lives few numbers v w =
-    let q = each-last _ (w .before) (w .last) (o .turns) (w .is)
+    let q = each-at _ (w .before) (w .last) [] (o .turns) (w .is)
     (write-quorum p (Tale N o part lives few numbers) (o .ask) (o .opened) (o .opens) (o .accepted) (o .desk) (o .turns) (o .calls) (tells N o part lives few numbers)) v (w .rounds) (w .says) in
     (honest-of N o part lives few numbers (replies p) (stampNumber v) q, facts p (accepted-plan Write p (o .ask) (o .opened) (o .opens) (o .accepted)) .honest-quorum)
 
@@ -193,7 +186,7 @@ module _ {p : Plan} (N : Nodes) (r : Reading p) (part : ℕ → List Call) (live
   pub done-had-executed : (v : Timestamp) → Done r v → HadExecuted p N part (r .turns) (stampNumber v)
   done-had-executed v w =
       let H : ℕ → List ℕ → Type 0 = Had (r .turns) in
-      let f = each-last _ (w .before) (w .last) (r .turns) (w .is)
+      let f = each-at _ (w .before) (w .last) [] (r .turns) (w .is)
       (each-finds H p (r .opened .session) (r .desk) (r .turns) (start H p (r .ask) (r .opened) (r .opens) (r .accepted) (r .desk)) (r .calls) (brings (r .turns) numbers)) v (w .rounds) (w .says) in
       let u = f .session in
       let e = f .desk in

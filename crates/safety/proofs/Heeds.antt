@@ -31,7 +31,6 @@ use Rattle.store.proofs.Lives.{each-one}
 use Rattle.client.specs.Endings.{readLadder}
 use Rattle.client.specs.Sessions.{lastSession, lastDesk}
 use Rattle.client.specs.Turns.{Turn, ReadTurn, Calls}
-use Rattle.client.specs.Repair.{EachTurn}
 use Rattle.client.specs.Older.{Above, AtLeast, Heeds}
 use Rattle.client.proofs.Reading.{taken}
 use Rattle.client.proofs.Went.{takes-none}
@@ -39,7 +38,7 @@ use Rattle.report.proofs.Exchange as exchange
 use Rattle.report.proofs.Exchange.{time-due, latest-due, previous-due, record-due}
 use Rattle.safety.specs.Run.{Life, Nodes, lifeOf, Reading, Stands, Owes}
 use Rattle.safety.specs.Safety.{Before, OwnNumbers, OwnAsks, HonestLives}
-use Rattle.safety.proofs.Rounds.{calls-on, session-on, desk-on}
+use Rattle.safety.proofs.Rounds.{each-at, calls-on, session-on, desk-on}
 use Rattle.safety.proofs.Requests.{own-request}
 use Rattle.safety.proofs.Answers.{split-moment, Side, late-answers}
 
@@ -69,10 +68,6 @@ takes-ask p s f d item n =
     let b = both (answersTo (headerIn f) (askNow s)) _ (not-false (awaited s f) (clear (readLadder p s f d item) n 10)) in
     eqb-true (askOf f) (askNow s) (b .0)
 
-each-in : (P : Turn → Type 0) (a : List Turn) (t : Turn) (b : List Turn) → EachTurn P (a ++ (t ∷ b)) → P t
-each-in P [] t b h = h .0
-each-in P (x ∷ a) t b h = each-in P a t b (h .1)
-
 module _ {p : Plan} (N : Nodes) (r : Reading p) (before : Before N r) (lives : HonestLives p N) (numbers : OwnNumbers N r (lifeOf N)) (asks : OwnAsks N r)
     (ts : ℕ) (executed : ℕ → Bool) (honest : (i : ℕ) → i < p .n → executed i ≡ true → N .honest i ≡ true)
     (each : (i : ℕ) → i < p .n → executed i ≡ true → ExecutedAt ts (N .early i)) where
@@ -95,7 +90,7 @@ module _ {p : Plan} (N : Nodes) (r : Reading p) (before : Before N r) (lives : H
       let h = honest i low x in
       let life = lives i low h in
       let here : Stands r s d = record { before = a; after = t ∷ b; is = e; session = refl; desk = refl } in
-      let w : Wrote (t .reply) (lifeOf N i) = each-in _ a t b (subst (EachTurn _) e numbers) takes h in
+      let w : Wrote (t .reply) (lifeOf N i) = each-at _ a t b (r .turns) e numbers takes h in
       let asked = own-request N r lives asks s d here going i low h (t .reply) w (takes-ask p s (t .reply) d (length (t .item)) n) in
       let own = asked .own in
       let one = asked .one .asks in

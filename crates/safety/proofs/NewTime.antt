@@ -1,7 +1,7 @@
 -- A COMPLETE WRITE IS STILL PASSED, over lives (document 02, Q-2; report/proofs/NewTime.antt has it of single calls): the new time of a write of ours is above the
 -- time of a write that Q honest nodes executed before they told their times. Assumes nothing.
 use Prim.Native.Nat.{ℕ, _<_}
-use mathlib.Core.Path.{_≡_, refl, sym, ap, _∙_, subst}
+use mathlib.Core.Path.{_≡_, sym, ap, _∙_, subst}
 use mathlib.Core.Bool.{Bool}
 use mathlib.Core.List.{List, _∷_, _++_, append-assoc}
 use native.Mathlib.Omega.{arith}
@@ -19,7 +19,6 @@ use Rattle.rounds.proofs.Numbers.{number-more}
 use Rattle.store.specs.History.{Call, History, lastBook, Moment, Executed}
 use Rattle.store.proofs.Latest.{told-time}
 use Rattle.store.proofs.Lives.{history-of, history-on, last-on, within}
-use Rattle.store.proofs.Passed.{fresh-passes}
 use Rattle.report.specs.Figure2.{Clock}
 use Rattle.report.specs.WriteRun.{clockOf}
 use Rattle.report.specs.NewTime.{ToWrite, newTimeOf, AnswersAfter}
@@ -27,7 +26,7 @@ use Rattle.report.proofs.NewTime.{passes-what-is-complete}
 use Rattle.safety.specs.Run.{Life, Nodes}
 use Rattle.safety.specs.Safety.{HonestLives}
 use Rattle.safety.specs.Done.{TimeExecuted, OwnTime, Told}
-use Rattle.safety.proofs.Answers.{fresh-good, replied-call}
+use Rattle.safety.proofs.Answers.{fresh-good, book-node, replied-call}
 
 -- ---- one node: it executed a record, and told its time later
 module _ (p : Plan) (N : Nodes) (x : Clock) (l : Life p (x .S) (N .early (x .S) ++ N .late (x .S))) (rec : List ℕ) (ex : Executed rec (N .early (x .S))) (own : OwnTime N x) where
@@ -84,14 +83,7 @@ module _ (p : Plan) (N : Nodes) (x : Clock) (l : Life p (x .S) (N .early (x .S) 
       record {
         book = b;
         good = w .good;
-        own = fresh-passes p (x .S) b (record {
-          lent = l .lent;
-          fresh = l .book;
-          makes = l .fresh;
-          calls = e .before;
-          history = history-of (l .book) (e .before) (e .call ∷ (e .after ++ late)) (subst (History (l .book)) first-line (l .calls));
-          is = refl;
-        }) .1;
+        own = book-node p (x .S) (early ++ late) l did;
         bytes = w .bytes;
         write = e .call .request;
         is-write = eqb-true (kindOf (e .call .request)) writeRequestKind (ex .kind);

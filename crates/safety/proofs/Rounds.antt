@@ -1,6 +1,6 @@
 -- OF ONE OPERATION THE ASK NUMBER TELLS THE ROUND (one-round): two moments at which it has not ended and its ask number is the same are in one round; and
 -- in a write or repair round the desk is the same.
---   calls-of calls-on session-on desk-on   calls before a moment, and from it on
+--   each-of each-at calls-of calls-on session-on desk-on   calls before a moment, and from it on
 -- Assumes nothing.
 use Prim.{tt}
 use Prim.Native.Nat.{ℕ, _<_}
@@ -21,6 +21,7 @@ use Rattle.session.specs.Reader.{Outcome, outcome}
 use Rattle.session.specs.Writer.{Leaves, leaves}
 use Rattle.client.specs.Asks.{Goes, stays, ends, opens}
 use Rattle.client.specs.Sessions.{lastSession, lastDesk}
+use Rattle.client.specs.Repair.{EachTurn}
 use Rattle.client.specs.Turns.{Turn, EitherTurn, Calls}
 use Rattle.client.proofs.Asks.{one-call}
 use Rattle.client.proofs.Went as went
@@ -98,6 +99,17 @@ later op p s d u e (c ∷ cs) w h =
     (then-goes s d u e (c .took .session) (c .deskLeft) w (one-call p u e c (either op p u e c (h .0)) .goes) (still op p u e c (h .0)) (stays-put op p u e c (h .0))) (h .1)
 
 -- ---- lists of calls
+pub each-of : (P : Turn → Type 0) (a b : List Turn) → EachTurn P (a ++ b) → EachTurn P a
+each-of P [] b h = tt
+each-of P (t ∷ a) b h = (h .0, each-of P a b (h .1))
+
+pub each-at : (P : Turn → Type 0) (a : List Turn) (t : Turn) (b cs : List Turn) → cs ≡ a ++ (t ∷ b) → EachTurn P cs → P t
+each-at P a t b cs e h = go a (subst (EachTurn P) e h)
+  where
+    go : (xs : List Turn) → EachTurn P (xs ++ (t ∷ b)) → P t
+    go [] k = k .0
+    go (x ∷ xs) k = go xs (k .1)
+
 pub calls-of : (C : Session → List ℕ → Turn → Type 0) (s : Session) (d : List ℕ) (a b : List Turn) → Calls C s d (a ++ b) → Calls C s d a
 calls-of C s d [] b h = tt
 calls-of C s d (t ∷ a) b h = (h .0, calls-of C (t .took .session) (t .deskLeft) a b (h .1))
@@ -119,7 +131,7 @@ record More (a b : List Turn) : Type 0 where
   rest : List Turn
   is : b ≡ a ++ rest
 
-cons-both : (x y : Turn) (xs ys : List Turn) → _≡_ {A = List Turn} (x ∷ xs) (y ∷ ys) → (x ≡ y) × (xs ≡ ys)
+pub cons-both : {A : Type 0} (x y : A) (xs ys : List A) → _≡_ {A = List A} (x ∷ xs) (y ∷ ys) → (x ≡ y) × (xs ≡ ys)
 cons-both x y xs ys e = (cc, cc)
 
 starts : (a x b y : List Turn) → a ++ x ≡ b ++ y → More a b ⊎ More b a

@@ -1,7 +1,7 @@
 -- A WRITE OF OURS THAT IS DONE WAS EXECUTED, record by record, by N-t-b or more honest nodes (saved-is-written): each reply that it took in its write round was
 -- written for a request of that round, which bears the node's record from the desk, and the desk holds the N records of the item. Assumes nothing.
 use Prim.{tt}
-use Prim.Native.Nat.{ℕ, _-_, _^_, _≤_, _<_}
+use Prim.Native.Nat.{ℕ, _-_, _^_, _<_}
 use mathlib.Core.Path.{_≡_, refl, sym, ap, _∙_, subst}
 use mathlib.Core.Bool.{Bool, true, false, not, cond}
 use mathlib.Core.List.{List, [], _∷_, _++_, append-assoc}
@@ -23,21 +23,17 @@ use Rattle.frame.proofs.Built as built
 use Rattle.frame.proofs.Frames.{request-is}
 use Rattle.record.specs.Desk.{slotOf}
 use Rattle.book.specs.Book.{nodeOf}
-use Rattle.rounds.specs.Numbers.{numberOf}
-use Rattle.rounds.proofs.Numbers.{number-both, number-not}
 use Rattle.recover.specs.Records.{crossFor, stampFor, recordsFor}
 use Rattle.standing.specs.declared.Operation.the-variants.{Write}
 use Rattle.standing.specs.declared.Round.{Round}
-use Rattle.standing.specs.Standing.{isRead, isStoring, sameOperation, awaitsIn}
+use Rattle.standing.specs.Standing.{isRead, isStoring, sameOperation, awaitsIn, replies}
 use Rattle.session.specs.declared.Session.{Session}
 use Rattle.session.specs.Session.{askNow, awaitsKind, isRefused}
 use Rattle.session.specs.Reply.{awaited, bears}
 use Rattle.session.specs.Writer.{Leaves}
 use Rattle.session.proofs.Openings.{accepted-plan}
-use Rattle.store.specs.History.{Call, History, Executed, Wrote}
-use Rattle.store.proofs.Lives.{history-of}
+use Rattle.store.specs.History.{Call, Executed, Wrote}
 use Rattle.store.proofs.Node as calls
-use Rattle.store.proofs.Passed.{fresh-passes}
 use Rattle.client.specs.Endings.{writeLadder}
 use Rattle.client.specs.Sessions.{lastSession, lastDesk}
 use Rattle.client.specs.Turns.{Turn, WriteTurn, Calls, Takes}
@@ -52,11 +48,11 @@ use Rattle.report.proofs.Sendable as sendable
 use Rattle.safety.specs.Run.{Life, Nodes, lifeOf, Ours, Stands}
 use Rattle.safety.specs.Safety.{OwnNumbers, OwnAsks, HonestLives, FewOthers}
 use Rattle.safety.specs.Done.{Saved, WrittenBy}
-use Rattle.safety.proofs.Rounds.{calls-of, calls-on}
-use Rattle.safety.proofs.Answers.{bookAt, replied-call}
+use Rattle.safety.proofs.Rounds.{each-of, each-at, calls-of, calls-on}
+use Rattle.safety.proofs.Answers.{bookAt, book-node, replied-call}
 use Rattle.safety.proofs.Requests.{own-request}
-use Rattle.safety.proofs.Done.{each-last}
-use Rattle.safety.proofs.After.{each-of, saved-made}
+use Rattle.safety.proofs.Done.{few-left}
+use Rattle.safety.proofs.After.{saved-made}
 
 -- ---- the node of a life: the node that its requests are for
 request-node : (p : Plan) (i : ℕ) (life : List Call) (l : Life p i life) (f : List ℕ) (w : Wrote f life) → frameNode (w .at .call .request) ≡ i
@@ -66,15 +62,7 @@ request-node p i life l f w =
     let b = bookAt p i life l x in
     let call = replied-call p i life l x (w .size) (w .replied) in
     let q = calls.clear p (c .request) b (c .reply) (calls.replied-is p (c .request) b (c .reply) (w .size) (c .bookLeft) (c .replyLeft) call .0) in
-    request-is p (nodeOf b) (c .request) (q .request) .node-is
-    ∙ fresh-passes p i b (record {
-      lent = l .lent;
-      fresh = l .book;
-      makes = l .fresh;
-      calls = x .before;
-      history = history-of (l .book) (x .before) (c ∷ x .after) (subst (History (l .book)) (x .is) (l .calls));
-      is = refl;
-    }) .1
+    request-is p (nodeOf b) (c .request) (q .request) .node-is ∙ book-node p i life l x
 
 -- ---- a write's reply that is taken and is no time reply: in its write round
 in-write : (p : Plan) (s : Session) (f d : List ℕ) (item : ℕ) → None (writeLadder p s f d item) → (kindOf f ≡ timeReplyKind → ⊥) → isStoring (s .round .stage) ≡ true
@@ -147,11 +135,7 @@ module _ {p : Plan} (N : Nodes) (save : Ours Write p) (item : List ℕ) (v : Tim
       ask = eqb-true (askOf (t .reply)) (askNow s) (both (answersTo (headerIn (t .reply)) (askNow s)) _ await .0)
 
       wrote : Wrote (t .reply) (N .early i)
-      wrote = go a (subst (EachTurn _) e numbers)
-        where
-          go : (xs : List Turn) → EachTurn (λ (c : Turn). Takes c → N .honest (frameNode (c .reply)) ≡ true → Wrote (c .reply) (N .early (frameNode (c .reply)))) (xs ++ (t ∷ b)) → Wrote (t .reply) (N .early i)
-          go [] k = k .0 takes h
-          go (x ∷ xs) k = go xs (k .1)
+      wrote = each-at _ a t b (save .turns) e numbers takes h
 
       -- the same, in the whole life
       in-life : Wrote (t .reply) (lifeOf N i)
@@ -220,11 +204,10 @@ module _ {p : Plan} (N : Nodes) (save : Ours Write p) (item : List ℕ) (v : Tim
   saved-is-written =
       let z = saved .done in
       let m = saved-made save item v saved in
-      let q = each-last _ (z .before) (z .last) (save .turns) (z .is)
+      let q = each-at _ (z .before) (z .last) [] (save .turns) (z .is)
       (write-quorum p Tale (save .ask) (save .opened) (save .opens) (save .accepted) d₀ (save .turns) (save .calls) tells) v (z .rounds) (z .says) in
       let ok = accepted-plan Write p (save .ask) (save .opened) (save .opens) (save .accepted) in
-      let enough : p .n - p .t - p .b ≤ numberOf (λ (k : ℕ). q .test k and N .honest k) (p .n) =
-      omega (arith, q .enough, few, number-both (q .test) (N .honest) (p .n), number-not (N .honest) (p .n)) in
+      let enough = few-left p N few (q .test) (replies p) (q .enough) in
       record {
         write = record { item = item; time = m .at; size = m .size; bytes = saved .bytes; low = m .low; high = omega (arith, m .high) };
         of-item = refl;

@@ -1,6 +1,6 @@
 -- THE LIFE OF A NODE, call by call: what was executed is held by the book of every later call (later-holds), and what a book that was fresh once holds
 -- was executed (held-executed).
---   history-of history-on each-one executed-more   the calls before a moment, those from it on; what holds of each call holds of one
+--   history-of history-on each-one each-before each-after executed-more   the calls before a moment, those from it on; what holds of each call holds of one
 --   Within              a call of a life: the book that it was on, good and of bytes
 -- Assumes nothing.
 use Prim.Native.Nat.{ℕ}
@@ -43,6 +43,14 @@ each-one P cs h x = go (x .before) (subst (EachCall P) (x .is) h)
     go : (before : List Call) → EachCall P (before ++ (x .call ∷ x .after)) → P (x .call)
     go [] k = k .0
     go (y ∷ before) k = go before (k .1)
+
+pub each-before : (P : Call → Type 0) (xs ys : List Call) → EachCall P (xs ++ ys) → EachCall P xs
+each-before P [] ys h = tt
+each-before P (x ∷ xs) ys h = (h .0, each-before P xs ys (h .1))
+
+pub each-after : (P : Call → Type 0) (xs ys : List Call) → EachCall P (xs ++ ys) → EachCall P ys
+each-after P [] ys h = h
+each-after P (x ∷ xs) ys h = each-after P xs ys (h .1)
 
 -- what was executed by a part of some calls was executed by them
 pub executed-more : (z : List ℕ) (cs xs ys : List Call) → cs ≡ xs ++ ys → Executed z xs → Executed z cs

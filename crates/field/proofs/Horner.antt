@@ -16,7 +16,7 @@ use Rattle.field.specs.Field.{xtime, mulN, mul}
 use Rattle.field.specs.Sums.{sumFrom, weighted}
 use Rattle.field.specs.Inside.{bitOf, withBit, pair, Next}
 use Rattle.field.proofs.Laws.{xtime-plus, mulN-xtime, mul-comm-f, zero-mul, one-mul, mul-lt, twice-mul}
-use Rattle.field.proofs.Xor.{xor-assoc, xor-swap}
+use Rattle.octets.proofs.Xor.{xor-assoc, xor-swap}
 
 -- ---- one weight: its lowest bit apart
 -- a place more, of a number that has no such bit

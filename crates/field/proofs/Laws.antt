@@ -8,7 +8,7 @@ use lib.Dec.{T, eqb, eqb→eq, lit<}
 use lib.Bits.{bitXor, xor-shr, xor-mod, xor-lt, xor-block, xor-zero-l, xor-zero-r}
 use Rattle.field.specs.Field.{xtime, mulN, mul}
 use Rattle.field.proofs.Below.{every, below}
-use Rattle.field.proofs.Xor.{two-cases, bit-lt, xor-assoc, xor-swap, times-bit}
+use Rattle.octets.proofs.Xor.{two-cases, bit-lt, xor-assoc, xor-swap, times-bit}
 
 -- ---- doubling
 xor-double : (a b : ℕ) → bitXor a b * 2 ≡ bitXor (a * 2) (b * 2)

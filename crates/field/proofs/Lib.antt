@@ -1,5 +1,4 @@
 pub mod Below
-pub mod Xor
 pub mod Laws
 pub mod Horner
 pub mod Division

@@ -10,7 +10,7 @@ use lib.Bits.{bitXor, xor-zero-l, xor-zero-r, xor-comm, xor-self, xor-lt}
 use lib.ListN.{length}
 use Rattle.field.specs.Field.{mul, inv, div}
 use Rattle.fragments.specs.Fragments.{All, Distinct, ratio, weightOf, blend, value, eval}
-use Rattle.field.proofs.Xor.{xor-assoc, xor-swap, xor-cancel, xor-eq}
+use Rattle.octets.proofs.Xor.{xor-assoc, xor-swap, xor-cancel, xor-eq}
 use Rattle.field.proofs.Laws.{mul-lt, mul-comm-f, mul-assoc-f, mul-left-comm, mul-plus, plus-mul, zero-mul, mul-zero-f, one-mul, mul-one-f}
 use Rattle.field.proofs.Division.{mul-inv, inv-lt, div-inv, mul-div, zero-div, div-lt}
 

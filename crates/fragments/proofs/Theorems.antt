@@ -14,7 +14,7 @@ use lib.Dec.{ltb, lit<}
 use lib.ListN.{length, getD, take, drop, drop-of-length-le, length-drop}
 use lib.Seq.{take-all, take-add, getD-drop, drop-append-add, drop-drop, take-at, length-take-le}
 use Rattle.field.specs.Field.{mul, div}
-use Rattle.field.proofs.Xor.{xor-cancel}
+use Rattle.octets.proofs.Xor.{xor-cancel}
 use Rattle.field.proofs.Laws.{mul-zero-f, zero-mul as zero-mul-f}
 use Rattle.field.proofs.Division.{div-mul}
 use Rattle.octets.specs.Bytes.{part, put, Octets}

@@ -1,10 +1,13 @@
-// SHA-256 of FIPS 180-4, of a slice, or of a short prefix and a slice that are not copied together.
+// SHA-256 of FIPS 180-4, of a slice, or of a short prefix and a slice that are not copied together. What `lanes` does with several messages side by
+// side is made of the same functions: of a word, of a round, of a block's words.
 ghost use mathlib.Core.Path.{_≡_};
-ghost use Prim.Native.Nat.{_+_, _%_, _^_, _*_, _<_, _≤_, _/_};
-ghost use mathlib.Core.List.{_++_};
+ghost use Prim.Native.Nat.{ℕ, _+_, _%_, _^_, _*_, _<_, _≤_, _/_};
+ghost use mathlib.Core.List.{List, _++_};
 ghost use lib.ListN.{length, getD, drop, set};
 ghost use Rattle.octets.specs.Bytes.{part, put, alike};
-ghost use Rattle.sha256.specs.Sha256.{K, Ch, Maj, Σ0, Σ1, σ0, σ1, roundOf, roundsOf, scheduleOf, nextWord, addedOf, compressOf, words, pad, H0, bytesOf, sha256};
+ghost use Rattle.sha256.specs.Sha256.{K, Ch, Maj, Σ0, Σ1, σ0, σ1, movedBy, roundOf, roundsOf, scheduleOf, nextWord, addedOf, compressOf, words, ended, H0, bytesOf, sha256};
+ghost use Rattle.sha256.specs.declared.State.{State};
+ghost use Rattle.sha256.specs.Inside.{Turned};
 
 // The eight working variables, or the eight words of a hash value: 6.2.2, step 2.
 pub struct State {
@@ -18,7 +21,7 @@ pub struct State {
     pub h: u32,
 }
 
-// 4.2.2: the round constants, which the loop of `rounds` reads.
+// 4.2.2: the round constants.
 const K: [u32; 64] = [
     0x428a_2f98,
     0x7137_4491,
@@ -86,6 +89,13 @@ const K: [u32; 64] = [
     0xc671_78f2,
 ];
 
+// The same as an array that a loop can read.
+pub fn constants() -> [u32; 64]
+    ensures { λ r. ⌜ r ≡ K ⌝ }
+{
+    K
+}
+
 // 4.1.2: the six functions of words. Ch and Maj are worked out with fewer operations than the standard writes them with: what y and z
 // share need not be looked at.
 fn ch(x: u32, y: u32, z: u32) -> u32
@@ -112,13 +122,31 @@ fn big1(x: u32) -> u32
     (x >> 6 | x << 26) ^ (x >> 11 | x << 21) ^ (x >> 25 | x << 7)
 }
 
-fn small0(x: u32) -> u32
+// The two big sigmas once more, each rotation on top of the one before: of a single message that is two copies of a word fewer, and fewer words at
+// hand at a time. Side by side it gains nothing, since vectors have no rotation.
+fn turned0(x: u32) -> u32
+    ensures { λ r. ⌜ r ≡ Σ0 x ⌝ }
+{
+    let y = x ^ (x >> 9 | x << 23);
+    let z = x ^ (y >> 11 | y << 21);
+    z >> 2 | z << 30
+}
+
+fn turned1(x: u32) -> u32
+    ensures { λ r. ⌜ r ≡ Σ1 x ⌝ }
+{
+    let y = x ^ (x >> 14 | x << 18);
+    let z = x ^ (y >> 5 | y << 27);
+    z >> 6 | z << 26
+}
+
+pub fn small0(x: u32) -> u32
     ensures { λ r. ⌜ r ≡ σ0 x ⌝ }
 {
     (x >> 7 | x << 25) ^ (x >> 18 | x << 14) ^ x >> 3
 }
 
-fn small1(x: u32) -> u32
+pub fn small1(x: u32) -> u32
     ensures { λ r. ⌜ r ≡ σ1 x ⌝ }
 {
     (x >> 17 | x << 15) ^ (x >> 19 | x << 13) ^ x >> 10
@@ -131,7 +159,7 @@ fn add2(a: u32, b: u32) -> u32
     ((a as u64 + b as u64) % 4294967296) as u32
 }
 
-fn add4(a: u32, b: u32, c: u32, d: u32) -> u32
+pub fn add4(a: u32, b: u32, c: u32, d: u32) -> u32
     ensures { λ r. ⌜ r ≡ (a + b + c + d) % 2 ^ 32 ⌝ }
 {
     ((a as u64 + b as u64 + c as u64 + d as u64) % 4294967296) as u32
@@ -143,12 +171,10 @@ fn add5(a: u32, b: u32, c: u32, d: u32, e: u32) -> u32
     ((a as u64 + b as u64 + c as u64 + d as u64 + e as u64) % 4294967296) as u32
 }
 
-// One round: 6.2.2, step 3.
-fn round(s: State, k: u32, w: u32) -> State
-    ensures { λ r. ⌜ r ≡ roundOf s k w ⌝ }
+// One round, 6.2.2, step 3, once its two sums are made.
+fn moved(s: State, t1: u32, t2: u32) -> State
+    ensures { λ r. ⌜ r ≡ movedBy s t1 t2 ⌝ }
 {
-    let t1 = add5(s.h, big1(s.e), ch(s.e, s.f, s.g), k, w);
-    let t2 = add2(big0(s.a), maj(s.a, s.b, s.c));
     State {
         a: add2(t1, t2),
         b: s.a,
@@ -161,10 +187,27 @@ fn round(s: State, k: u32, w: u32) -> State
     }
 }
 
-// Round t of 6.2.2, step 3.
+// One round of a single message.
+fn round(s: State, k: u32, w: u32) -> State
+    ensures { λ r. ⌜ r ≡ roundOf s k w ⌝ }
+{
+    let t1 = add5(s.h, turned1(s.e), ch(s.e, s.f, s.g), k, w);
+    let t2 = add2(turned0(s.a), maj(s.a, s.b, s.c));
+    moved(s, t1, t2)
+}
+
+// One round of one of several messages.
+pub fn plain_round(s: State, k: u32, w: u32) -> State
+    ensures { λ r. ⌜ r ≡ roundOf s k w ⌝ }
+{
+    let t1 = add5(s.h, big1(s.e), ch(s.e, s.f, s.g), k, w);
+    let t2 = add2(big0(s.a), maj(s.a, s.b, s.c));
+    moved(s, t1, t2)
+}
+
+// Round t.
 fn at(s: State, k: &[u32; 64], w: &[u32; 64], t: usize) -> State
-    requires { ⌜ t < 64 ⌝ }
-    requires { ⌜ now k ≡ K ⌝ }
+    requires { ⌜ (t < 64) × (now k ≡ K) ⌝ }
     ensures { λ r. ⌜ r ≡ roundOf s (getD K t 0) (getD (now (w .entry)) t 0) ⌝ }
 {
     round(s, k[t], w[t])
@@ -172,21 +215,57 @@ fn at(s: State, k: &[u32; 64], w: &[u32; 64], t: usize) -> State
 
 // 6.2.2, step 1: one more word of the message schedule.
 fn step(w: &mut [u32; 64], t: usize)
-    requires { ⌜ 16 ≤ t ⌝ }
-    requires { ⌜ t < 64 ⌝ }
+    requires { ⌜ (16 ≤ t) × (t < 64) ⌝ }
     ensures { λ _. ⌜ now (w .exit) ≡ set (now (w .entry)) t (nextWord (now (w .entry)) t) ⌝ }
 {
     w[t] = add4(small1(w[t - 2]), w[t - 7], small0(w[t - 15]), w[t - 16]);
 }
 
-// The message schedule and the 64 rounds, 6.2.2, steps 1 to 3: four rounds to a turn, and in the first 48 the word that is wanted 16
-// rounds later beside each.
-fn rounds(s0: State, m: &[u32; 16]) -> State
-    requires { ⌜ length (now m) ≡ 16 ⌝ }
-    ensures { λ r. ⌜ r ≡ roundsOf (scheduleOf 48 (now (m .entry))) 64 s0 ⌝ }
+// Round t, and then the word that is wanted 16 rounds later.
+fn round_and_word(s: State, k: &[u32; 64], w: &mut [u32; 64], t: usize) -> State
+    requires { ⌜ (t < 48) × (now k ≡ K) × (length (now w) ≡ 64) ⌝ }
+    ensures { λ r. ⌜ Turned 1 t (now (w .entry)) s (now (w .exit)) r ⌝ }
 {
-    let k = K;
-    let mut w = [0u32; 64];
+    let r = at(s, k, w, t);
+    step(w, t + 16);
+    r
+}
+
+// Eight rounds from t on, after each the word that is wanted 16 rounds later.
+fn rounds_and_words(s: State, k: &[u32; 64], w: &mut [u32; 64], t: usize) -> State
+    requires { ⌜ (t + 8 ≤ 48) × (now k ≡ K) × (length (now w) ≡ 64) ⌝ }
+    ensures { λ r. ⌜ Turned 8 t (now (w .entry)) s (now (w .exit)) r ⌝ }
+{
+    let s1 = round_and_word(s, k, w, t);
+    let s2 = round_and_word(s1, k, w, t + 1);
+    let s3 = round_and_word(s2, k, w, t + 2);
+    let s4 = round_and_word(s3, k, w, t + 3);
+    let s5 = round_and_word(s4, k, w, t + 4);
+    let s6 = round_and_word(s5, k, w, t + 5);
+    let s7 = round_and_word(s6, k, w, t + 6);
+    round_and_word(s7, k, w, t + 7)
+}
+
+// Eight rounds from t on, whose words are there.
+fn rounds_alone(s: State, k: &[u32; 64], w: &[u32; 64], t: usize) -> State
+    requires { ⌜ (t + 8 ≤ 64) × (now k ≡ K) ⌝ }
+    ensures { λ r. ⌜ ((s₀ : State) → s ≡ roundsOf (now (w .entry)) t s₀ → r ≡ roundsOf (now (w .entry)) (t + 8) s₀) ⌝ }
+{
+    let s1 = at(s, k, w, t);
+    let s2 = at(s1, k, w, t + 1);
+    let s3 = at(s2, k, w, t + 2);
+    let s4 = at(s3, k, w, t + 3);
+    let s5 = at(s4, k, w, t + 4);
+    let s6 = at(s5, k, w, t + 5);
+    let s7 = at(s6, k, w, t + 6);
+    at(s7, k, w, t + 7)
+}
+
+// The message schedule and the 64 rounds, 6.2.2, steps 1 to 3; w is where the schedule is made.
+fn rounds(s0: State, m: &[u32; 16], k: &[u32; 64], w: &mut [u32; 64]) -> State
+    requires { ⌜ (length (now m) ≡ 16) × (now k ≡ K) × (length (now w) ≡ 64) ⌝ }
+    ensures { λ r. ⌜ (r ≡ roundsOf (scheduleOf 48 (now (m .entry))) 64 s0) × (length (now (w .exit)) ≡ 64) ⌝ }
+{
     let mut i: usize = 0;
     while i < 16 {
         w[i] = m[i];
@@ -195,28 +274,18 @@ fn rounds(s0: State, m: &[u32; 16]) -> State
     let mut s = s0;
     let mut t: usize = 0;
     while t < 48 {
-        step(&mut w, t + 16);
-        s = at(s, &k, &w, t);
-        step(&mut w, t + 17);
-        s = at(s, &k, &w, t + 1);
-        step(&mut w, t + 18);
-        s = at(s, &k, &w, t + 2);
-        step(&mut w, t + 19);
-        s = at(s, &k, &w, t + 3);
-        t += 4;
+        s = rounds_and_words(s, k, w, t);
+        t += 8;
     }
     while t < 64 {
-        s = at(s, &k, &w, t);
-        s = at(s, &k, &w, t + 1);
-        s = at(s, &k, &w, t + 2);
-        s = at(s, &k, &w, t + 3);
-        t += 4;
+        s = rounds_alone(s, k, w, t);
+        t += 8;
     }
     s
 }
 
 // 6.2.2, step 4.
-fn added(x: State, y: State) -> State
+pub fn added(x: State, y: State) -> State
     ensures { λ r. ⌜ r ≡ addedOf x y ⌝ }
 {
     State {
@@ -232,25 +301,25 @@ fn added(x: State, y: State) -> State
 }
 
 // 6.2.2: one block.
-fn compress(h: State, m: &[u32; 16]) -> State
-    requires { ⌜ length (now m) ≡ 16 ⌝ }
-    ensures { λ r. ⌜ r ≡ compressOf h (now (m .entry)) ⌝ }
+fn compress(h: State, m: &[u32; 16], k: &[u32; 64], w: &mut [u32; 64]) -> State
+    requires { ⌜ (length (now m) ≡ 16) × (now k ≡ K) × (length (now w) ≡ 64) ⌝ }
+    ensures { λ r. ⌜ (r ≡ compressOf h (now (m .entry))) × (length (now (w .exit)) ≡ 64) ⌝ }
 {
-    added(h, rounds(h, m))
+    let r = rounds(h, m, k, w);
+    added(h, r)
 }
 
 // 5.2.1: four bytes as a word.
-fn word(a: u8, b: u8, c: u8, d: u8) -> u32
+pub fn word(a: u8, b: u8, c: u8, d: u8) -> u32
     ensures { λ r. ⌜ r ≡ a * 2 ^ 24 + b * 2 ^ 16 + c * 2 ^ 8 + d ⌝ }
 {
     a as u32 * 16777216 + b as u32 * 65536 + c as u32 * 256 + d as u32
 }
 
-// Byte i of the padded message, 5.1.1, whose message is p and then s.
-fn padded(p: &[u8], s: &[u8], i: usize) -> u8
-    requires { ⌜ length (now p) + length (now s) < 2 ^ 61 ⌝ }
-    requires { ⌜ i < (length (now p) + length (now s) + 72) / 64 * 64 ⌝ }
-    ensures { λ r. ⌜ r ≡ getD (pad (now (p .entry) ++ now (s .entry))) i 0 ⌝ }
+// Byte i of a padded message, 5.1.1, from byte `before` on, where it is p and then s that lies there.
+fn padded(p: &[u8], s: &[u8], before: usize, i: usize) -> u8
+    requires { ⌜ (before + (length (now p) + length (now s)) < 2 ^ 61) × (before % 64 ≡ 0) × (i < (length (now p) + length (now s) + 72) / 64 * 64) ⌝ }
+    ensures { λ r. ⌜ r ≡ getD (ended before (now (p .entry) ++ now (s .entry))) i 0 ⌝ }
 {
     if i < p.len() {
         return p[i];
@@ -266,7 +335,7 @@ fn padded(p: &[u8], s: &[u8], i: usize) -> u8
     if i + 8 < end {
         return 0;
     }
-    let bits = 8 * (n as u64);
+    let bits = 8 * ((before + n) as u64);
     ((bits >> 8 * (end - 1 - i)) % 256) as u8
 }
 
@@ -286,46 +355,44 @@ fn load_whole(s: &[u8], at: usize) -> [u32; 16]
 }
 
 // The 16 words from at on, of the padded message.
-fn load_padded(p: &[u8], s: &[u8], at: usize) -> [u32; 16]
-    requires { ⌜ length (now p) + length (now s) < 2 ^ 61 ⌝ }
-    requires { ⌜ at + 64 ≤ (length (now p) + length (now s) + 72) / 64 * 64 ⌝ }
-    ensures { λ r. ⌜ r ≡ words 16 (drop at (pad (now (p .entry) ++ now (s .entry)))) ⌝ }
+fn load_padded(p: &[u8], s: &[u8], before: usize, at: usize) -> [u32; 16]
+    requires { ⌜ (before + (length (now p) + length (now s)) < 2 ^ 61) × (before % 64 ≡ 0) × (at + 64 ≤ (length (now p) + length (now s) + 72) / 64 * 64) ⌝ }
+    ensures { λ r. ⌜ r ≡ words 16 (drop at (ended before (now (p .entry) ++ now (s .entry)))) ⌝ }
 {
     let mut w = [0u32; 16];
     let mut i: usize = 0;
     while i < 16 {
         let j = at + 4 * i;
         w[i] = word(
-            padded(p, s, j),
-            padded(p, s, j + 1),
-            padded(p, s, j + 2),
-            padded(p, s, j + 3),
+            padded(p, s, before, j),
+            padded(p, s, before, j + 1),
+            padded(p, s, before, j + 2),
+            padded(p, s, before, j + 3),
         );
         i += 1;
     }
     w
 }
 
-// Block k of the padded message.
-fn load(p: &[u8], s: &[u8], k: usize) -> [u32; 16]
-    requires { ⌜ length (now p) + length (now s) < 2 ^ 61 ⌝ }
-    requires { ⌜ k < (length (now p) + length (now s) + 72) / 64 ⌝ }
-    ensures { λ r. ⌜ r ≡ words 16 (drop (64 * k) (pad (now (p .entry) ++ now (s .entry)))) ⌝ }
+// Block k of the padded message from byte `before` on.
+pub fn load(p: &[u8], s: &[u8], before: usize, k: usize) -> [u32; 16]
+    requires { ⌜ (before + (length (now p) + length (now s)) < 2 ^ 61) × (before % 64 ≡ 0) × (k < (length (now p) + length (now s) + 72) / 64) ⌝ }
+    ensures { λ r. ⌜ r ≡ words 16 (drop (64 * k) (ended before (now (p .entry) ++ now (s .entry)))) ⌝ }
 {
     let at = 64 * k;
     if at < p.len() {
-        return load_padded(p, s, at);
+        return load_padded(p, s, before, at);
     }
     let from = at - p.len();
     if from + 64 <= s.len() {
         load_whole(s, from)
     } else {
-        load_padded(p, s, at)
+        load_padded(p, s, before, at)
     }
 }
 
 // 5.3.3: the first hash value.
-fn initial() -> State
+pub fn initial() -> State
     ensures { λ r. ⌜ r ≡ H0 ⌝ }
 {
     State {
@@ -341,7 +408,7 @@ fn initial() -> State
 }
 
 // The eight words of a hash value as 32 bytes.
-fn bytes_of(s: State) -> [u8; 32]
+pub fn bytes_of(s: State) -> [u8; 32]
     ensures { λ r. ⌜ r ≡ bytesOf s ⌝ }
 {
     [
@@ -386,11 +453,13 @@ pub fn digest_after(p: &[u8], s: &[u8]) -> [u8; 32]
     ensures { λ r. ⌜ r ≡ sha256 (now (p .entry) ++ now (s .entry)) ⌝ }
 {
     let n = (p.len() + s.len() + 72) / 64;
+    let c = constants();
+    let mut w = [0u32; 64];
     let mut h = initial();
     let mut k: usize = 0;
     while k < n {
-        let m = load(p, s, k);
-        h = compress(h, &m);
+        let m = load(p, s, 0, k);
+        h = compress(h, &m, &c, &mut w);
         k += 1;
     }
     bytes_of(h)

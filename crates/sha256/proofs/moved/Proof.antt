@@ -1,0 +1,6 @@
+use borrow.Author.Needs.{needs}
+use Rattle.sha256.proofs.moved.Statement.{statement}
+use Rattle.sha256.proofs.moved.Tie as tie
+
+pub moved-spec : {M : Type 1} → statement M
+moved-spec = tie.close (tie.spec (λ c κs. search needs) (λ c κs. search needs) (λ c. cc))

@@ -16,7 +16,7 @@ use Rattle.terms.specs.Terms.{fragmentAt, runsOf}
 use Rattle.terms.proofs.Rungs.{both}
 use Rattle.terms.proofs.Plans.{not-ok}
 use Rattle.fragments.specs.Fragments.{among, Sources}
-use Rattle.primitives.specs.Calls.{Told, hashFits, runsFit, encodeFits, apart, named, decodeFits}
+use Rattle.primitives.specs.Calls.{Told, hashFits, runsFit, hashesFit, encodeFits, apart, named, decodeFits}
 
 module _ (fits : Bool) (new before : List ℕ) where
   pub done : fits ≡ true → {after : List ℕ} → after ≡ new → Told fits new 0 before after
@@ -88,6 +88,29 @@ module _ (count F bytes : ℕ) where
   pub runs-yes : 1 ≤ count → count ≤ 16 → 1 ≤ F → F ≤ 1024 → eqb bytes (count * F) ≡ runsFit count F bytes
   unfolding runsFit
   runs-yes a b c d = sym (on _ (le-leb _ _ a) ∙ on _ (le-leb _ _ b) ∙ on _ (le-leb _ _ c) ∙ on _ (le-leb _ _ d) ∙ last _)
+
+-- ---- messages side by side
+module _ (count H F heads s out : ℕ) where
+  pub hashes-are : hashesFit count H F heads s out ≡ true → RunsAre count F s × RunsAre count 32 out × (H ≤ 16) × (heads ≡ count * H)
+  unfolding hashesFit
+  hashes-are e =
+      let e1 = rest _ _ e in
+      let e2 = rest _ _ (e1 .1) in
+      let e3 = rest _ _ (e2 .1) in
+      (runs-are _ _ _ (e1 .0), runs-are _ _ _ (e2 .0), leb-true _ _ (e3 .0), eqb-true _ _ (sym (last _) ∙ e3 .1))
+
+  pub hashes-no : ((runsFit count F s ≡ true) × (runsFit count 32 out ≡ true) × (H ≤ 16) → ⊥) → false ≡ hashesFit count H F heads s out
+  unfolding hashesFit
+  hashes-no h =
+      not-ok _ (λ e. let e1 = rest _ _ e in let e2 = rest _ _ (e1 .1) in let e3 = rest _ _ (e2 .1) in h (e1 .0, e2 .0, leb-true _ _ (e3 .0)))
+
+  pub hashes-yes : runsFit count F s ≡ true → runsFit count 32 out ≡ true → H ≤ 16 → eqb heads (count * H) ≡ hashesFit count H F heads s out
+  unfolding hashesFit
+  hashes-yes a b c = sym (on _ a ∙ on _ b ∙ on _ (le-leb _ _ c) ∙ last _)
+
+-- a row among count of its size
+pub row-fits : (i count size bytes : ℕ) → i < count → bytes ≡ count * size → 0 + i * size + size ≤ bytes
+row-fits i count size bytes h e = omega (arith, slot-fits i count size h)
 
 -- ---- encoding
 module _ (n m F item desk : ℕ) where

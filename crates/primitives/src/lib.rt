@@ -5,9 +5,12 @@ ghost use mathlib.Core.Path.{_≡_};
 ghost use Prim.Native.Nat.{_+_, _<_, _≤_};
 ghost use lib.ListN.{length, getD, drop};
 ghost use Rattle.sha256.specs.Sha256.{sha256};
+ghost use Rattle.lanes.specs.Lanes.{hashedInto};
 ghost use Rattle.terms.specs.Terms.{runsOf};
 ghost use Rattle.fragments.specs.Fragments.{encoded, laid};
-ghost use Rattle.primitives.specs.Calls.{Told, hashFits, runsFit, encodeFits, apart, named, decodeFits};
+ghost use Rattle.primitives.specs.Calls.{Told, hashFits, runsFit, hashesFit, messages, encodeFits, apart, named, decodeFits};
+use lanes::Batch;
+use lanes::Rows;
 
 // Whether p and s bytes together are below the limit of FIPS 180-4, section 1, and `out` is the length of a hash.
 fn hash_fits(p: usize, s: usize, out: usize) -> bool
@@ -57,6 +60,59 @@ fn runs_fit(count: usize, f: usize, bytes: usize) -> bool
         return false;
     }
     bytes == count * f
+}
+
+// Whether there are `count` messages, each h bytes of heads and then f bytes of s, and out is the length of their hashes.
+fn hashes_fit(count: usize, h: usize, f: usize, heads: usize, s: usize, out: usize) -> bool
+    ensures { λ r. ⌜ r ≡ hashesFit count h f heads s out ⌝ }
+{
+    if !runs_fit(count, f, s) {
+        return false;
+    }
+    if !runs_fit(count, 32, out) {
+        return false;
+    }
+    if h > 16 {
+        return false;
+    }
+    heads == count * h
+}
+
+// The hashes of `count` messages side by side, each h bytes of heads and then f bytes of s, one after another into out.
+#[no_mangle]
+pub extern "C" fn primitives_hashes(
+    heads: &[u8],
+    h: usize,
+    s: &[u8],
+    f: usize,
+    count: usize,
+    out: &mut [u8],
+) -> u32
+    ensures { λ r. ⌜ Told
+        (hashesFit count h f (length (now (heads .entry))) (length (now (s .entry))) (length (now (out .entry))))
+        (hashedInto (now (heads .entry)) (now (s .entry)) (messages h f count) 0 32 count (now (out .entry)))
+        r
+        (now (out .entry))
+        (now (out .exit)) ⌝ }
+{
+    if !hashes_fit(count, h, f, heads.len(), s.len(), out.len()) {
+        return 2;
+    }
+    let all = Batch {
+        heads: Rows {
+            first: 0,
+            stride: h,
+            size: h,
+        },
+        bodies: Rows {
+            first: 0,
+            stride: f,
+            size: f,
+        },
+        n: count,
+    };
+    lanes::digests(heads, s, all, out, 0, 32);
+    0
 }
 
 // Whether the lengths of an item and a desk are those of m runs and n fragments.

@@ -15,6 +15,8 @@ use Rattle.octets.proofs.Laws.{length-part, length-put, put-nil, put-then, part
 use Rattle.octets.proofs.Meaning.{part-add, alike-refl, num-be}
 use Rattle.sha256.specs.Sha256.{sha256}
 use Rattle.sha256.proofs.Laws.{sha256-length, whole}
+use Rattle.lanes.specs.declared.Batch.{Batch}
+use Rattle.lanes.specs.Lanes.{Lying, hashedInto}
 use Rattle.terms.specs.Terms.{planOk, recordLength, slotsOf, slotAt, fragmentAt}
 use Rattle.terms.specs.declared.Slots.{Slots}
 use Rattle.terms.specs.declared.Plan.{Plan}
@@ -192,25 +194,34 @@ module _ (p : Plan) (d : List ℕ) where
 
 -- the fragments of a desk, lent one by one by the numbers of the plan's slots
 module _ (p : Plan) (d : List ℕ) (s : Slots) (ok : planOk p ≡ true) (ld : length d ≡ p .n * recordLength p) (es : s ≡ slotsOf p) where
-  pub entry-fits : (k : ℕ) → k < s .n → fragmentAt s k + s .fragment ≤ length d
+  entry-fits : (k : ℕ) → k < s .n → fragmentAt s k + s .fragment ≤ length d
   entry-fits k h =
       let q = slots-are p s ok es in
       rw es (sources p d (p .n) ld k (omega (arith, q .n-is)))
 
-  pub entry-length : (k : ℕ) → k < s .n → length (take (fragmentAt s k + s .fragment - fragmentAt s k) (drop (fragmentAt s k) d)) ≡ p .f
-  entry-length k h =
-      let q = slots-are p s ok es in
-      let z : fragmentAt s k + s .fragment - fragmentAt s k ≡ p .f = omega (arith, q .fragment-is) in
-      ap length (taken d (fragmentAt s k) (fragmentAt s k + s .fragment - fragmentAt s k) (p .f) z)
-      ∙ length-part d (fragmentAt s k) (p .f) (omega (arith, entry-fits k h, q .fragment-is))
+-- the fragments of a desk as a batch of messages, each after its prefix, and all of it lies in what is lent
+abbrev pub fragmentsIn : ℕ → Slots → Batch
+fragmentsIn z s = record { heads = record { first = 0; stride = 16; size = z }; bodies = record { first = s .head; stride = s .size; size = s .fragment }; n = s .n }
 
-pub entry-turn : (p : Plan) (d : List ℕ) (s : Slots) → s ≡ slotsOf p → (out out₀ : List ℕ) (at k : ℕ) → at ≤ length out₀
-    → out ≡ put out₀ at (crossMade p (fragmentIn p d) k)
-    → put out (at + 32 * k) (fragmentHash p k (take (fragmentAt s k + s .fragment - fragmentAt s k) (drop (fragmentAt s k) d)))
-    ≡ put out₀ at (crossMade p (fragmentIn p d) (k + 1))
-entry-turn p d s es out out₀ at k h e =
-    let a : ℕ = fragmentAt (slotsOf p) k in
-    rw (es, taken d a (a + p .f - a) (p .f) (omega arith), fragment-in p d k) (cross-turn p (fragmentIn p d) out out₀ at k h e)
+pub fragments-lie : (p : Plan) (heads d : List ℕ) (z : ℕ) (s : Slots) → planOk p ≡ true → length d ≡ p .n * recordLength p → s ≡ slotsOf p → length heads ≡ 256 → z ≤ 16
+    → Lying heads d (fragmentsIn z s)
+fragments-lie p heads d z s ok ld es h b =
+    let q = slots-are p s ok es in
+    record { of-heads = λ i l. omega (arith, q .n-is, q .n-high); of-bodies = λ i l. entry-fits p d s ok ld es i l }
+
+-- their hashes, laid into a buffer, are the cross checksum
+pub crossed : (p : Plan) (heads d : List ℕ) (z : ℕ) (s : Slots) → s ≡ slotsOf p → ((k : ℕ) → k < 16 → part heads (16 * k) z ≡ prefixOf p k)
+    → (out : List ℕ) (at n : ℕ) → n ≤ 16 → at ≤ length out → hashedInto heads d (fragmentsIn z s) at 32 n out ≡ put out at (crossMade p (fragmentIn p d) n)
+unfolding hashedInto
+crossed p heads d z s es f out at zero b h = cross-start p (fragmentIn p d) out at
+crossed p heads d z s es f out at (suc n) b h =
+    let e : at + n * 32 ≡ at + 32 * n = omega arith in
+    let a : 0 + n * 16 ≡ 16 * n = omega arith in
+    let m : part d (fragmentAt s n) (s .fragment) ≡ fragmentIn p d n = ap (λ (t : Slots). part d (fragmentAt t n) (t .fragment)) es ∙ fragment-in p d n in
+    (λ i. put (hashedInto heads d (fragmentsIn z s) at 32 n out) (e i) (sha256 (part heads (a i) z ++ m i)))
+    ∙ ap (put (hashedInto heads d (fragmentsIn z s) at 32 n out) (at + 32 * n)) (hashed p n (part heads (16 * n) z) (fragmentIn p d n) (f n (omega arith)))
+    ∙ cross-turn p (fragmentIn p d) (hashedInto heads d (fragmentsIn z s) at 32 n out) out at n h (crossed p heads d z s es f out at n (omega arith) h)
+    ∙ ap (λ (k : ℕ). put out at (crossMade p (fragmentIn p d) k)) (add-one n)
 
 pub room : (p : Plan) (l : ℕ) → planOk p ≡ true → l ≡ p .n * recordLength p → slotsOf p .head ≤ l
 room p l k ld = let q = plan-is p k in omega (arith, slot-fits 0 (p .n) (recordLength p) (q .n-low), record-length p)

@@ -3,56 +3,48 @@
 ghost use mathlib.Core.Path.{_≡_};
 ghost use mathlib.Core.Bool.{true};
 ghost use mathlib.Core.List.{[]};
-ghost use Prim.Native.Nat.{_+_, _-_, _*_, _≤_, _<_};
-ghost use lib.ListN.{length, take, drop};
+ghost use Prim.Native.Nat.{ℕ, _+_, _-_, _*_, _≤_, _<_};
+ghost use lib.ListN.{length, drop};
 ghost use Rattle.octets.specs.Bytes.{part, put, be, alike};
 ghost use Rattle.sha256.specs.Sha256.{sha256};
 ghost use Rattle.terms.specs.Terms.{planOk, recordLength, fragmentAt};
 ghost use Rattle.terms.specs.Stamp.{stampNumber, stampAt};
 ghost use Rattle.record.specs.Record.{stampOf, crossOf, prefixOf, fragmentHash, hashesOk, timeZero};
 ghost use Rattle.record.specs.Desk.{slotOf, fragmentIn, crossMade, deskOf, stampMade};
+use lanes::Batch;
+use lanes::Rows;
 use terms::Hash;
 use terms::Plan;
 use terms::Slots;
 use terms::Time;
 use terms::Timestamp;
 
-// What is hashed before a fragment: the first `size` of the array.
-pub struct Prefix {
-    pub bytes: [u8; 16],
+// What is hashed before the fragments of nodes 0 to 15: for each the first `size` of 16 bytes.
+pub struct PrefixRows {
+    pub bytes: [u8; 256],
     pub size: usize,
 }
 
-// What is hashed before the fragment of a node: nothing, under every plan.
-fn prefix_of(p: Plan, node: usize) -> Prefix
-    ensures { λ r. ⌜ (take (r .size) (r .bytes) ≡ prefixOf p node) × (length (r .bytes) ≡ 16) × (r .size ≤ 16) ⌝ }
+// What is hashed before the fragment of each node: nothing, under every plan.
+fn prefixes(p: Plan) -> PrefixRows
+    ensures { λ r. ⌜ (length (r .bytes) ≡ 256) × (r .size ≤ 16) × ((k : ℕ) → k < 16 → part (r .bytes) (16 * k) (r .size) ≡ prefixOf p k) ⌝ }
 {
-    Prefix {
-        bytes: [0; 16],
+    PrefixRows {
+        bytes: [0; 256],
         size: 0,
     }
 }
 
-// The hash of a node's fragment, as an entry of a cross checksum, into out at `at`.
-fn entry(p: Plan, node: usize, fragment: &[u8], out: &mut [u8], at: usize)
-    requires { ⌜ (length (now fragment) ≤ 1024) × (at + 32 ≤ length (now out)) ⌝ }
-    ensures { λ _. ⌜ now (out .exit) ≡ put (now (out .entry)) at (fragmentHash p node (now (fragment .entry))) ⌝ }
-{
-    let x = prefix_of(p, node);
-    let b = x.bytes;
-    let n = x.size;
-    sha256::digest_into(&b[..n], fragment, out, at);
-}
-
 // Whether the entry at `at` is the hash of a node's fragment.
 pub fn entry_ok(p: Plan, node: usize, fragment: &[u8], s: &[u8], at: usize) -> bool
-    requires { ⌜ (length (now fragment) ≤ 1024) × (at + 32 ≤ length (now s)) ⌝ }
+    requires { ⌜ (length (now fragment) ≤ 1024) × (at + 32 ≤ length (now s)) × (node < 16) ⌝ }
     ensures { λ r. ⌜ r ≡ alike (fragmentHash p node (now (fragment .entry))) (part (now (s .entry)) at 32) ⌝ }
 {
-    let x = prefix_of(p, node);
+    let x = prefixes(p);
     let b = x.bytes;
-    let n = x.size;
-    sha256::matches(&b[..n], fragment, s, at)
+    let from = 16 * node;
+    let end = from + x.size;
+    sha256::matches(&b[from..end], fragment, s, at)
 }
 
 // Whether the verifier of the record at `at` is the hash of its cross checksum, where the two and the time are `head` bytes.
@@ -97,17 +89,24 @@ pub fn cross(p: Plan, desk: &[u8], out: &mut [u8], at: usize)
     ensures { λ _. ⌜ now (out .exit) ≡ put (now (out .entry)) at (crossMade p (fragmentIn p (now (desk .entry))) (p .n)) ⌝ }
 {
     let slots = terms::slots_of(p);
-    let n = slots.n;
-    let head = slots.head;
-    let size = slots.size;
-    let f = slots.fragment;
-    let mut k: usize = 0;
-    while k < n {
-        let from = head + k * size;
-        let end = from + f;
-        entry(p, k, &desk[from..end], out, at + 32 * k);
-        k += 1;
-    }
+    let x = prefixes(p);
+    let b = x.bytes;
+    let heads = Rows {
+        first: 0,
+        stride: 16,
+        size: x.size,
+    };
+    let bodies = Rows {
+        first: slots.head,
+        stride: slots.size,
+        size: slots.fragment,
+    };
+    let all = Batch {
+        heads: heads,
+        bodies: bodies,
+        n: slots.n,
+    };
+    lanes::digests(&b, desk, all, out, at, 32);
 }
 
 // Writing: the timestamp of a time and the cross checksum at `at`, whose hash is its verifier.

@@ -1,15 +1,49 @@
 // The published vectors, run: SHA-256 of FIPS 180-4's examples, the worked examples of FIPS 197 sections 4.1 and 4.2, and document 01's
 // columns with m = 2, encoded and brought back from their last two fragments. What this writes is held to the file `stdout`.
+use lanes::Batch;
+use lanes::Rows;
 use libc::STDOUT_FILENO;
 ghost use mathlib.Core.Path.{_≡_};
 ghost use Prim.Native.Nat.{_<_, _^_};
 ghost use lib.ListN.{length};
 
-// A line: the name, and the hash in hexadecimal.
+// Of thirteen hashes of p and then s side by side, a group of eight, one of four and a single one: how many are what a hash alone is, up to the first that is not.
+fn alike(p: &[u8], s: &[u8]) -> u64
+    requires { ⌜ length (now p) < 2 ^ 60 ⌝ }
+    requires { ⌜ length (now s) < 2 ^ 60 ⌝ }
+{
+    let x = Batch {
+        heads: Rows {
+            first: 0,
+            stride: 0,
+            size: p.len(),
+        },
+        bodies: Rows {
+            first: 0,
+            stride: 0,
+            size: s.len(),
+        },
+        n: 13,
+    };
+    let d = sha256::digest_after(p, s);
+    let mut out = [0u8; 416];
+    lanes::digests(p, s, x, &mut out, 0, 32);
+    let mut i: usize = 0;
+    while i < 13 {
+        if !octets::same(&d, 0, &out, 32 * i, 32) {
+            return i as u64;
+        }
+        i += 1;
+    }
+    13
+}
+
+// A line: the name, the hash in hexadecimal, and how many side by side came to the same.
 fn hash(name: &[u8], p: &[u8], s: &[u8])
     requires { ⌜ length (now p) < 2 ^ 60 ⌝ }
     requires { ⌜ length (now s) < 2 ^ 60 ⌝ }
 {
+    let same = alike(p, s);
     let d = sha256::digest_after(p, s);
     io::write_all(STDOUT_FILENO, b"SHA-256 ");
     io::write_all(STDOUT_FILENO, name);
@@ -18,6 +52,8 @@ fn hash(name: &[u8], p: &[u8], s: &[u8])
     io::print_hex(STDOUT_FILENO, octets::get(&d, 8, 8), 16);
     io::print_hex(STDOUT_FILENO, octets::get(&d, 16, 8), 16);
     io::print_hex(STDOUT_FILENO, octets::get(&d, 24, 8), 16);
+    io::write_all(STDOUT_FILENO, b" side by side ");
+    io::print_decimal(STDOUT_FILENO, same);
     io::write_all(STDOUT_FILENO, b"\n");
 }
 

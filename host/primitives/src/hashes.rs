@@ -30,6 +30,23 @@ pub fn slices(random: &mut Random) -> Checked {
     Ok(cases)
 }
 
+/// Messages side by side: every number of them up to 16 at every length up to 1,024 by turns, each after a prefix of up to 16 bytes.
+pub fn side_by_side(random: &mut Random) -> Checked {
+    let mut cases = 0;
+    for f in 1..=1024 {
+        for count in [1 + f % 16, random.within(1, 16)] {
+            let h = if random.within(0, 1) == 0 { 0 } else { random.within(0, 16) };
+            let (heads, bodies) = (random.bytes(count * h), random.bytes(count * f));
+            let message = |i: usize| [&heads[i * h..(i + 1) * h], &bodies[i * f..(i + 1) * f]].concat();
+            let want: Vec<u8> = (0..count).flat_map(|i| sha256(&message(i))).collect();
+            let what = format!("{count} hashes of {f} bytes after prefixes of {h}");
+            done(&what, library::hashes(&heads, h, &bodies, f, count, &random.bytes(32 * count)), &want)?;
+            cases += count;
+        }
+    }
+    Ok(cases)
+}
+
 /// The hash that `sha256sum` prints of a file `path` with these bytes.
 pub fn by_tool(path: &str, bytes: &[u8]) -> Result<Vec<u8>, String> {
     std::fs::write(path, bytes).map_err(|e| format!("{path}: {e}"))?;
@@ -55,12 +72,31 @@ pub fn files(random: &mut Random, folder: &str) -> Checked {
     Ok(lengths.len())
 }
 
-/// Buffers that are not of 32 bytes.
+/// Buffers that are not of 32 bytes; of messages side by side, one length too many or too few, and numbers out of their ranges.
 pub fn refusals(random: &mut Random) -> Checked {
     let rooms: Vec<usize> = (0..=100).filter(|&room| room != 32).collect();
     for &room in &rooms {
         let out = random.bytes(room);
         refused(&format!("SHA-256 into {room} bytes"), library::sha256(&out, &out, &out), &out)?;
     }
-    Ok(rooms.len())
+    // heads, h, bodies, f, count, out
+    let wrong = [
+        (16, 8, 20, 10, 2, 65),
+        (16, 8, 20, 10, 2, 63),
+        (16, 8, 21, 10, 2, 64),
+        (15, 8, 20, 10, 2, 64),
+        (34, 17, 20, 10, 2, 64),
+        (0, 0, 0, 0, 2, 64),
+        (0, 0, 2050, 1025, 2, 64),
+        (0, 0, 0, 10, 0, 0),
+        (0, 0, 170, 10, 17, 544),
+        (0, usize::MAX, 10, 10, 1, 32),
+        (0, 0, 10, usize::MAX, 1, 32),
+    ];
+    for (heads, h, bodies, f, count, room) in wrong {
+        let (heads, bodies, out) = (random.bytes(heads), random.bytes(bodies), random.bytes(room));
+        let what = format!("{count} hashes of {f} bytes after prefixes of {h} into {room} bytes");
+        refused(&what, library::hashes(&heads, h, &bodies, f, count, &out), &out)?;
+    }
+    Ok(rooms.len() + wrong.len())
 }

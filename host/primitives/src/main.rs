@@ -49,6 +49,7 @@ fn all(stored: &str, folder: &str) -> Result<(), String> {
     let mut random = Random::new(SEED);
     println!("primitives: seed {SEED:#018x}");
     println!("primitives: SHA-256: {} hashes agree with the second program", hashes::slices(&mut random)?);
+    println!("primitives: SHA-256: {} hashes side by side agree with it", hashes::side_by_side(&mut random)?);
     println!("primitives: SHA-256: {} files agree with sha256sum", hashes::files(&mut random, folder)?);
     println!("primitives: SHA-256: {} wrong lengths refused", hashes::refusals(&mut random)?);
     println!("primitives: fragments: {} items encoded as by elimination", code::encodings(&mut random)?);

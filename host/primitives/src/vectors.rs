@@ -22,9 +22,14 @@ fn message(name: &str) -> Option<Vec<u8>> {
 fn ought(words: &[&str], folder: &str) -> Option<Result<String, String>> {
     let byte = |word: &str| u8::from_str_radix(word, 16).ok();
     match words {
-        ["SHA-256", name, _] => {
+        ["SHA-256", name, stored, "side", "by", "side", count] => {
             let path = format!("{folder}/{name}");
-            Some(hashes::by_tool(&path, &message(name)?).map(|hash| hex(&hash)))
+            let hash = hashes::by_tool(&path, &message(name)?).map(|hash| hex(&hash));
+            Some(hash.and_then(|hash| match (hash == *stored, *count) {
+                (true, "13") => Ok("13".to_string()),
+                (true, _) => Err("not all that were hashed side by side are alike".to_string()),
+                (false, _) => Err(format!("its hash is {hash}")),
+            }))
         }
         [a, "+", b, "=", _] => Some(Ok(hex(&[byte(a)? ^ byte(b)?]))),
         [a, "*", b, "=", _] => Some(Ok(hex(&[product(byte(a)?, byte(b)?)]))),

@@ -1,9 +1,11 @@
-use mathlib.Core.Path.{sym, ap, _∙_}
+use mathlib.Core.Path.{ap, _∙_}
 use mathlib.Core.List.{List}
+use Prim.Native.Nat.{_+_, _-_, _*_}
 use native.Mathlib.Omega.{arith}
-use lib.Seq.{length-take-le}
 use Rattle.octets.specs.Bytes.{part, alike}
+use Rattle.record.proofs.Records.{taken}
 use Rattle.record.proofs.Desks as laws
+use borrow.Author.Needs.{needs}
 use Rattle.record.proofs.entry_ok.Statement.{statement}
 use Rattle.record.proofs.entry_ok.Tie as tie
 
@@ -11,15 +13,13 @@ pub entry-ok-spec : {M : Type 1} → statement M
 entry-ok-spec =
     tie.close
     (tie.spec
-    (λ c κs. tt)
-    (λ c. let x = c .before .prefix-of in omega (arith, x .ensures .1, x .ensures .2))
-    (λ c. let x = c .before .before .prefix-of in sym (length-take-le (x .result .size) (x .result .bytes) (omega (arith, x .ensures .1, x .ensures .2))))
-    (λ c κs.
-    let x = c .before .before .prefix-of in
-    let l = length-take-le (x .result .size) (x .result .bytes) (omega (arith, x .ensures .1, x .ensures .2)) in
-    let e = c .before .before .before .before .before .pre in
-    (omega (arith, l, x .ensures .2, e .0), e .1))
+    (λ c κs. search needs)
+    (λ c. search needs) (λ c. search needs) (λ c. search needs) (λ c. search needs) (λ c. search needs) (λ c κs. search needs)
     (λ c.
-    let x = c .before .before .before in
-    let a = x .before .before .before .args in
-    c .matches .ensures ∙ ap (λ (l : List _). alike l (part (a .s .now) (a .at) 32)) (laws.hashed (a .p) (a .node) _ (a .fragment .now) (x .prefix-of .ensures .0))))
+    let x = c .before .before .before .before .before .prefixes in
+    let a = c .before .before .before .before .before .before .before .before .args in
+    let i = a .node in
+    let z = x .result .size in
+    c .matches .ensures
+    ∙ ap (λ (l : List _). alike l (part (a .s .now) (a .at) 32))
+    (laws.hashed (a .p) i _ (a .fragment .now) (taken (x .result .bytes) (16 * i) (16 * i + z - 16 * i) z (omega arith) ∙ x .ensures .2 i (c .before .before .before .before .before .before .before .before .pre .2)))))

@@ -32,7 +32,7 @@ hashes-ok-spec =
     let e = s .before .before in
     let a = e .args in
     let q = slots-are _ _ (e .pre .0) (s .slots-of .ensures) in
-    (search needs, omega arith))
+    (search needs, omega arith, omega (arith, q .n-high, q .n-is, e .pre .2)))
     (λ c.
     let s = c .before .before .before .before .before in
     let e = s .before .before in

@@ -48,7 +48,7 @@ valid-spec =
     let e = s .before .before .before in
     let q = slots-are _ _ (e .pre .0) (s .slots-of .ensures) in
     let r = laws.head-room _ _ (s .slots-of .ensures) (e .args .a) _ (e .pre .3) in
-    (omega arith, omega (arith, r, c .before .before .before .before .before .loop-test .taken)))
+    (omega arith, omega (arith, r, c .before .before .before .before .before .loop-test .taken), omega (arith, q .n-is, q .n-high, c .before .before .before .before .before .loop-test .taken)))
     (λ c. search needs)
     (λ c.
     let g = c .before .before .before .before .before in

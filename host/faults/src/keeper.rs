@@ -1,11 +1,13 @@
-//! One keeper as a process: frames into its standard input, replies and lines out of it, SIGKILL.
+//! One keeper as a process: frames into its standard input, replies and lines out of it, SIGKILL. A server that listens has two connections, each
+//! as a keeper of its own, but that they live and die together.
 
 use crate::library::frame_length;
 use crate::plan::FRAME_HEAD;
 use crate::trouble::Trouble;
 use std::collections::VecDeque;
-use std::io::{self, BufRead, BufReader, Read, Write};
-use std::process::{Child, ChildStdin, Command, Stdio};
+use std::io::{self, BufRead, BufReader, Lines, Read, Write};
+use std::net::TcpStream;
+use std::process::{Child, ChildStderr, Command, Stdio};
 use std::sync::mpsc::{channel, Receiver, RecvTimeoutError, Sender};
 use std::thread;
 use std::time::Duration;
@@ -28,16 +30,21 @@ pub enum Answer {
 }
 
 pub struct Keeper {
-    child: Child,
-    input: ChildStdin,
+    /// None of a server's second connection.
+    child: Option<Child>,
+    /// None where a server did not come so far that it could be reached.
+    input: Option<Box<dyn Write>>,
     heard: Receiver<Heard>,
 }
+
+/// Who hears the lines of a server that name the connection.
+type Hearer = (String, Sender<Heard>);
 
 impl Keeper {
     pub fn start(command: &mut Command) -> io::Result<Keeper> {
         let mut child = command.stdin(Stdio::piped()).stdout(Stdio::piped()).stderr(Stdio::piped()).spawn()?;
         let (send, heard) = channel();
-        let input = child.stdin.take().expect("piped");
+        let input: Box<dyn Write> = Box::new(child.stdin.take().expect("piped"));
         let (output, errors) = (child.stdout.take().expect("piped"), child.stderr.take().expect("piped"));
         let lines = send.clone();
         thread::spawn(move || frames(BufReader::new(output), &send));
@@ -46,12 +53,39 @@ impl Keeper {
                 let _ = lines.send(Heard::Line(line));
             }
         });
-        Ok(Keeper { child, input, heard })
+        Ok(Keeper { child: Some(child), input: Some(input), heard })
+    }
+
+    /// A server that says where it listens, and two connections to it, of which the first greets.
+    pub fn two_connections(command: &mut Command, greeting: &str) -> io::Result<Vec<Keeper>> {
+        let mut child = command.stdin(Stdio::null()).stdout(Stdio::null()).stderr(Stdio::piped()).spawn()?;
+        let mut lines = BufReader::new(child.stderr.take().expect("piped")).lines();
+        let (mut keepers, mut hearers) = (Vec::new(), Vec::new());
+        let address = listens_on(&mut lines);
+        for greets in [true, false] {
+            let (send, heard) = channel();
+            let connected = address.as_ref().ok_or(io::ErrorKind::NotConnected.into());
+            match connected.and_then(|address| connection(address, greeting, greets)) {
+                Ok(stream) => {
+                    hearers.push((stream.local_addr()?.to_string(), send.clone()));
+                    let output = stream.try_clone()?;
+                    thread::spawn(move || frames(BufReader::new(output), &send));
+                    keepers.push(Keeper { child: None, input: Some(Box::new(stream)), heard });
+                }
+                Err(_) => {
+                    let _ = send.send(Heard::End);
+                    keepers.push(Keeper { child: None, input: None, heard });
+                }
+            }
+        }
+        keepers[0].child = Some(child);
+        thread::spawn(move || route(lines, &hearers));
+        Ok(keepers)
     }
 
     pub fn send(&mut self, frame: &[u8]) {
         // A keeper that has ended takes no bytes; `answer` will say so.
-        let _ = self.input.write_all(frame).and_then(|()| self.input.flush());
+        let _ = self.input.as_mut().map(|input| input.write_all(frame).and_then(|()| input.flush()));
     }
 
     /// Waits for what becomes of the one request that was sent. Refusals 4 to 8 are the request's, and the keeper goes on; any other
@@ -61,7 +95,7 @@ impl Keeper {
         loop {
             match self.heard.recv_timeout(PATIENCE) {
                 Ok(Heard::Frame(frame)) => return Ok(Answer::Reply(frame)),
-                Ok(Heard::Line(line)) if (4..=8).any(|k| line.starts_with(&format!("refused {k}:"))) => {
+                Ok(Heard::Line(line)) if (4..=8).any(|k| line.contains(&format!("refused {k}:"))) => {
                     return Ok(Answer::Refused)
                 }
                 Ok(Heard::Line(line)) => last = line,
@@ -97,15 +131,17 @@ impl Keeper {
 
     /// The end of its input, and then its own.
     pub fn end(self) {
-        let Keeper { mut child, input, .. } = self;
+        let Keeper { child, input, .. } = self;
         drop(input);
-        let _ = child.wait();
+        let _ = child.map(|mut child| child.wait());
     }
 
     /// SIGKILL. Gives the reply that it may have sent before.
     pub fn kill(mut self) -> Option<Vec<u8>> {
-        let _ = self.child.kill();
-        let _ = self.child.wait();
+        if let Some(child) = &mut self.child {
+            let _ = child.kill();
+            let _ = child.wait();
+        }
         let mut reply = None;
         while let Ok(heard) = self.heard.recv() {
             match heard {
@@ -115,6 +151,40 @@ impl Keeper {
             }
         }
         reply
+    }
+}
+
+/// The address at which a server says that it listens; none where it ends before.
+fn listens_on(lines: &mut Lines<BufReader<ChildStderr>>) -> Option<String> {
+    let address = |line: String| Some(line.split_once("serving node ")?.1.split_once(" on ")?.1.to_string());
+    lines.by_ref().map_while(Result::ok).find_map(address)
+}
+
+/// A connection, whose greeting, if it greets, is answered by the same words.
+fn connection(address: &str, greeting: &str, greets: bool) -> io::Result<TcpStream> {
+    let mut stream = TcpStream::connect(address)?;
+    stream.set_nodelay(true)?;
+    if greets {
+        stream.write_all(format!("{greeting}\n").as_bytes())?;
+        let mut line = Vec::new();
+        while line.last() != Some(&b'\n') {
+            let mut byte = [0];
+            stream.read_exact(&mut byte)?;
+            line.push(byte[0]);
+        }
+        if !line.starts_with(greeting.as_bytes()) {
+            return Err(io::Error::other("another greeting"));
+        }
+    }
+    Ok(stream)
+}
+
+/// Hands each line of a server to the connection that it names.
+fn route(lines: Lines<BufReader<ChildStderr>>, hearers: &[Hearer]) {
+    for line in lines.map_while(Result::ok) {
+        for (_, to) in hearers.iter().filter(|(address, _)| line.contains(&format!(" {address}: "))) {
+            let _ = to.send(Heard::Line(line.clone()));
+        }
     }
 }
 

@@ -7,7 +7,6 @@ mod client;
 mod counts;
 mod damage;
 mod executed;
-mod histories;
 mod judge;
 mod keeper;
 mod liar;
@@ -16,7 +15,6 @@ mod network;
 mod nodes;
 mod plan;
 mod poison;
-mod register;
 mod server;
 mod tactics;
 mod trouble;
@@ -25,6 +23,7 @@ mod wrong;
 
 use block::Setting;
 use counts::Counts;
+use faults::{histories, register};
 use nodes::Faults;
 use plan::{Plan, PLANS};
 use second::random::Random;
@@ -64,7 +63,7 @@ fn runs(wanted: &Wanted, seed: u64, counts: &mut Counts) -> Result<usize, Troubl
 fn command(wanted: &Wanted, seed: u64, run: usize, plan: &Plan) -> io::Result<Option<Command>> {
     let Some((folder, words)) = &wanted.keepers else { return Ok(None) };
     let folder = Path::new(folder).join(format!("seed-{seed}-run-{run}"));
-    Command::new(plan, words, folder).map(Some)
+    Command::new(plan, wanted.program, words, folder).map(Some)
 }
 
 /// Fewer than these, and the seeds have not tested what they are for.

@@ -42,6 +42,12 @@ impl Plan {
         [n, t, b, q, m, f[0], f[1], member, clients, w[0], w[1]]
     }
 
+    /// How a client of this plan greets a server: all but W.
+    pub fn greeting(&self) -> String {
+        let digits: String = self.bytes()[..9].iter().map(|byte| format!("{byte:02x}")).collect();
+        format!("pasis 1 {digits}")
+    }
+
     /// The plan as a keeper reads it: nine lines.
     pub fn text(&self) -> String {
         let member = if self.repairable { "repairable" } else { "non-repair" };

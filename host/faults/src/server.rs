@@ -17,12 +17,19 @@ const TEXT: &str = "plan";
 /// What takes the lock of a book and runs a keeper; from the repository's folder.
 const LOCKED: &str = "host/keeper-locked";
 
+/// What keeps a book: `keeper`, or `sheet serve`, which always has the lock.
+#[derive(Clone, Copy, PartialEq)]
+pub enum Program {
+    Keeper,
+    Serve,
+}
+
 /// How many keepers a node has, and how they keep apart (docs/KEEPER.md).
 #[derive(Clone, Copy, PartialEq)]
 pub enum Way {
-    /// One, which is told that it has the lock.
+    /// One, which is told that it has the lock; a server on standard input and output.
     Alone,
-    /// Two at once, without the lock.
+    /// Two at once, without the lock; one server that listens, with two connections.
     Unlocked,
     /// One that has the lock by keeper-locked, and one that waits for it.
     Waiting,
@@ -32,16 +39,17 @@ pub const WAYS: [Way; 4] = [Way::Alone, Way::Alone, Way::Unlocked, Way::Waiting]
 
 /// How the keepers of a run are started, and where their plan and their books lie.
 pub struct Command {
+    program: Program,
     words: Vec<String>,
     folder: PathBuf,
 }
 
 impl Command {
     /// Makes the folder, with the plan.
-    pub fn new(plan: &Plan, words: &[String], folder: PathBuf) -> io::Result<Command> {
+    pub fn new(plan: &Plan, program: Program, words: &[String], folder: PathBuf) -> io::Result<Command> {
         fs::create_dir(&folder)?;
         fs::write(folder.join(TEXT), plan.text())?;
-        Ok(Command { words: words.to_vec(), folder })
+        Ok(Command { program, words: words.to_vec(), folder })
     }
 
     /// The run is over, and nothing was found.
@@ -62,7 +70,9 @@ enum Kept {
 }
 
 struct Disk {
+    program: Program,
     words: Vec<String>,
+    greeting: String,
     text: PathBuf,
     book: PathBuf,
     way: Way,
@@ -73,13 +83,14 @@ struct Disk {
 impl Server {
     /// The server of node i with this book.
     pub fn new(plan: Plan, command: Option<&Command>, i: usize, way: Way, book: Vec<u8>) -> io::Result<Server> {
-        let Some(Command { words, folder }) = command else {
+        let Some(Command { program, words, folder }) = command else {
             return Ok(Server { plan, up: true, kept: Kept::Memory(book) });
         };
         let path = folder.join(format!("book-{i}"));
         fs::write(&path, &book)?;
         let (words, text) = (words.clone(), folder.join(TEXT));
-        let disk = Disk { words, text, book: path, way, running: Vec::new() };
+        let (program, greeting) = (*program, plan.greeting());
+        let disk = Disk { program, words, greeting, text, book: path, way, running: Vec::new() };
         let mut server = Server { plan, up: false, kept: Kept::Disk(disk) };
         server.start()?;
         Ok(server)
@@ -203,7 +214,8 @@ impl Server {
     /// Whether a killed keeper has left its new file; without the lock a person has to remove it, and here does.
     pub fn clear(&self) -> bool {
         let Kept::Disk(disk) = &self.kept else { return false };
-        disk.way == Way::Unlocked && fs::remove_file(disk.new_book()).is_ok()
+        let unlocked = disk.way == Way::Unlocked && disk.program == Program::Keeper;
+        unlocked && fs::remove_file(disk.new_book()).is_ok()
     }
 }
 
@@ -220,13 +232,27 @@ impl Disk {
     /// Both keepers where they serve side by side. The one that is to wait for the lock is started when the first has it, which is known when
     /// it has answered.
     fn start(&mut self) -> io::Result<()> {
+        if self.way == Way::Unlocked && self.program == Program::Serve && self.running.is_empty() {
+            self.running = Keeper::two_connections(&mut self.server(), &self.greeting)?;
+        }
         while self.running.len() < if self.way == Way::Unlocked { 2 } else { 1 } {
             self.running.push(self.keeper()?);
         }
         Ok(())
     }
 
+    /// A server, with the words that the way asks for. No other reason than a fault of its own ends it early.
+    fn server(&self) -> process::Command {
+        let mut command = process::Command::new(&self.words[0]);
+        command.args(&self.words[1..]).args([&self.text, &self.book]).args(["--quiet", "--idle", "0", "--wait", "600"]);
+        command.args((self.way == Way::Unlocked).then_some("--listen=127.0.0.1:0"));
+        command
+    }
+
     fn keeper(&self) -> io::Result<Keeper> {
+        if self.program == Program::Serve {
+            return Keeper::start(&mut self.server());
+        }
         let mut command = process::Command::new(if self.way == Way::Waiting { LOCKED } else { &self.words[0] });
         match self.way {
             Way::Waiting => command.env("KEEPER", self.words.join(" ")),

@@ -1,10 +1,11 @@
 //! What is asked for on the command line.
 
+use crate::server::Program;
 use crate::wrong::{self, Wrong};
 use std::ops::RangeInclusive;
 
 pub const USAGE: &str =
-    "usage: faults [own] SEEDS OPERATIONS [--still] [--wrong NAME] (--memory | FOLDER -- KEEPER...)";
+    "usage: faults [own] SEEDS OPERATIONS [--still] [--wrong NAME] (--memory | [--serve] FOLDER -- KEEPER...)";
 
 #[derive(Clone)]
 pub struct Wanted {
@@ -14,6 +15,8 @@ pub struct Wanted {
     pub operations: usize,
     pub still: bool,
     pub wrong: Option<(&'static str, Wrong)>,
+    /// Whether what keeps the books is `sheet serve`.
+    pub program: Program,
     /// The folder of the books and the words that run a keeper; none: the nodes are in memory.
     pub keepers: Option<(String, Vec<String>)>,
 }
@@ -29,11 +32,13 @@ pub fn wanted(words: &[String]) -> Option<Wanted> {
     let own = words.first()? == "own";
     let [first, operations, rest @ ..] = &words[own as usize..] else { return None };
     let (seeds, operations) = (seeds(first)?, operations.parse().ok()?);
-    let mut wanted = Wanted { own, seeds, operations, still: false, wrong: None, keepers: None };
+    let program = Program::Keeper;
+    let mut wanted = Wanted { own, seeds, operations, still: false, wrong: None, program, keepers: None };
     let mut rest = rest.iter();
     loop {
         match rest.next()?.as_str() {
             "--still" => wanted.still = true,
+            "--serve" => wanted.program = Program::Serve,
             "--wrong" => wanted.wrong = Some(wrong::named(rest.next()?)?),
             "--memory" => return rest.next().is_none().then_some(wanted),
             folder => {

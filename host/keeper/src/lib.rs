@@ -1,4 +1,4 @@
-//! What the trials share: the program keeper, a folder with a plan and a book, requests and what is read out of replies. Frames, records and
+//! What the trials share: the program keeper or `sheet serve`, a folder with a plan and a book, requests and what is read out of replies. Frames, records and
 //! books are the second program's; none of it is the library's.
 
 pub mod disk;
@@ -29,6 +29,11 @@ pub fn plan() -> Plan {
     Plan { n: 5, t: 1, b: 1, q: 3, m: 2, f: 16, member: Member::Repairable, clients: Clients::Crash, w: 16 }
 }
 
+/// The command `sheet`, where it is `sheet serve` that is tried: host/try-serve sets it. That keeps a book as keeper with the lock does.
+fn served_by() -> Option<String> {
+    std::env::var("SERVE").ok()
+}
+
 /// The words that run keeper: the lines of KEEPER, which host/try-keeper sets.
 pub fn words() -> Vec<String> {
     let words = std::env::var("KEEPER").expect("KEEPER: the words that run keeper, one a line");
@@ -51,7 +56,7 @@ impl Place {
     }
 
     fn within(parent: &Path, name: &str) -> io::Result<Place> {
-        let folder = parent.join(format!("keeper-{}-{name}", std::process::id()));
+        let folder = fs::canonicalize(parent)?.join(format!("keeper-{}-{name}", std::process::id()));
         fs::create_dir(&folder)?;
         fs::write(folder.join("PLAN"), TEXT)?;
         Ok(Place { folder })
@@ -83,26 +88,36 @@ impl Place {
         disk::set_files(&self.folder, left);
     }
 
-    /// keeper PLAN BOOK and more words, in this folder.
+    /// keeper PLAN BOOK and more words, in this folder; or sheet serve PLAN BOOK, which always has the lock.
     pub fn keeper(&self, more: &[&str]) -> Command {
-        let words = words();
-        let mut command = Command::new(&words[0]);
-        command.args(&words[1..]).args(["PLAN", "BOOK"]).args(more).current_dir(&self.folder);
-        command.stdin(Stdio::piped()).stdout(Stdio::piped()).stderr(Stdio::piped());
-        command
+        self.program(more, None)
     }
 
     /// The same with `trace.c` before the C library, which KEEPER_TRACE names: the calls go to the file LOG, and `set` has more words for it.
     pub fn traced(&self, more: &[&str], set: &[(&str, String)]) -> Command {
         let trace = std::env::var("KEEPER_TRACE").expect("KEEPER_TRACE: what host/try-keeper makes of trace.c");
-        let words = words();
+        let mut command = self.program(more, Some(&trace));
+        command.env("TRACE_LOG", self.file("LOG")).envs(set.iter().map(|(name, value)| (name, value)));
+        command
+    }
+
+    /// With a library before the C library: keeper under an emulator is told by its loader's word.
+    fn program(&self, more: &[&str], trace: Option<&str>) -> Command {
+        let (words, more) = match served_by() {
+            Some(sheet) => {
+                assert_eq!(more, ["locked"], "sheet serve has no other way");
+                (vec![sheet, "serve".to_string()], &[] as &[&str])
+            }
+            None => (words(), more),
+        };
         let mut command = Command::new(&words[0]);
-        match words.as_slice() {
-            [_, loader @ .., keeper] => command.args(loader).args(["--preload", &trace, keeper]),
-            _ => command.env("LD_PRELOAD", trace),
+        match (words.as_slice(), trace) {
+            ([_, loader @ .., keeper], Some(trace)) if served_by().is_none() => {
+                command.args(loader).args(["--preload", trace, keeper])
+            }
+            (_, trace) => command.args(&words[1..]).envs(trace.map(|trace| ("LD_PRELOAD", trace))),
         };
         command.args(["PLAN", "BOOK"]).args(more).current_dir(&self.folder);
-        command.env("TRACE_LOG", self.file("LOG")).envs(set.iter().map(|(name, value)| (name, value)));
         command.stdin(Stdio::piped()).stdout(Stdio::piped()).stderr(Stdio::piped());
         command
     }

@@ -98,8 +98,12 @@ fn a_save_without_the_lock() {
 
 /// The requests are one run: one reason is enough.
 #[test]
-fn a_run() {
+fn a_run_with_the_lock() {
     saves("errors-run", &["locked"], &[5], Come::AtOnce);
+}
+
+#[test]
+fn a_run_without_the_lock() {
     saves("errors-run-unlocked", &[], &[5], Come::AtOnce);
 }
 

@@ -125,11 +125,18 @@ static int there(const char *ending)
     return syscall(FACCESSAT, HERE, name, 0) == 0;
 }
 
+// Held by the thread whose call is under way: the lock of the file keeps programs apart, and not the threads of one.
+static int held;
+
 // Before a call that has a line: the lock is held until `say` has written it.
 static void enter(void)
 {
     if (log_fd < 0)
         return;
+    while (__atomic_exchange_n(&held, 1, __ATOMIC_ACQUIRE)) {
+        long pause[2] = {0, 100000};
+        syscall(NANOSLEEP, pause, 0);
+    }
     ++lines;
     if (lines == kill_at)
         syscall(KILL, syscall(GETPID), 9);
@@ -165,6 +172,7 @@ static long say(const char *call, long answer, const char *one, const char *two,
     put("\n");
     syscall(WRITE, log_fd, line, used);
     syscall(FLOCK, log_fd, 8);
+    __atomic_store_n(&held, 0, __ATOMIC_RELEASE);
     *__errno_location() = error;
     return answer;
 }

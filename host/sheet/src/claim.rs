@@ -5,10 +5,9 @@
 //! can be told from a keeper's and is taken away. A keeper's is never touched. BOOK.sheet is on disk before BOOK.new is made and until it is gone, so
 //! that a power cut leaves no BOOK.new of ours alone.
 
-use crate::files::{beside, followed, gone, sync_names, OURS};
+use crate::files::{beside, followed, gone, same, sync_names, OURS};
 use std::fs::{self, File, OpenOptions};
 use std::io::{self, Write};
-use std::os::unix::fs::MetadataExt;
 use std::path::{Path, PathBuf};
 use std::thread;
 use std::time::{Duration, Instant};
@@ -22,12 +21,6 @@ pub struct Claim {
     own: PathBuf,
     new: PathBuf,
     _lock: File,
-}
-
-/// Whether two names are of one file.
-fn same(one: &Path, other: &Path) -> bool {
-    let number = |path: &Path| fs::symlink_metadata(path).map(|is| (is.dev(), is.ino()));
-    matches!((number(one), number(other)), (Ok(one), Ok(other)) if one == other)
 }
 
 impl Claim {

@@ -70,11 +70,11 @@ pub fn read_plan(path: &OsStr, code: Code) -> Result<Plan, Fault> {
 }
 
 /// The plan that a sheet was made with.
-const MADE: &str = "plan.made";
+pub const MADE: &str = "plan.made";
 
-/// Whether the plan is the one that the sheet was made with, but for W, which is the reader's alone: an item laid out by one plan and read by
+/// Whether the plan is the one that the sheet, or the book, was made with, but for W, which is the reader's alone: an item laid out by one plan and read by
 /// another would be another item. A note where none is remembered.
-fn compared(made: &Path, file: &Path, plan: &Plan) -> Result<Option<String>, Fault> {
+pub fn compared(made: &Path, file: &Path, plan: &Plan, what: &str) -> Result<Option<String>, Fault> {
     let bytes = match files::read_file(made, 4096) {
         Ok(bytes) => bytes,
         Err(error) if missing(&error) => {
@@ -92,7 +92,7 @@ fn compared(made: &Path, file: &Path, plan: &Plan) -> Result<Option<String>, Fau
         return Ok(None);
     }
     let edits = edits.join("; ");
-    fault(Code::Damaged, format!("{}: this is not the plan that the sheet was made with: {edits}", file.display()))
+    fault(Code::Damaged, format!("{}: this is not the plan that the {what} was made with: {edits}", file.display()))
 }
 
 /// Lies in a folder whose sheet is being made.
@@ -127,7 +127,7 @@ impl Folder {
         let file = path.join("plan");
         let lock = lock(&file)?;
         let plan = read_plan(file.as_os_str(), Code::Damaged)?;
-        let note = compared(&path.join(MADE), &file, &plan)?;
+        let note = compared(&path.join(MADE), &file, &plan, "sheet")?;
         Ok(Folder { path: path.to_path_buf(), plan, note, _lock: lock })
     }
 

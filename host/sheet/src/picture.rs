@@ -3,9 +3,10 @@
 
 use crate::book::{self, Held};
 use crate::code::{fault, Code, Fault, Report};
-use crate::drive::{self, Block, Nodes, Round, Run, NOT_CLOSED};
+use crate::drive::{self, Nodes};
 use crate::folder::{Folder, Silence};
 use crate::json::Json;
+use crate::operation::{Block, Round, Run, NOT_CLOSED};
 use crate::plan_text;
 use crate::verbs::{ending, known, list, plan_json};
 use pasis::{Plan, Timestamp};
@@ -90,7 +91,7 @@ fn round_json(round: &Round) -> Json {
 fn row_json((node, row): (usize, &Row), stamps: &[Timestamp]) -> Json {
     let node = ("node", Json::Number(node as u64));
     match row {
-        Err(why) => Json::Object(vec![node, ("silent", Json::text(why))]),
+        Err(why) => Json::Object(vec![node, ("silent", Json::text(why.strip_prefix("silent: ").unwrap_or(why)))]),
         Ok(row) => {
             let cells = stamps.iter().map(|stamp| Json::text(cell(row, *stamp)));
             Json::Object(vec![node, ("cells", Json::List(cells.collect()))])
@@ -108,22 +109,21 @@ fn object(report: &mut Report, plan: &Plan, rows: &[Row], stamps: &[Timestamp], 
     report.say("verdict", Json::Object(vec![("outcome", Json::text(code.name())), ("words", Json::text(words))]));
 }
 
-pub fn show(folder: &Path, down: &[usize], all: bool) -> Result<Report, Fault> {
-    let folder = Folder::enter(folder)?;
-    let plan = &folder.plan;
-    known(plan, down)?;
-    let mut nodes = Nodes::of(&folder, down, false);
+/// The rows of these nodes.
+fn rows(plan: &Plan, nodes: &Nodes) -> Vec<Row> {
     let row = |node: usize| nodes.book(node).map_err(Silence::clone).and_then(|book| book::records(plan, node, book));
-    let rows: Vec<Row> = (0..usize::from(plan.n)).map(row).collect();
+    (0..usize::from(plan.n)).map(row).collect()
+}
+
+/// The picture of these nodes, and what the rule decides on copies of their books; what came of that.
+pub fn draw(report: &mut Report, plan: &Plan, mut nodes: Nodes, all: bool) -> Result<Run, Fault> {
+    let rows = rows(plan, &nodes);
     let stamps = columns(&rows);
     // Nothing leaves this process, so no ask number is used up.
     let session = pasis::open_read(plan, 0).or_else(|refusal| fault(Code::Damaged, refusal))?;
     let run = drive::run(plan, &mut nodes, session, Block::Open(&mut vec![0; plan.item_size()]), None);
-
-    let mut report = Report::new(Code::Done);
-    report.notes.extend(folder.note.clone());
-    head(&mut report, plan);
-    table(&mut report, &rows, &stamps, all);
+    head(report, plan);
+    table(report, &rows, &stamps, all);
     if let Some(newest) = stamps.last() {
         report.line(format!("by eye   {newest}, the newest fragment seen, at {}", list(&by_eye(&rows, *newest))));
     }
@@ -131,6 +131,15 @@ pub fn show(folder: &Path, down: &[usize], all: bool) -> Result<Report, Fault> {
         report.line(round_line(place + 1, round));
     }
     report.line(format!("verdict  {}", ending(plan, &run).1));
-    object(&mut report, plan, &rows, &stamps, &run);
+    object(report, plan, &rows, &stamps, &run);
+    Ok(run)
+}
+
+pub fn show(folder: &Path, down: &[usize], all: bool) -> Result<Report, Fault> {
+    let folder = Folder::enter(folder)?;
+    known(&folder.plan, down)?;
+    let mut report = Report::new(Code::Done);
+    report.notes.extend(folder.note.clone());
+    draw(&mut report, &folder.plan, Nodes::of(&folder, down, false), all)?;
     Ok(report)
 }

@@ -1,11 +1,11 @@
-//! The commands but `plan` and `show`.
+//! The commands over a folder but `plan`, `show` and `check`, and what they share with those over nodes.
 
-use crate::book;
 use crate::code::{fault, Code, Fault, Report};
-use crate::drive::{self, Block, Nodes, Run, FULL, NOT_CLOSED};
+use crate::drive::{self, Nodes, FULL};
 use crate::files;
 use crate::folder::{missing, read_plan, Folder};
 use crate::json::Json;
+use crate::operation::{Block, Run, NOT_CLOSED};
 use crate::plan_text;
 use crate::wish;
 use crate::words::Chosen;
@@ -70,7 +70,7 @@ pub fn new(folder: &Path, plan: &Chosen, room: Option<usize>) -> Result<Report, 
 }
 
 /// The block that is to be saved: exactly m·F bytes.
-fn block(plan: &Plan, file: &OsStr) -> Result<Vec<u8>, Fault> {
+pub fn block(plan: &Plan, file: &OsStr) -> Result<Vec<u8>, Fault> {
     let size = plan.item_size();
     let shown = if file == "-" { "standard input".to_string() } else { file.display().to_string() };
     match files::read(file, size) {
@@ -88,7 +88,7 @@ fn block(plan: &Plan, file: &OsStr) -> Result<Vec<u8>, Fault> {
 }
 
 /// The report of a run, with what every one says.
-fn told(code: Code, line: String, run: &Run) -> Report {
+pub fn told(code: Code, line: String, run: &Run) -> Report {
     let mut report = Report::new(code);
     report.line(line);
     report.notes.clone_from(&run.notes);
@@ -109,6 +109,30 @@ fn no_end(plan: &Plan, run: &Run, round: &str) -> String {
     format!("no end: the {round} round heard {heard}, and {needed} replies end it{full}")
 }
 
+/// A save's code and line. Where a node that did not answer may have stored all the same, `sure` is false.
+pub fn saved(plan: &Plan, run: &Run, sure: bool) -> (Code, String) {
+    let at = list(&run.stored);
+    let stamp = run.stamp.map(|stamp| stamp.to_string()).unwrap_or_default();
+    match run.answer {
+        Answer::Done { timestamp, .. } => (Code::Done, format!("saved: {timestamp}, stored at {at}")),
+        Answer::ClockSpent => {
+            let line = format!("clock spent: {} or more nodes say that the last time is reached", plan.b + 1);
+            (Code::ClockSpent, line)
+        }
+        _ if run.cut_off && run.stored.is_empty() => {
+            (Code::NoEnd, "cut off before any node stored it; nothing was stored".to_string())
+        }
+        _ if run.cut_off => (Code::InPart, format!("cut off: {stamp}, stored at {at}")),
+        _ if run.stamp.is_none() => (Code::NoEnd, format!("{}; nothing was stored", no_end(plan, run, "time"))),
+        _ if !sure => {
+            let line = format!("{}; {stamp} is stored at {at}, and may be at others", no_end(plan, run, "write"));
+            (Code::InPart, line)
+        }
+        _ if run.stored.is_empty() => (Code::NoEnd, format!("{}; nothing was stored", no_end(plan, run, "write"))),
+        _ => (Code::InPart, format!("{}; {stamp} is stored at {at}", no_end(plan, run, "write"))),
+    }
+}
+
 pub fn save(folder: &Path, file: &OsStr, down: &[usize], stop_after: Option<usize>) -> Result<Report, Fault> {
     let folder = Folder::enter(folder)?;
     let plan = &folder.plan;
@@ -120,31 +144,14 @@ pub fn save(folder: &Path, file: &OsStr, down: &[usize], stop_after: Option<usiz
     let session = pasis::open_write(plan, folder.take_ask()?).or_else(|refusal| fault(Code::Damaged, refusal))?;
     let mut nodes = Nodes::of(&folder, down, true);
     let run = drive::run(plan, &mut nodes, session, Block::Save(&item), stop_after);
-    let at = list(&run.stored);
-    let stamp = run.stamp.map(|stamp| stamp.to_string()).unwrap_or_default();
-    let (code, line) = match run.answer {
-        Answer::Done { timestamp, .. } => (Code::Done, format!("saved: {timestamp}, stored at {at}")),
-        Answer::ClockSpent => {
-            let line = format!("clock spent: {} or more nodes say that the last time is reached", plan.b + 1);
-            (Code::ClockSpent, line)
-        }
-        _ if run.cut_off && run.stored.is_empty() => {
-            (Code::NoEnd, "cut off before any node stored it; nothing was stored".to_string())
-        }
-        _ if run.cut_off => (Code::InPart, format!("cut off: {stamp}, stored at {at}")),
-        _ if run.stored.is_empty() => {
-            let round = if run.stamp.is_some() { "write" } else { "time" };
-            (Code::NoEnd, format!("{}; nothing was stored", no_end(plan, &run, round)))
-        }
-        _ => (Code::InPart, format!("{}; {stamp} is stored at {at}", no_end(plan, &run, "write"))),
-    };
+    let (code, line) = saved(plan, &run, true);
     let mut report = told(code, line, &run);
     report.notes.extend(folder.note.clone());
     Ok(report)
 }
 
 /// Where an opened block goes.
-fn give(file: &OsStr, item: &[u8]) -> Result<(), Fault> {
+pub fn give(file: &OsStr, item: &[u8]) -> Result<(), Fault> {
     let (shown, given) = if file == "-" {
         let mut out = io::stdout().lock();
         ("standard output".to_string(), out.write_all(item).and_then(|()| out.flush()))
@@ -202,70 +209,5 @@ pub fn open(folder: &Path, file: &OsStr, down: &[usize]) -> Result<Report, Fault
     let mut report = told(code, line, &run);
     report.say("rounds", Json::Number(run.rounds.iter().filter(|round| round.verdict != NOT_CLOSED).count() as u64));
     report.aside = file == "-";
-    Ok(report)
-}
-
-/// What a book is to the plan: a book that still serves, but with a damaged record, is one of those that lie.
-#[derive(PartialEq)]
-enum Standing {
-    Good,
-    Silent,
-    Lying,
-}
-
-/// A book's standing, and why, in words.
-fn judged(folder: &Folder, node: usize) -> (Standing, String) {
-    let plan = &folder.plan;
-    let looked = folder.book(node).and_then(|book| book::records(plan, node, &book).map(|held| (held, book.len())));
-    let (held, room) = match looked {
-        Err(why) => return (Standing::Silent, why),
-        Ok(looked) => looked,
-    };
-    let bad: Vec<String> = held.iter().filter(|held| !held.good).map(|held| held.stamp.to_string()).collect();
-    if !bad.is_empty() {
-        return (Standing::Lying, format!("damaged: a hash check fails in {}", bad.join(" ")));
-    }
-    let more = (room - 11) / plan.record_size() - held.len();
-    (Standing::Good, format!("good, {} held, room for {more} more", held.len()))
-}
-
-/// How many good books have room for a record more.
-fn roomy(folder: &Folder, books: &[(Standing, String)]) -> usize {
-    let plan = &folder.plan;
-    let room = |node: usize| {
-        let book = folder.book(node).unwrap_or_default();
-        book::records(plan, node, &book).is_ok_and(|held| plan.book_size(held.len() + 1) <= book.len())
-    };
-    (0..books.len()).filter(|node| books[*node].0 == Standing::Good && room(*node)).count()
-}
-
-pub fn check(folder: &Path) -> Result<Report, Fault> {
-    let folder = Folder::enter(folder)?;
-    let plan = &folder.plan;
-    folder.next_ask()?;
-    let books: Vec<_> = (0..usize::from(plan.n)).map(|node| judged(&folder, node)).collect();
-    let bad = books.iter().filter(|(standing, _)| *standing != Standing::Good).count();
-    let lying = books.iter().filter(|(standing, _)| *standing == Standing::Lying).count();
-    let within = bad <= usize::from(plan.t) && lying <= usize::from(plan.b);
-    let mut report = Report::new(if bad == 0 { Code::Done } else { Code::Damaged });
-    report.notes.extend(folder.note.clone());
-    for (node, (_, words)) in books.iter().enumerate() {
-        report.line(format!("book-{node}: {words}"));
-    }
-    let (how, n, t, b) = (if within { "within" } else { "MORE than" }, plan.n, plan.t, plan.b);
-    let (room, needed) = (roomy(&folder, &books), plan.replies());
-    if room < needed {
-        report.line(format!("full: {room} of {n} books have room for another save, which needs {needed}"));
-    }
-    report.line(format!(
-        "{bad} of {n} books not good, {lying} of them serving: {how} what the plan allows (t {t}, b {b})"
-    ));
-    let object = |(node, (standing, words)): (usize, &(Standing, String))| {
-        let good = Json::Bool(*standing == Standing::Good);
-        Json::Object(vec![("node", Json::Number(node as u64)), ("good", good), ("words", Json::text(words))])
-    };
-    report.say("bad", Json::Number(bad as u64));
-    report.say("within", Json::Bool(within));
-    report.say("books", Json::List(books.iter().enumerate().map(object).collect()));
     Ok(report)
 }

@@ -1,8 +1,15 @@
 //! The command line: a verb, its arguments in order, and options anywhere after the verb; `--` ends the options.
 
+mod net;
+mod server;
+
 use crate::code::{fault, Code, Fault};
 use crate::help;
+use crate::serve;
+use crate::serve::fresh::Fresh;
 use crate::wish::OPTIONS;
+use net::at;
+pub use net::{At, Net};
 use pasis::{Member, Wish};
 use std::ffi::{OsStr, OsString};
 use std::path::PathBuf;
@@ -12,10 +19,13 @@ pub enum Command {
     Help(String),
     Plan { wish: Wish },
     New { folder: PathBuf, plan: Chosen, room: Option<usize> },
-    Save { folder: PathBuf, file: OsString, down: Vec<usize>, stop_after: Option<usize> },
-    Open { folder: PathBuf, file: OsString, down: Vec<usize> },
-    Show { folder: PathBuf, down: Vec<usize>, all: bool },
-    Check { folder: PathBuf },
+    Save { at: At, file: OsString, stop_after: Option<usize> },
+    Open { at: At, file: OsString },
+    Show { at: At, all: bool },
+    Check { at: At, room_for: usize },
+    Heal { net: Net, node: usize },
+    Serve(serve::Wish),
+    Fresh(Fresh),
 }
 
 /// Where the plan of a new sheet comes from.
@@ -36,10 +46,12 @@ fn form(verb: &str) -> Option<Form> {
     let (arguments, valued, plain): (&[_], &[_], &[_]) = match verb {
         "plan" => (&[], &OPTIONS, &["--non-repair", "--json"]),
         "new" => (&["FOLDER"], &["--plan", "--room", "--lost", "--lying", "--pieces"], &["--non-repair", "--json"]),
-        "save" => (&["FOLDER", "FILE"], &["--down", "--stop-after"], &["--json"]),
-        "open" => (&["FOLDER", "FILE"], &["--down"], &["--json"]),
-        "show" => (&["FOLDER"], &["--down"], &["--all", "--json"]),
-        "check" => (&["FOLDER"], &[], &["--json"]),
+        "save" => (&["FOLDER", "FILE"], &["--down", "--stop-after", "--nodes", "--within"], &["--json"]),
+        "open" => (&["FOLDER", "FILE"], &["--down", "--nodes", "--within"], &["--json"]),
+        "show" => (&["FOLDER"], &["--down", "--nodes", "--within"], &["--all", "--json"]),
+        "check" => (&["FOLDER"], &["--nodes", "--within", "--room-for"], &["--json"]),
+        "heal" => (&[], &["--nodes", "--within", "--node"], &["--json"]),
+        "serve" => (&["PLAN", "BOOK"], &server::VALUED, &server::PLAIN),
         _ => return None,
     };
     Some(Form { arguments, valued, plain })
@@ -139,33 +151,43 @@ fn down(verb: &str, given: &Given) -> Result<Vec<usize>, Fault> {
     }
 }
 
-fn command(verb: &str, form: &Form, words: &[OsString]) -> Result<Command, Fault> {
-    let given = sort(verb, form, words)?;
-    if let Some(name) = form.arguments.get(given.arguments.len()) {
+/// Whether the arguments are as many as the verb has; with --nodes there is no FOLDER.
+fn counted(verb: &str, form: &Form, given: &Given) -> Result<(), Fault> {
+    let over_nodes = given.option("--nodes").is_some();
+    let arguments: Vec<&str> = form.arguments.iter().copied().filter(|name| !over_nodes || *name != "FOLDER").collect();
+    if let Some(name) = arguments.get(given.arguments.len()) {
         return wrong(verb, format!("sheet {verb} wants a {name}"));
     }
-    if let Some(word) = given.arguments.get(form.arguments.len()) {
+    if let Some(word) = given.arguments.get(arguments.len()) {
         return wrong(verb, format!("{} is one argument too many", word.display()));
     }
-    if let Some(place) = given.arguments.iter().position(|word| word.is_empty()) {
-        return wrong(verb, format!("the {} has no name", form.arguments[place]));
+    match given.arguments.iter().position(|word| word.is_empty()) {
+        Some(place) => wrong(verb, format!("the {} has no name", arguments[place])),
+        None => Ok(()),
     }
+}
+
+fn command(verb: &str, form: &Form, words: &[OsString]) -> Result<Command, Fault> {
+    let given = sort(verb, form, words)?;
+    counted(verb, form, &given)?;
     let folder = given.arguments.first().map(PathBuf::from).unwrap_or_default();
     let file = given.arguments.last().cloned().unwrap_or_default();
-    let down = down(verb, &given)?;
     Ok(match verb {
         "plan" => Command::Plan { wish: wish(verb, &given)? },
         "new" => Command::New { folder, plan: chosen(verb, &given)?, room: number(verb, &given, "--room")? },
-        "save" => Command::Save { folder, file, down, stop_after: number(verb, &given, "--stop-after")? },
-        "open" => Command::Open { folder, file, down },
-        "show" => Command::Show { folder, down, all: given.option("--all").is_some() },
-        _ => Command::Check { folder },
+        "save" => Command::Save { at: at(verb, &given)?, file, stop_after: number(verb, &given, "--stop-after")? },
+        "open" => Command::Open { at: at(verb, &given)?, file },
+        "show" => Command::Show { at: at(verb, &given)?, all: given.option("--all").is_some() },
+        "heal" => net::heal(verb, &given)?,
+        "serve" if given.option("--new").is_some() => Command::Fresh(server::fresh(verb, &given)?),
+        "serve" => Command::Serve(server::server(verb, &given)?),
+        _ => Command::Check { at: at(verb, &given)?, room_for: number(verb, &given, "--room-for")?.unwrap_or(3) },
     })
 }
 
 pub fn read(words: &[OsString]) -> Result<Command, Fault> {
     let Some((verb, rest)) = words.split_first() else {
-        return wrong("", "sheet wants a verb: plan, new, save, open, show or check".to_string());
+        return wrong("", "sheet wants a verb: plan, new, save, open, show, check, heal or serve".to_string());
     };
     let asks = |word: &OsString| word == "--help" || word == "-h";
     let verb = verb.to_string_lossy();

@@ -730,7 +730,7 @@ fn json_has_whole_timestamps() {
 #[test]
 fn options_are_indented() {
     let place = Place::new("indent");
-    for verb in ["plan", "new", "save", "open", "show", "check"] {
+    for verb in ["plan", "new", "save", "open", "show", "check", "heal"] {
         let (_, out, _) = place.sheet(&format!("{verb} --help"));
         let options = out.split("Options:\n").nth(1).and_then(|rest| rest.split("\n\n").next()).expect("options");
         assert!(options.lines().all(|line| line.starts_with("  --")), "{options}");

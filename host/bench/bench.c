@@ -1,5 +1,6 @@
 // bench WHO WHAT ..: one timing, printed as MB/s (10^6 bytes a second) of message or item bytes; the script ./bench takes the best of five.
 //   bench ours|openssl sha256 BYTES
+//   bench ours|openssl hashes COUNT BYTES    COUNT messages: ours side by side, OpenSSL's one after the other
 //   bench ours|isal|isal-base|zfec encode|recover N M F
 // Encode computes fragments M to N-1 of an item of M*F bytes; ours also copies the first M, which the others leave in place. Recover
 // computes all M data fragments from the last M fragments. The others get their code's matrix and tables ready made, but for the
@@ -18,6 +19,7 @@
 
 // The calls of the crate `primitives`: a slice is its pointer and then its length.
 uint32_t primitives_sha256(const uint8_t *p, size_t p_len, const uint8_t *s, size_t s_len, uint8_t *out, size_t out_len);
+uint32_t primitives_hashes(const uint8_t *heads, size_t heads_len, size_t h, const uint8_t *s, size_t s_len, size_t f, size_t count, uint8_t *out, size_t out_len);
 uint32_t primitives_encode(const uint8_t *item, size_t item_len, size_t n, size_t m, size_t f, uint8_t *desk, size_t desk_len);
 uint32_t primitives_decode(const uint8_t *desk, size_t desk_len, const uint8_t *nodes, size_t nodes_len, size_t m, size_t f, uint8_t *item, size_t item_len);
 
@@ -61,6 +63,34 @@ static double hash(const char *who, size_t length) {
   fill(message, length);
   if (!strcmp(who, "ours")) return rate(ours_sha256, length);
   if (!strcmp(who, "openssl")) return rate(openssl_sha256, length);
+  fail("no such hash");
+  return 0;
+}
+
+// Several messages of one length.
+static uint8_t digests[32 * MOST_NODES], others[32 * MOST_NODES];
+static size_t messages;
+
+static void ours_hashes(void) {
+  if (primitives_hashes(message, 0, 0, message, messages * message_length, message_length, messages, digests, 32 * messages) != 0) fail("primitives_hashes refused");
+}
+
+static void openssl_hashes(void) {
+  SHA256_CTX c;
+  for (size_t i = 0; i < messages; i++)
+    if (!SHA256_Init(&c) || !SHA256_Update(&c, message + i * message_length, message_length) || !SHA256_Final(others + 32 * i, &c)) fail("OpenSSL refused");
+}
+
+static double hashes(const char *who, size_t count, size_t length) {
+  if (count > MOST_NODES || length > MOST_LENGTH) fail("too many messages, or too long");
+  messages = count;
+  message_length = length;
+  fill(message, count * length);
+  ours_hashes();
+  openssl_hashes();
+  if (memcmp(digests, others, 32 * count) != 0) fail("the hashes are not OpenSSL's");
+  if (!strcmp(who, "ours")) return rate(ours_hashes, count * length);
+  if (!strcmp(who, "openssl")) return rate(openssl_hashes, count * length);
   fail("no such hash");
   return 0;
 }
@@ -142,13 +172,15 @@ int main(int count, char **words) {
   double mbs = 0;
   if (count == 4 && !strcmp(words[2], "sha256")) {
     mbs = hash(words[1], strtoul(words[3], NULL, 10));
+  } else if (count == 5 && !strcmp(words[2], "hashes")) {
+    mbs = hashes(words[1], strtoul(words[3], NULL, 10), strtoul(words[4], NULL, 10));
   } else if (count == 6) {
     n = strtoul(words[3], NULL, 10);
     m = strtoul(words[4], NULL, 10);
     f = strtoul(words[5], NULL, 10);
     mbs = code(words[1], words[2]);
   } else {
-    fail("usage: bench WHO sha256 BYTES, or bench WHO encode|recover N M F");
+    fail("usage: bench WHO sha256 BYTES, bench WHO hashes COUNT BYTES, or bench WHO encode|recover N M F");
   }
   printf("%.1f\n", mbs);
   return 0;

@@ -1,5 +1,7 @@
 // What a call answers, as a host is told it: a number for each answer, and the 42 bytes of an ending. 0 is served, opened, or accepted and
 // open; 1 to 31 the documents' refusals, of which 15 to 19 and 22 to 31 are kept free; 101 to 105 the endings. Before the call come 1 and 2 of what a host lends.
+#![tactic(auto)]
+
 ghost use Rattle.std.specs.Prelude.{◌≡◌, length};
 ghost use Rattle.terms.specs.Ladder.{first};
 ghost use Rattle.terms.specs.Stamp.{stamp_number};

@@ -65,7 +65,7 @@ unfolding records_from joined
 back [] p s r at e z = refl
 back (x ∷ xs) p s r at e z =
     let l : length (p ++ x) ≡ at + r = length-append p x ∙ (λ i. e i + z.0 i) in
-    rw append_assoc (λ i. part_middle _ p x (joined xs ++ s) at r refl e z.0 i
+    ap (λ (q : List ℕ). records_from (p ++ q) r (length (x ∷ xs)) at) (append_assoc x (joined xs) s) ∙ (λ i. part_middle _ p x (joined xs ++ s) at r refl e z.0 i
     ∷ (ap (λ (q : List ℕ). records_from q r (length xs) (at + r)) (sym (append_assoc p x (joined xs ++ s))) ∙ back xs (p ++ x) s r (at + r) l z.1) i)
 
 sized_take : (r n : ℕ) (rs : List (List ℕ)) → Sized r rs → Sized r (take n rs)

@@ -1,5 +1,7 @@
 // A book of one node: its shape, its last records, the fate of a record that is to be written, and a record put in its place.
 // Document 01, "Records, books, frames" and "The node". A book is a value, its header read once: what goes by it serves any version.
+#![tactic(auto)]
+
 ghost use Rattle.std.specs.Prelude.{◌≡◌, true, false, [], ◌+◌, ◌*◌, ◌≤◌, ◌<◌, length, take, leb, ltb};
 ghost use Rattle.octets.specs.Bytes.{part, num, over};
 ghost use Rattle.terms.specs.Terms.{plan_ok};
@@ -14,7 +16,7 @@ use terms::{Plan, Time};
 const HEAD: usize = 11;
 
 // What was read of a book, once: its version, the bytes of its header, its node number, its count, and the bytes of each record.
-#[derive(Drop)]
+#[derive(Clone, Copy)]
 pub struct Book {
     pub version: u64,
     pub head: usize,
@@ -24,14 +26,14 @@ pub struct Book {
 }
 
 // What a book is found to be (refusal 3).
-#[derive(Drop)]
+#[derive(Clone, Copy)]
 pub enum Shape {
     Bad,
     Good(Book),
 }
 
 // Where some bytes of a book lie: a record, or no byte for the first triple.
-#[derive(Drop)]
+#[derive(Clone, Copy)]
 pub struct Span {
     pub at: usize,
     pub len: usize,
@@ -39,7 +41,7 @@ pub struct Span {
 
 // What becomes of a record that is to be written: it is held; its timestamp is held with other bytes; or it is free to go to a place
 // among the records.
-#[derive(Drop)]
+#[derive(Clone, Copy)]
 pub enum Fate {
     Held,
     Other,

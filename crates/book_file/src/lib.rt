@@ -3,6 +3,8 @@
 // BOOK is the old book or the new one, whole. BOOK.new is made only where no file has that name, so that one keeper at a time has it, and a
 // keeper reads BOOK, changes it and lets BOOK.new go while it has it. One that a crash left stays until an operator removes it, or a keeper
 // comes that is told that it holds the lock of the book (docs/DECISIONS.md, "keeper").
+#![tactic(auto)]
+
 pub mod say;
 
 ghost use Rattle.std.specs.Prelude.{◌+◌, ◌≤◌, ◌≡◌, length};
@@ -14,7 +16,7 @@ const PATIENCE: u64 = 5;
 const BUSY: i32 = -2;
 
 // What a file was read as: whether whole, whether there is none, and how many bytes.
-#[derive(Drop)]
+#[derive(Clone, Copy)]
 pub struct Loaded {
     pub is: bool,
     pub missing: bool,

@@ -9,7 +9,7 @@ use pasis::store;
 use terms::Ask;
 
 // A book, the reply that was written and the answer.
-#[derive(Drop)]
+#[derive(Clone, Copy)]
 struct Served {
     book: [u8; 65536],
     reply: [u8; 1591],
@@ -17,7 +17,7 @@ struct Served {
 }
 
 // A book, and how many records went into it.
-#[derive(Drop)]
+#[derive(Clone, Copy)]
 struct Shelf {
     book: [u8; 65536],
     stored: u8,

@@ -9,7 +9,7 @@ use crate::walk::World;
 // ---- numbers
 
 // A number in decimal, and the place after it.
-#[derive(Drop)]
+#[derive(Clone, Copy)]
 struct Decimal {
     is: u64,
     next: usize,

@@ -1,5 +1,7 @@
 // The clock of a writer: document 02, Q-2. The time replies of a time round are kept by node; the new time is one above the k-th greatest of
 // them, k = b + 1, so that b nodes that lie cannot use up the clock. Only the entries of nodes that are heard count.
+#![tactic(auto)]
+
 ghost use Rattle.std.specs.Prelude.{◌≡◌, [], ◌∷◌, ◌≤◌, ◌<◌, get_or, eqb, ltb};
 ghost use Rattle.terms.specs.Ladder.{◌and◌};
 ghost use Rattle.terms.specs.Stamp.{top};

@@ -1,6 +1,8 @@
 // A cross checksum compared with the fragments that it should be of. Document 01, "The client", validation: regenerate all N fragments and
 // compare. Up to eight fragments are made and hashed side by side, 192 bytes of each at a time, so that the stack holds eight rows of 192 bytes
 // and not eight fragments; each is hashed once.
+#![tactic(auto)]
+
 ghost use Rattle.std.specs.Prelude.{◌≡◌, true, ℕ, ◌+◌, ◌-◌, ◌*◌, ◌/◌, ◌^◌, ◌≤◌, ◌<◌, length};
 ghost use Rattle.octets.specs.Bytes.{part, alike};
 ghost use Rattle.sha256.specs.Sha256.{after, ended, bytes_of};
@@ -17,7 +19,7 @@ use lanes::{Batch, Rows};
 use terms::{Plan, Slots};
 
 // Some fragments of a set, side by side: so many, from the first on, each made from the sources of the basis in the slots.
-#[derive(Drop)]
+#[derive(Clone, Copy)]
 pub struct Group {
     pub slots: Slots,
     pub basis: Basis,
@@ -27,7 +29,7 @@ pub struct Group {
 
 // A stretch of what is hashed for an entry, which is `head` bytes and then the fragment: where it begins, how long it is, and how many blocks it
 // gives.
-#[derive(Drop)]
+#[derive(Clone, Copy)]
 pub struct Stretch {
     pub head: usize,
     pub from: usize,

@@ -1,5 +1,7 @@
 // The field of FIPS 197, section 4.2, on bytes: a byte is a polynomial of degree below 8 with coefficients 0 and 1, bit i that of x^i. Two
 // bytes are added by exclusive or; everything else here is made of one step, doubling. `sums` does that step to whole strips of bytes.
+#![tactic(auto)]
+
 ghost use Rattle.std.specs.Prelude.{◌≡◌, ℕ, ◌<◌, length, get_or};
 ghost use Rattle.field.specs.Field.{xtime, mul, inv};
 

@@ -1,5 +1,7 @@
 // The fragments of an item: document 01, "Fragments". Sources and results lie in the slots of lent buffers, so that no fragment is copied
 // to be used; a fragment that is among its sources is copied and not computed.
+#![tactic(auto)]
+
 ghost use Rattle.std.specs.Prelude.{◌≡◌, ℕ, ◌+◌, ◌*◌, ◌^◌, ◌≤◌, ◌<◌, length, get_or, take};
 ghost use Rattle.field.specs.Field.{mul};
 ghost use Rattle.terms.specs.Terms.{fragment_at, runs_of};
@@ -28,7 +30,7 @@ pub fn is_among(qs: &[u8], x: u8) -> bool
 // The points of some sources, the first `size` of `points`, and for each the part of its weight that is the same for every value. The weight of
 // the source at p for the value at x is the product of (x + q) / (p + q) over the other points q: of that the scale holds what p alone
 // decides, the inverse of the product of p + q. A row is 16 wide, as a vector of the processor is.
-#[derive(Drop)]
+#[derive(Clone, Copy)]
 pub struct Basis {
     pub points: [u8; 16],
     pub scales: [u8; 16],

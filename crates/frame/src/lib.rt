@@ -1,6 +1,8 @@
 // Frames: cut out of a run of bytes, checked, built. Document 01, "Records, books, frames". Cutting says where a frame ends and looks at
 // its length alone; the door of a party checks a frame and gives its header as a value. Builders write a header and a body over a buffer
 // and tell the frame's length; bytes past it stay. Ask numbers and times are types of their own here: one is never taken for the other.
+#![tactic(auto)]
+
 ghost use Rattle.std.specs.Prelude.{◌≡◌, true, false, [], ◌+◌, ◌≤◌, ◌<◌, length, leb};
 ghost use Rattle.octets.specs.Bytes.{part, over, be};
 ghost use Rattle.terms.specs.Terms.{plan_ok};
@@ -28,7 +30,7 @@ pub const READ_REPLY: u64 = 7;
 const HEAD: usize = 15;
 
 // All that stands before the body of a frame, read once at the door of a call.
-#[derive(Drop)]
+#[derive(Clone, Copy)]
 pub struct Header {
     pub version: u64,
     pub kind: u64,
@@ -37,21 +39,21 @@ pub struct Header {
 }
 
 // What the door of a call says of a lent frame: refusal 4, or its header.
-#[derive(Drop)]
+#[derive(Clone, Copy)]
 pub enum Door {
     Bad,
     Open(Header),
 }
 
 // Who is lent a frame: refusal 4 asks for a kind for this party.
-#[derive(Drop)]
+#[derive(Clone, Copy)]
 pub enum Party {
     Node,
     Client,
 }
 
 // What starts at a place of a run of bytes: a frame that ends at this place, or none.
-#[derive(Drop)]
+#[derive(Clone, Copy)]
 pub enum Cut {
     EndsAt(usize),
     NoFrame,

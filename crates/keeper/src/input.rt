@@ -10,7 +10,7 @@ use libc::STDIN_FILENO;
 const LONGEST: usize = 1591;
 
 // Where the input stands: whether to go on, the bytes that wait at the start of the area, and how many came before them.
-#[derive(Drop)]
+#[derive(Clone, Copy)]
 pub struct Stand {
     pub on: bool,
     pub held: usize,

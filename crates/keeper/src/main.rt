@@ -10,6 +10,8 @@
 // The frames that wait on the input are one run (document 02, Q-3). The book is read from its file for each run and kept nowhere else, so that
 // several keepers may serve one book: each reads an old or a new book whole, and only the one that has made the file BOOK.new may change
 // it (crate book_file). input.rt has the input, serve.rt what is done with a run, planned.rt what is said of plans.
+#![tactic(auto)]
+
 mod input;
 mod planned;
 mod serve;

@@ -1,6 +1,8 @@
 // What a run of requests comes to: the call of a run, what has to be done before its replies go out, and what is then due. A reply tells of what
 // the book holds, so it goes out only over a book that is on the disk. Document 01, "The node", and document 02, Q-3. A program over files (keeper)
 // does what this says; nothing here reads or writes a file.
+#![tactic(auto)]
+
 ghost use Rattle.std.specs.Prelude.{◌≡◌, false, ◌≤◌, length};
 ghost use Rattle.frame.specs.Frame.{head_bytes, header_in};
 ghost use Rattle.node.specs.Node.{writes};
@@ -13,7 +15,7 @@ use terms::{Plan, Refusal};
 
 // Refused; or frames cut, bytes of replies and place where the run ended, of replies over a book that is as it was and may be told of; over
 // one that is as it was, and has to get to the disk; or over one that has changed, and is to be stored.
-#[derive(Drop)]
+#[derive(Clone, Copy)]
 pub enum Next {
     Refused(Refusal),
     Send(usize, usize, usize),
@@ -22,7 +24,7 @@ pub enum Next {
 }
 
 // What is due: a line that says the refusal of the run; the numbers of so many frames and so many bytes of replies; or nothing.
-#[derive(Drop)]
+#[derive(Clone, Copy)]
 pub enum Due {
     Say(Refusal),
     Reply(usize, usize),

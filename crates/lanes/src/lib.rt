@@ -1,6 +1,8 @@
 // SHA-256 of several messages of one length, side by side: up to eight lanes, word i of the state, or of the block, of lane l at 8 * i + l. What is
 // done in a lane is what `sha256` does with one message, by its functions; the loops over the lanes do many steps of each in a turn and call
 // nothing, so that a compiler makes vector instructions of them.
+#![tactic(auto)]
+
 ghost use Rattle.std.specs.Prelude.{◌≡◌, ◌++◌, ℕ, ◌+◌, ◌*◌, ◌/◌, ◌%◌, ◌^◌, ◌<◌, ◌≤◌, length, get_or, set, drop};
 ghost use Rattle.octets.specs.Bytes.{put};
 ghost use Rattle.sha256.specs.Sha256.{K, H0, words, ended, after, round_of, added_of, bytes_of, sha256};
@@ -10,7 +12,7 @@ ghost use Rattle.lanes.specs.Inside.{with_lane, rounds_at, next_in, rows_from, b
 use sha256::State;
 
 // Parts of one size, at a first place and then at every stride.
-#[derive(Drop)]
+#[derive(Clone, Copy)]
 pub struct Rows {
     pub first: usize,
     pub stride: usize,
@@ -18,7 +20,7 @@ pub struct Rows {
 }
 
 // Messages: of each a row of a lent slice, after a short row of another.
-#[derive(Drop)]
+#[derive(Clone, Copy)]
 pub struct Batch {
     pub heads: Rows,
     pub bodies: Rows,

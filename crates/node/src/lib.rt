@@ -1,5 +1,7 @@
 // The storage-node: one request frame against one book, and a fresh book. Document 01, "The node" and "Refusal numbers". Both calls take
 // any input: they check all of it, refuse by the first number that applies, and change no byte then.
+#![tactic(auto)]
+
 ghost use Rattle.std.specs.Prelude.{◌≡◌, true, false, ◌+◌, ◌≤◌, length};
 ghost use Rattle.octets.specs.Bytes.{part, be};
 ghost use Rattle.terms.specs.Terms.{plan_ok};
@@ -17,21 +19,21 @@ use frame::{Door, Header};
 use terms::{Plan, Refusal};
 
 // What a node answers: a refusal, or the length of the reply frame written.
-#[derive(Drop)]
+#[derive(Clone, Copy)]
 pub enum Answer {
     Refused(Refusal),
     Replied(usize),
 }
 
 // What the making of a book answers.
-#[derive(Drop)]
+#[derive(Clone, Copy)]
 pub enum Made {
     Refused(Refusal),
     Fresh,
 }
 
 // What was read at the door of a call: the header of the request, and that of the book that it is for.
-#[derive(Drop)]
+#[derive(Clone, Copy)]
 pub struct Asked {
     pub frame: Header,
     pub book: Book,

@@ -1,5 +1,7 @@
 // Bytes at a place of a lent slice: numbers, copies, moves and comparisons. Document 01, "Records, books, frames": all numbers are
 // big-endian. Every contract gives the whole slice at exit by `put`, so that no byte outside the place changes.
+#![tactic(auto)]
+
 ghost use Rattle.std.specs.Prelude.{◌≡◌, ◌+◌, ◌≤◌, ◌<◌, ◌^◌, ltb, length};
 ghost use Rattle.octets.specs.Bytes.{part, put, num, be, alike};
 ghost use Rattle.octets.specs.Inside.{le};

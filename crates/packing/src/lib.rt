@@ -1,5 +1,7 @@
 // A plan and a session as bytes, for a host that holds them between calls. Reading takes any bytes: those that code no plan give one
 // outside its rules, those that code no session one in no range, so that every call refuses them 1 and 9 by itself.
+#![tactic(auto)]
+
 ghost use Rattle.std.specs.Prelude.{◌≡◌, ◌++◌, ◌+◌, ◌≤◌, length};
 ghost use Rattle.octets.specs.Bytes.{put, be};
 ghost use Rattle.terms.specs.Stamp.{stamp_number, stamp_at};

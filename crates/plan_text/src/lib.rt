@@ -12,6 +12,8 @@
 //
 // What follows a # is a comment; blank lines, and blanks around a name and a value, are nothing. Whether the plan is within its rules is
 // another question, and document 01's refusal 1.
+#![tactic(auto)]
+
 ghost use Rattle.std.specs.Prelude.{◌≡◌, ◌+◌, ◌-◌, ◌*◌, ◌≤◌, ◌<◌, ◌∷◌, ◌++◌, length, take, drop};
 ghost use Rattle.octets.specs.Bytes.{part, alike};
 ghost use Rattle.plan_text.specs.Text.{numeral_of};
@@ -20,14 +22,14 @@ ghost use Rattle.plan_text.specs.Lines.{blank, until, past, chop, lines_of, word
 use terms::{Clients, Member, Plan};
 
 // A number that some bytes write, if they do.
-#[derive(Drop)]
+#[derive(Clone, Copy)]
 pub enum Numeral {
     Is(u64),
     Not,
 }
 
 // The words of a line: where they start and end, and where the next line starts.
-#[derive(Drop)]
+#[derive(Clone, Copy)]
 struct Line {
     at: usize,
     end: usize,
@@ -35,14 +37,14 @@ struct Line {
 }
 
 // What a text says: a plan, or the line and the value that is not to be had there.
-#[derive(Drop)]
+#[derive(Clone, Copy)]
 pub enum Reading {
     Good(Plan),
     Wrong(u64, usize),
 }
 
 // What a line gave: whether it is wrong, and how many values it has, 0 or 1.
-#[derive(Drop)]
+#[derive(Clone, Copy)]
 struct Given {
     wrong: bool,
     more: usize,

@@ -1,5 +1,7 @@
 // The hash and the fragment code for a host's tests and timings: numbers and byte slices only, and no `requires`. Each call answers 0,
 // or 2 where what it is lent does not fit together, and then changes nothing.
+#![tactic(auto)]
+
 ghost use Rattle.std.specs.Prelude.{◌++◌, ◌≡◌, ◌+◌, ◌<◌, ◌≤◌, length, get_or, drop};
 ghost use Rattle.sha256.specs.Sha256.{sha256};
 ghost use Rattle.lanes.specs.Lanes.{hashed_into};

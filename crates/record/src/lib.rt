@@ -1,5 +1,7 @@
 // Records where they lie, and all N of them in a desk. Document 01, "Records, books, frames", "Fragments". A fragment is hashed inside its
 // record: a part of the lent slice that starts in the record's middle is handed on to the hash, and nothing is copied.
+#![tactic(auto)]
+
 ghost use Rattle.std.specs.Prelude.{◌≡◌, true, [], ℕ, ◌+◌, ◌-◌, ◌*◌, ◌≤◌, ◌<◌, length, drop};
 ghost use Rattle.octets.specs.Bytes.{part, put, be, alike};
 ghost use Rattle.sha256.specs.Sha256.{sha256};
@@ -12,7 +14,7 @@ use lanes::{Batch, Rows};
 use terms::{Hash, Plan, Slots, Time, Timestamp};
 
 // What is hashed before the fragments of nodes 0 to 15: for each the first `size` of 8 bytes.
-#[derive(Drop)]
+#[derive(Clone, Copy)]
 pub struct PrefixRows {
     pub bytes: [u8; 128],
     pub size: usize,

@@ -1,6 +1,8 @@
 // What a client does with an item and its records: the set of a close validated, decoded, and written back into all slots of the desk; the
 // item read from a desk so filled; and all N records of an item made. The sources lie in their slots and stay there, so that every other
 // fragment can be made from them in place, by way of one scratch fragment.
+#![tactic(auto)]
+
 ghost use Rattle.std.specs.Prelude.{◌≡◌, true, ◌++◌, ◌+◌, ◌*◌, ◌≤◌, ◌<◌, length};
 ghost use Rattle.octets.specs.Bytes.{part, put};
 ghost use Rattle.terms.specs.Terms.{plan_ok, record_length, slots_of, slot_at};
@@ -30,7 +32,7 @@ fn write_slot(desk: &mut [u8], slots: Slots, a: usize, k: usize, fragment: &[u8]
 }
 
 // Where a set lies: the slots of the desk, and the one of its lead.
-#[derive(Drop)]
+#[derive(Clone, Copy)]
 pub struct Led {
     pub slots: Slots,
     pub lead: usize,

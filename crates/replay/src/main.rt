@@ -7,6 +7,8 @@
 // CALL is 01 fresh_book, 02 node, 03 open_write, 04 open_read, 05 owed, 06 write_reply, 07 read_reply, 08 smallest_plan, whose plan slice is
 // the wish: member 1, t 8, b 8, m 8, and 09 run. Bytes are in hexadecimal, a minus where there are none; a call that is lent fewer than five slices has a
 // minus for each of the others.
+#![tactic(auto)]
+
 ghost use Rattle.std.specs.Prelude.{◌*◌, ◌≤◌, ◌<◌, ◌≡◌, length};
 ghost use Rattle.io.specs.Counts.{IsPrefixLen};
 
@@ -51,7 +53,7 @@ fn take_digit(out: &mut [u8], k: usize, c: u8) -> usize
 }
 
 // How many bytes a field has, and where the next field starts.
-#[derive(Drop)]
+#[derive(Clone, Copy)]
 struct Part {
     n: usize,
     next: usize,
@@ -188,7 +190,7 @@ fn made(
 }
 
 // A field as bytes, how many it has, and where the next field starts.
-#[derive(Drop)]
+#[derive(Clone, Copy)]
 struct Lent {
     bytes: [u8; 4096],
     n: usize,

@@ -1,5 +1,7 @@
 // What a round decides, on an array of marks and the slots of a desk: document 01, "The client". Node i lies in slot i; a slot starts
 // with its head, the timestamp and the cross checksum.
+#![tactic(auto)]
+
 ghost use Rattle.std.specs.Prelude.{◌≡◌, ◌+◌, ◌*◌, ◌≤◌, ◌<◌, length};
 ghost use Rattle.octets.specs.Bytes.{part, num};
 ghost use Rattle.rounds.specs.Rounds.{bit_of, heard_at, heard_count, ahead_of, step_of, lead_of, LeadIn, joins_of, set_of, add_of, listed, told, close_of, is_unheard, is_not_first, rest_unheard, none_first, under_of, slot_fits, slots_fit};
@@ -7,7 +9,7 @@ ghost use Rattle.rounds.specs.Rounds.{bit_of, heard_at, heard_count, ahead_of, s
 use terms::{Member, Slots, Thresholds, Timestamp, Verdict};
 
 // A node's mark. Later requests add to it.
-#[derive(Drop)]
+#[derive(Clone, Copy)]
 pub enum Heard {
     Unheard,
     First,
@@ -15,21 +17,21 @@ pub enum Heard {
 }
 
 // A session's field may not be an array of enums, so a mark is a struct that holds one.
-#[derive(Drop)]
+#[derive(Clone, Copy)]
 pub struct Mark {
     pub is: Heard,
 }
 
 // The candidate: the first triple where no node is marked record, else the record of the lowest-numbered node that bears the greatest
 // timestamp.
-#[derive(Drop)]
+#[derive(Clone, Copy)]
 pub enum Lead {
     Nobody,
     Node(usize),
 }
 
 // Node numbers, rising: the first `size` of the array.
-#[derive(Drop)]
+#[derive(Clone, Copy)]
 pub struct Set {
     pub nodes: [u8; 16],
     pub size: usize,
@@ -37,7 +39,7 @@ pub struct Set {
 
 // The close of a read round: the candidate, its timestamp, its set and what that decides. For the first triple the timestamp is zero,
 // the set empty and the verdict Complete, since the first triple always has COMPLETE replies.
-#[derive(Drop)]
+#[derive(Clone, Copy)]
 pub struct Close {
     pub lead: Lead,
     pub stamp: Timestamp,
@@ -46,7 +48,7 @@ pub struct Close {
 }
 
 // The bound of a read round: none in the first, else the last candidate's timestamp.
-#[derive(Drop)]
+#[derive(Clone, Copy)]
 pub enum Bound {
     Free,
     Under(Timestamp),

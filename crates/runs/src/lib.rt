@@ -1,5 +1,7 @@
 // A run of frames laid end to end, served in one call. Document 02, Q-3. The reader holds the run and its place and says where the next frame
 // ends; the call cuts the run, checks the book's shape once, and gives each frame to the node as if it came singly.
+#![tactic(auto)]
+
 ghost use Rattle.std.specs.Prelude.{◌≡◌, true, ◌<◌, length};
 ghost use Rattle.terms.specs.Terms.{plan_ok};
 ghost use Rattle.node.specs.Node.{said_served};
@@ -13,21 +15,21 @@ use node::Answer;
 use terms::{Plan, Refusal};
 
 // "Walked through by a reader that holds the run and its place."
-#[derive(Drop)]
+#[derive(Clone, Copy)]
 pub struct Reader<'a> {
     pub run: &'a [u8],
     pub at: usize,
 }
 
 // What a run is answered: a refusal; or frames cut, bytes of replies written, place where the run ended.
-#[derive(Drop)]
+#[derive(Clone, Copy)]
 pub enum Ran {
     Refused(Refusal),
     Did(usize, usize, usize),
 }
 
 // How many frames a run has, and where it ends.
-#[derive(Drop)]
+#[derive(Clone, Copy)]
 pub struct Counted {
     pub frames: usize,
     pub ended: usize,

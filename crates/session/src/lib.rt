@@ -1,6 +1,8 @@
 // The session of a client: document 01, "The client". A value handed in and handed back; its methods take a reply and return the next
 // session with its answer. opening.rt has the opening, owed.rt the request owed to a node, reader.rt a reply to a reader, writer.rt one to
 // a writer.
+#![tactic(auto)]
+
 pub mod opening;
 pub mod owed;
 mod reader;
@@ -20,7 +22,7 @@ use standing::{Operation, Round, lengths};
 use terms::{Ask, Plan, Refusal, Time, Timestamp};
 
 // What a client knows between two replies. A field that is not in use is zero, or as its round left it, and no call looks at it.
-#[derive(Drop)]
+#[derive(Clone, Copy)]
 pub struct Session {
     pub operation: Operation,
     pub round: Round,
@@ -35,7 +37,7 @@ pub struct Session {
 }
 
 // The answer to a reply. Endings of a read bear the rounds used; those of a write bear 0.
-#[derive(Drop)]
+#[derive(Clone, Copy)]
 pub enum Answer {
     Refused(Refusal),
     Open,
@@ -47,21 +49,21 @@ pub enum Answer {
 }
 
 // The next session, with the answer.
-#[derive(Drop)]
+#[derive(Clone, Copy)]
 pub struct Took {
     pub session: Session,
     pub answer: Answer,
 }
 
 // What a ladder came to.
-#[derive(Drop)]
+#[derive(Clone, Copy)]
 pub enum Check {
     Passed,
     Failed(Refusal),
 }
 
 // What the ladder of a reply came to: past it, the header that was read at the door.
-#[derive(Drop)]
+#[derive(Clone, Copy)]
 pub enum Taken {
     Refused(Refusal),
     Reply(Header),

@@ -10,14 +10,14 @@ use standing::{Operation, Round, Stage};
 use terms::{Ask, Plan, Refusal};
 
 // The answer to an opening.
-#[derive(Drop)]
+#[derive(Clone, Copy)]
 pub enum Opening {
     Refused(Refusal),
     Accepted,
 }
 
 // The session, with the answer. A refused opening has one that every call refuses.
-#[derive(Drop)]
+#[derive(Clone, Copy)]
 pub struct Opened {
     pub session: Session,
     pub answer: Opening,

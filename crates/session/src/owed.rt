@@ -11,7 +11,7 @@ use standing::lengths;
 use terms::{Plan, Refusal};
 
 // The answer: refused, or the length of the frame that was written.
-#[derive(Drop)]
+#[derive(Clone, Copy)]
 pub enum Owed {
     Refused(Refusal),
     Request(usize),

@@ -1,5 +1,7 @@
 // SHA-256 of FIPS 180-4, of a slice, or of a short prefix and a slice that are not copied together. What `lanes` does with several messages side by
 // side is made of the same functions: of a word, of a round, of a block's words.
+#![tactic(auto)]
+
 ghost use Rattle.std.specs.Prelude.{◌≡◌, ℕ, ◌+◌, ◌%◌, ◌^◌, ◌*◌, ◌<◌, ◌≤◌, ◌/◌, List, ◌++◌, length, get_or, drop, set};
 ghost use Rattle.octets.specs.Bytes.{part, put, alike};
 ghost use Rattle.sha256.specs.Sha256.{K, Ch, Maj, Σ0, Σ1, σ0, σ1, moved_by, round_of, rounds_of, schedule_of, next_word, added_of, compress_of, words, ended, H0, bytes_of, sha256};
@@ -7,7 +9,7 @@ ghost use Rattle.sha256.specs.declared.State.{State};
 ghost use Rattle.sha256.specs.Inside.{Turned};
 
 // The eight working variables, or the eight words of a hash value: 6.2.2, step 2.
-#[derive(Drop)]
+#[derive(Clone, Copy)]
 pub struct State {
     pub a: u32,
     pub b: u32,
@@ -20,7 +22,7 @@ pub struct State {
 }
 
 // 4.2.2: the round constants.
-const K: [u32; 64] = [
+const ROUND_CONSTANTS: [u32; 64] = [
     0x428a_2f98,
     0x7137_4491,
     0xb5c0_fbcf,
@@ -91,7 +93,7 @@ const K: [u32; 64] = [
 pub fn constants() -> [u32; 64]
     ensures { result ≡ K }
 {
-    K
+    ROUND_CONSTANTS
 }
 
 // 4.1.2: the six functions of words. Ch and Maj are worked out with fewer operations than the standard writes them with: what y and z

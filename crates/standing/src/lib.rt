@@ -1,6 +1,8 @@
 // Where an operation stands: document 01, "The client". The operation, and the round that it is in: its stage, its number, its bound. What
 // a round awaits and asks for, the rules of refusal 9 on it and on the marks heard in it, and how it gives way to the next. lengths.rt has
 // the lengths of what a caller lends.
+#![tactic(auto)]
+
 pub mod lengths;
 
 ghost use Rattle.std.specs.Prelude.{◌≡◌, true, not, ◌+◌, ◌*◌, ◌≤◌, ◌<◌, length, ltb, leb, eqb};
@@ -15,14 +17,14 @@ ghost use Rattle.standing.specs.declared.Stage.TheVariants.{Storing, Ended};
 use rounds::{Bound, Mark};
 use terms::{Ask, Plan, Timestamp};
 
-#[derive(Drop)]
+#[derive(Clone, Copy)]
 pub enum Operation {
     Write,
     Read,
 }
 
 // Asking: a time or a read round. Storing: a write or a repair round.
-#[derive(Drop)]
+#[derive(Clone, Copy)]
 pub enum Stage {
     Asking,
     Storing,
@@ -30,7 +32,7 @@ pub enum Stage {
 }
 
 // The round that an operation is in.
-#[derive(Drop)]
+#[derive(Clone, Copy)]
 pub struct Round {
     // What it does: it asks, it stores, or it is over and was the last.
     pub stage: Stage,

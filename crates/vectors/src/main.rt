@@ -1,5 +1,7 @@
 // The published vectors, run: SHA-256 of FIPS 180-4's examples, the worked examples of FIPS 197 sections 4.1 and 4.2, and document 01's
 // columns with m = 2, encoded and brought back from their last two fragments. What this writes is held to the file `stdout`.
+#![tactic(auto)]
+
 ghost use Rattle.std.specs.Prelude.{◌≡◌, ◌<◌, ◌^◌, length};
 
 use lanes::{Batch, Rows};

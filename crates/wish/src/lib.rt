@@ -1,5 +1,7 @@
 // The smallest plan for a wish. Document 02, Q-1: site staff know t, b, m and the member, and get the smallest N, and with it the smallest Q,
 // that document 01 accepts. The contract says "smallest"; the code goes by the closed forms, which are proved to be it.
+#![tactic(auto)]
+
 ghost use Rattle.std.specs.Prelude.{◌≡◌, false, ◌≤◌};
 ghost use Rattle.wish.specs.Wish.{outside, unmet, SmallestCall};
 ghost use Rattle.terms.specs.Terms.{larger};
@@ -8,7 +10,7 @@ ghost use Rattle.wish.specs.Closed.{nodes_for, quorum_for};
 use terms::{Member, Refusal};
 
 // What site staff know: t nodes may be silent or worse, b of them may lie, and m fragments give the block.
-#[derive(Drop)]
+#[derive(Clone, Copy)]
 pub struct Wish {
     pub member: Member,
     pub t: u64,
@@ -17,7 +19,7 @@ pub struct Wish {
 }
 
 // The smallest N, and with it the smallest Q; or why there is none.
-#[derive(Drop)]
+#[derive(Clone, Copy)]
 pub enum Smallest {
     Refused(Refusal),
     Counts(u64, u64),

@@ -1,0 +1,52 @@
+use mathlib.Core.Bool.{not}
+use mathlib.Core.Path.{sym, ap, ◌∙◌}
+use native.Mathlib.Omega.{arith}
+use borrow.Author.Tests.{not-true, not-false}
+use Rattle.terms.proofs.Rungs.{clash}
+use Rattle.book.specs.Records.{timed, rising}
+use Rattle.book.proofs.Turns as turns
+use Rattle.book.proofs.Laws as laws
+use Rattle.book.proofs.filled.Goals as goal
+
+pub overflow_mul-k : goal.overflow_mul-k
+overflow_mul-k c = let q = c.requires in
+    let a = c.args in
+    let l = turns.mul_small a.k.count a.k.each q.1 q.2 in
+    omega arith
+
+pub overflow_add-k : goal.overflow_add-k
+overflow_add-k c = let q = c.requires in
+    let a = c.args in
+    let h = laws.head_of a.p a.book.now a.k q.0 in
+    let l = turns.mul_small a.k.count a.k.each q.1 q.2 in
+    omega arith
+
+pub returns-then-book-k : goal.returns-then-book-k
+returns-then-book-k c = let q = c.requires in
+    let a = c.args in
+    let u = laws.used_of_lem a.p a.book.now a.k q.0 in
+    let t = c.if-book-k.true in
+    laws.fill_no _ _ _ (λ i. let j = i.inside in omega arith)
+
+pub rising-requires : goal.rising-requires
+rising-requires c = let q = c.requires in
+    let l = q.3 in
+    (c.if-book-k.false, omega arith)
+
+pub returns-then-not-rising : goal.returns-then-not-rising
+returns-then-not-rising c = let s = ap rising (laws.records_of_lem _ _ _ c.requires.0) in
+    let g = c.rising in
+    laws.fill_no _ _ _ (λ i. clash (sym i.rise ∙ sym s ∙ sym g.ensures ∙ not-true g.result (ap not c.if-not-rising.true)))
+
+pub timed-requires : goal.timed-requires
+timed-requires c = let q = c.requires in
+    let l = q.3 in
+    (c.if-book-k.false, omega arith)
+
+pub returns : goal.returns
+returns c = let e = c.requires.0 in
+    let u = laws.used_of_lem c.args.p c.args.book.now c.args.k e in
+    let r = laws.records_of_lem c.args.p c.args.book.now c.args.k e in
+    let g = c.rising in
+    let t = c.if-book-k.false in
+    laws.fill_last _ _ _ _ (omega arith) (sym (ap rising r) ∙ sym g.ensures ∙ not-false g.result (ap not c.if-not-rising.false)) (c.timed.ensures ∙ ap timed r)

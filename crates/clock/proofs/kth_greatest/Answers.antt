@@ -1,0 +1,25 @@
+use mathlib.Core.Path.{◌≡◌, refl, ap, ◌∙◌}
+use native.Mathlib.Omega.{arith}
+use borrow.Author.Rules.{rules}
+use lib.ListN.{length}
+use Rattle.clock.proofs.Laws as laws
+use Rattle.clock.specs.Clock.{times_heard, greatest_with}
+use Rattle.clock.proofs.kth_greatest.Goals as goal
+
+pub loop-i-init : goal.loop-i-init
+unfolding times_heard greatest_with
+loop-i-init c = (omega arith, refl)
+
+pub loop-i-preserved : goal.loop-i-preserved
+loop-i-preserved c = let a = c.args in
+    let e : length a.marks ≡ 16 = search rules in
+    let f : length a.times ≡ 16 = search rules in (
+      omega arith,
+      laws.kth_turn a.marks a.times c.loop-i.i (omega arith) (omega arith) _ _ _ _ c.loop-i.invariant.1 c.better-best.ensures,
+    )
+
+pub returns : goal.returns
+returns c = let a = c.args in
+    let e : length a.marks ≡ 16 = search rules in
+    let f : length a.times ≡ 16 = search rules in
+    c.loop-i.invariant.1 ∙ ap (greatest_with a.k (times_heard a.marks a.times) 0) (laws.heard_all a.marks a.times c.loop-i.i (omega arith) (omega arith))

@@ -1,0 +1,4 @@
+use Rattle.lanes.proofs.rows_from.Goals as goal
+
+pub returns : goal.returns
+returns c = cc

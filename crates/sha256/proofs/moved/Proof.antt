@@ -1,6 +1,0 @@
-use borrow.Author.Rules.{rules}
-use Rattle.sha256.proofs.moved.Statement.{statement}
-use Rattle.sha256.proofs.moved.Tie as tie
-
-pub moved_spec : {M : Type 1} → statement M
-moved_spec = tie.close (tie.spec (λ c κs. search rules) (λ c κs. search rules) (λ c. cc))

@@ -36,7 +36,7 @@ wide_heard (m ∷ ms) (t ∷ ts) w = go (eqb (bit_of m.is) 1) (wide_heard ms ts 
 wide_greatest : (k : ℕ) (r : List ℕ) (b : ℕ) (l : List ℕ) → b < 256 ^ 8 → All (λ (x : ℕ). x < 256 ^ 8) l → greatest_with k r b l < 256 ^ 8
 unfolding greatest_with
 wide_greatest k r b [] h a = h
-wide_greatest k r b (v ∷ l) h a = wide_greatest k r _ l (go (leb k (or_more v r)) (ltb b v)) a.1
+wide_greatest k r b (v ∷ l) h a = wide_greatest k r (cond (leb k (or_more v r)) (cond (ltb b v) v b) b) l (go (leb k (or_more v r)) (ltb b v)) a.1
   where
     go : (x y : Bool) → cond x (cond y v b) b < 256 ^ 8
     go true true = a.0

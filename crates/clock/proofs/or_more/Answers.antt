@@ -12,15 +12,15 @@ loop-i-init c = (omega arith, omega arith, refl)
 
 pub loop-i-preserved : goal.loop-i-preserved
 loop-i-preserved c = let a = c.args in
-    let e : length a.t1 ≡ 16 = search rules in
-    let f : length a.t2 ≡ 16 = search rules in (
+    let e : length a.marks ≡ 16 = search rules in
+    let f : length a.times ≡ 16 = search rules in (
       omega arith,
       omega arith,
-      laws.more_turn a.t1 a.t2 c.loop-i.i (omega arith) (omega arith) _ _ _ c.loop-i.invariant.2 c.reaches-n.ensures.0,
+      laws.more_turn a.marks a.times c.loop-i.i (omega arith) (omega arith) _ _ _ c.loop-i.invariant.2 c.reaches-n.ensures.0,
     )
 
 pub returns : goal.returns
 returns c = let a = c.args in
-    let e : length a.t1 ≡ 16 = search rules in
-    let f : length a.t2 ≡ 16 = search rules in
-    c.loop-i.invariant.2 ∙ ap (or_more a.v.0) (laws.heard_all a.t1 a.t2 c.loop-i.i (omega arith) (omega arith))
+    let e : length a.marks ≡ 16 = search rules in
+    let f : length a.times ≡ 16 = search rules in
+    c.loop-i.invariant.2 ∙ ap (or_more a.v.0) (laws.heard_all a.marks a.times c.loop-i.i (omega arith) (omega arith))

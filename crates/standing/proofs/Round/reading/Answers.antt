@@ -1,0 +1,13 @@
+use mathlib.Core.Bool.{not}
+use mathlib.Core.Path.{ap}
+use mathlib.Core.Path.{sym, ◌∙◌}
+use borrow.Author.Tests.{not-true, not-false}
+use Rattle.standing.proofs.Rules as rules
+use borrow.Author.Rules.{rules}
+use Rattle.standing.proofs.Round.reading.Goals as goal
+
+pub returns-then-not-reads : goal.returns-then-not-reads
+returns-then-not-reads c = rules.and_fails _ (sym c.reads.ensures ∙ not-true c.reads.result (ap not c.if-not-reads.true))
+
+pub returns : goal.returns
+returns c = rules.and_last (sym c.reads.ensures ∙ not-false c.reads.result (ap not c.if-not-reads.false)) c.asking.ensures

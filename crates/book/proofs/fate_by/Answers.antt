@@ -12,7 +12,7 @@ returns-then-not-same c = let pre = c.requires in
     let shared_slice_known2 = c.shared_slice_known-2-1 in
     let same = c.same in
     laws.by_free _ _ _ _ _ _ pre.2 (λ i. omega (arith, shared_slice_known.given i)) (λ i. omega (arith, shared_slice_known2.given i)) pre.0
-    pre.1 (sym same.ensures ∙ not-true same.result (ap not c.if-not-same.true))
+    pre.1 (sym same.ensures ∙ c.if-not-same.true)
 
 pub returns-then-same : goal.returns-then-same
 returns-then-same c = let pre = c.requires in

@@ -36,7 +36,7 @@ rising-requires c = let q = c.requires in
 pub returns-then-not-rising : goal.returns-then-not-rising
 returns-then-not-rising c = let s = ap rising (laws.records_of_lem _ _ _ c.requires.0) in
     let g = c.rising in
-    laws.fill_no _ _ _ (λ i. clash (sym i.rise ∙ sym s ∙ sym g.ensures ∙ not-true g.result (ap not c.if-not-rising.true)))
+    laws.fill_no _ _ _ (λ i. clash (sym i.rise ∙ sym s ∙ sym g.ensures ∙ c.if-not-rising.true))
 
 pub timed-requires : goal.timed-requires
 timed-requires c = let q = c.requires in
@@ -49,4 +49,4 @@ returns c = let e = c.requires.0 in
     let r = laws.records_of_lem c.args.p c.args.book.now c.args.k e in
     let g = c.rising in
     let t = c.if-book-k.false in
-    laws.fill_last _ _ _ _ (omega arith) (sym (ap rising r) ∙ sym g.ensures ∙ not-false g.result (ap not c.if-not-rising.false)) (c.timed.ensures ∙ ap timed r)
+    laws.fill_last _ _ _ _ (omega arith) (sym (ap rising r) ∙ sym g.ensures ∙ c.if-not-rising.false) (c.timed.ensures ∙ ap timed r)

@@ -14,7 +14,7 @@ pub returns-then-not-headed : goal.returns-then-not-headed
 returns-then-not-headed c = let h = c.header_of-k.ensures in
     let o = c.shared_slice_known-1 in
     let g = c.headed in
-    laws.bad_head _ _ _ (λ i. omega (arith, o.given i)) h.0 h.1 (sym g.ensures ∙ not-true g.result (ap not c.if-not-headed.true))
+    laws.bad_head _ _ _ (λ i. omega (arith, o.given i)) h.0 h.1 (sym g.ensures ∙ c.if-not-headed.true)
 
 pub filled-requires : goal.filled-requires
 filled-requires c = let h = c.header_of-k.ensures in

@@ -26,7 +26,7 @@ pub returns-then-not-is_below : goal.returns-then-not-is_below
 returns-then-not-is_below c = let loop_test = c.loop-i-test in
     let is_below = c.is_below in
     let loop = c.loop-i in
-    turns.place_stop _ _ (omega arith) _ _ _ _ _ loop_test.true (sym is_below.ensures ∙ not-true is_below.result (ap not c.if-not-is_below.true)) loop.invariant.2
+    turns.place_stop _ _ (omega arith) _ _ _ _ _ loop_test.true (sym is_below.ensures ∙ c.if-not-is_below.true) loop.invariant.2
 
 pub overflow_add-p : goal.overflow_add-p
 overflow_add-p c = let args = c.args in
@@ -42,7 +42,7 @@ loop-i-preserved c = let args = c.args in
     let loop_test = c.loop-i-test in
     let is_below = c.is_below in
     let a = args in
-    (omega arith, (let n = turns.next loop.i a.k.each in omega arith), turns.place_on _ _ (omega arith) _ _ _ _ _ loop_test.true (sym is_below.ensures ∙ not-false is_below.result (ap not c.if-not-is_below.false)) loop.invariant.2)
+    (omega arith, (let n = turns.next loop.i a.k.each in omega arith), turns.place_on _ _ (omega arith) _ _ _ _ _ loop_test.true (sym is_below.ensures ∙ c.if-not-is_below.false) loop.invariant.2)
 
 pub returns : goal.returns
 returns c = let loop = c.loop-i in

@@ -23,7 +23,7 @@ less-requires c = let loop = c.loop-m in
 pub returns-then-not-less : goal.returns-then-not-less
 returns-then-not-less c = let less = c.less in
     let loop = c.loop-m in
-    laws.rising_stop _ _ (omega arith) _ _ _ (omega arith) (sym less.ensures ∙ not-true less.result (ap not c.if-not-less.true)) loop.invariant.1
+    laws.rising_stop _ _ (omega arith) _ _ _ (omega arith) (sym less.ensures ∙ c.if-not-less.true) loop.invariant.1
 
 pub overflow_add-p-in-loop-m : goal.overflow_add-p-in-loop-m
 overflow_add-p-in-loop-m c = let loop_test = c.loop-m-test in
@@ -34,7 +34,7 @@ overflow_add-p-in-loop-m c = let loop_test = c.loop-m-test in
 pub loop-m-preserved : goal.loop-m-preserved
 loop-m-preserved c = let loop = c.loop-m in
     let less = c.less in
-    ((laws.room _ _ _ _ (omega arith) loop.invariant.0).1, laws.rising_on _ _ (omega arith) _ _ _ (omega arith) (sym less.ensures ∙ not-false less.result (ap not c.if-not-less.false)) loop.invariant.1)
+    ((laws.room _ _ _ _ (omega arith) loop.invariant.0).1, laws.rising_on _ _ (omega arith) _ _ _ (omega arith) (sym less.ensures ∙ c.if-not-less.false) loop.invariant.1)
 
 pub returns : goal.returns
 returns c = let loop = c.loop-m in

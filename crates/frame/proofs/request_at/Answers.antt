@@ -8,29 +8,29 @@ use Rattle.frame.proofs.request_at.Goals as goal
 
 pub returns-then-not-shaped : goal.returns-then-not-shaped
 returns-then-not-shaped c = let s = c.shaped in
-    laws.request_shut _ _ _ (laws.frame_unshaped _ _ _ (sym s.ensures ∙ not-true s.result (ap not c.if-not-shaped.true)))
+    laws.request_shut _ _ _ (laws.frame_unshaped _ _ _ (sym s.ensures ∙ c.if-not-shaped.true))
 
 pub header_of-h-requires : goal.header_of-h-requires
 header_of-h-requires c = let s = c.shaped in
-    (laws.shaped_is _ (sym s.ensures ∙ not-false s.result (ap not c.if-not-shaped.false))).low
+    (laws.shaped_is _ (sym s.ensures ∙ c.if-not-shaped.false)).low
 
 pub suits-requires : goal.suits-requires
 suits-requires c = let s = c.shaped in
-    (c.requires, (laws.shaped_is _ (sym s.ensures ∙ not-false s.result (ap not c.if-not-shaped.false))).low)
+    (c.requires, (laws.shaped_is _ (sym s.ensures ∙ c.if-not-shaped.false)).low)
 
 pub returns-then-not-suits : goal.returns-then-not-suits
 returns-then-not-suits c = let s = c.shaped in
     let t = c.suits in
     laws.request_shut _ _ _
-    (sym (laws.frame_read Node _ _ _ (sym s.ensures ∙ not-false s.result (ap not c.if-not-shaped.false)) c.header_of-h.ensures.0 t.ensures)
-    ∙ not-true t.result (ap not c.if-not-suits.true))
+    (sym (laws.frame_read Node _ _ _ (sym s.ensures ∙ c.if-not-shaped.false) c.header_of-h.ensures.0 t.ensures)
+    ∙ c.if-not-suits.true)
 
 pub returns-then-here-node : goal.returns-then-here-node
 returns-then-here-node c = let s = c.shaped in
     let t = c.suits in
     let h = c.header_of-h.ensures.0 in
     laws.request_door _ _ _ _
-    (sym (laws.frame_read Node _ _ _ (sym s.ensures ∙ not-false s.result (ap not c.if-not-shaped.false)) h t.ensures) ∙ not-false t.result (ap not c.if-not-suits.false))
+    (sym (laws.frame_read Node _ _ _ (sym s.ensures ∙ c.if-not-shaped.false) h t.ensures) ∙ c.if-not-suits.false)
     h c.if-here-node.true
 
 pub returns : goal.returns
@@ -38,5 +38,5 @@ returns c = let s = c.shaped in
     let t = c.suits in
     let h = c.header_of-h.ensures.0 in
     laws.request_elsewhere _ _ _ _
-    (sym (laws.frame_read Node _ _ _ (sym s.ensures ∙ not-false s.result (ap not c.if-not-shaped.false)) h t.ensures) ∙ not-false t.result (ap not c.if-not-suits.false))
+    (sym (laws.frame_read Node _ _ _ (sym s.ensures ∙ c.if-not-shaped.false) h t.ensures) ∙ c.if-not-suits.false)
     h c.if-here-node.false

@@ -8,10 +8,10 @@ use Rattle.frame.proofs.suits.Goals as goal
 
 pub returns-then-not-for_party : goal.returns-then-not-for_party
 returns-then-not-for_party c = let f = c.for_party in
-    laws.suits_stray _ _ _ _ (sym f.ensures ∙ not-true f.result (ap not c.if-not-for_party.true))
+    laws.suits_stray _ _ _ _ (sym f.ensures ∙ c.if-not-for_party.true)
 
 pub returns : goal.returns
 returns c = let f = c.for_party in
     let a = c.args in
-    laws.suits_last _ _ _ _ _ (sym f.ensures ∙ not-false f.result (ap not c.if-not-for_party.false))
+    laws.suits_last _ _ _ _ _ (sym f.ensures ∙ c.if-not-for_party.false)
     (c.body_fits.ensures ∙ ap (λ (x : ℕ). body_fits a.p a.h.kind (a.n - x)) c.head_bytes-head.ensures)

@@ -22,7 +22,7 @@ returns-then-not-room c = laws.write_full _ _ _ _ _ c.requires.1 _ (laws.fate_as
 
 pub insert-requires : goal.insert-requires
 insert-requires c = laws.placed _ _ _ _ _ c.requires.0 c.requires.1 _ _ c.head_bytes-at.ensures (sym c.in-Free.is ∙ c.fate_of-fate.ensures)
-    (sym c.room.ensures ∙ not-false c.room.result (ap not c.if-not-room.false))
+    (sym c.room.ensures ∙ c.if-not-room.false)
 
 pub acknowledge-requires-in-Free : goal.acknowledge-requires-in-Free
 acknowledge-requires-in-Free c = (laws.stamp_fits _ _ _ _ _ c.requires.0 c.requires.1, (laws.room_for _ _ _ _ _ c.requires.0).1)

@@ -14,10 +14,10 @@ pub is_blank-requires : goal.is_blank-requires
 is_blank-requires c = tt
 
 pub returns-then-not-is_blank : goal.returns-then-not-is_blank
-returns-then-not-is_blank c = (omega arith, omega arith, words.past_at c.args.s.now c.args.at c.args.end c.loop-i.i c.loop-i.invariant.2 (omega arith) (omega arith) (sym c.is_blank.ensures ∙ not-true c.is_blank.result (ap not c.if-not-is_blank.true)))
+returns-then-not-is_blank c = (omega arith, omega arith, words.past_at c.args.s.now c.args.at c.args.end c.loop-i.i c.loop-i.invariant.2 (omega arith) (omega arith) (sym c.is_blank.ensures ∙ c.if-not-is_blank.true))
 
 pub loop-i-preserved : goal.loop-i-preserved
-loop-i-preserved c = (omega arith, omega arith, words.past_on c.args.s.now c.args.at c.args.end c.loop-i.i c.loop-i.invariant.2 (omega arith) (omega arith) (sym c.is_blank.ensures ∙ not-false c.is_blank.result (ap not c.if-not-is_blank.false)))
+loop-i-preserved c = (omega arith, omega arith, words.past_on c.args.s.now c.args.at c.args.end c.loop-i.i c.loop-i.invariant.2 (omega arith) (omega arith) (sym c.is_blank.ensures ∙ c.if-not-is_blank.false))
 
 pub returns : goal.returns
 returns c = (omega arith, omega arith, words.past_end c.args.s.now c.args.at c.args.end c.loop-i.i c.loop-i.invariant.2 (omega arith))

@@ -7,7 +7,7 @@ use borrow.Author.Rules.{rules}
 use Rattle.standing.proofs.Round.reading.Goals as goal
 
 pub returns-then-not-reads : goal.returns-then-not-reads
-returns-then-not-reads c = rules.and_fails _ (sym c.reads.ensures ∙ not-true c.reads.result (ap not c.if-not-reads.true))
+returns-then-not-reads c = rules.and_fails _ (sym c.reads.ensures ∙ c.if-not-reads.true)
 
 pub returns : goal.returns
-returns c = rules.and_last (sym c.reads.ensures ∙ not-false c.reads.result (ap not c.if-not-reads.false)) c.asking.ensures
+returns c = rules.and_last (sym c.reads.ensures ∙ c.if-not-reads.false) c.asking.ensures

@@ -18,10 +18,10 @@ returns-then-number-w c = rules.holds _ (le-leb _ _ c.if-number-lt1.false) (rule
 pub returns-then-not-counts : goal.returns-then-not-counts
 unfolding round_rules
 returns-then-not-counts c = rules.holds _ (le-leb _ _ c.if-number-lt1.false)
-    (rules.holds _ (le-leb _ _ c.if-number-w.false) (rules.fails _ (sym c.counts.ensures ∙ not-true c.counts.result (ap not c.if-not-counts.true))))
+    (rules.holds _ (le-leb _ _ c.if-number-w.false) (rules.fails _ (sym c.counts.ensures ∙ c.if-not-counts.true)))
 
 pub returns : goal.returns
 unfolding round_rules
 returns c = rules.holds _ (le-leb _ _ c.if-number-lt1.false)
     (rules.holds _ (le-leb _ _ c.if-number-w.false)
-    (rules.holds _ (sym c.counts.ensures ∙ not-false c.counts.result (ap not c.if-not-counts.false)) (rules.last c.bound_ok.ensures)))
+    (rules.holds _ (sym c.counts.ensures ∙ c.if-not-counts.false) (rules.last c.bound_ok.ensures)))

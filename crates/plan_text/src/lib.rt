@@ -145,9 +145,9 @@ fn before_blanks(s: &[u8], at: usize, end: usize) -> usize
 // The line that starts at `at`.
 fn line_at(s: &[u8], at: usize) -> Line
     requires { at < length s.now }
-    ensures at_le_end { (result.at ≤ result.end) × (result.end ≤ length s.now) × (at < result.next) × (result.next ≤ length s.now) }
-    ensures at_value { part s.now result.at (result.end - result.at) ≡ words_of (until 10 (drop at s.now)) }
-    ensures s_value { lines_of (drop at s.now) ≡ until 10 (drop at s.now) ∷ lines_of (drop result.next s.now) }
+    ensures within_text { (result.at ≤ result.end) × (result.end ≤ length s.now) × (at < result.next) × (result.next ≤ length s.now) }
+    ensures words_of_first_line { part s.now result.at (result.end - result.at) ≡ words_of (until 10 (drop at s.now)) }
+    ensures first_line_then_rest { lines_of (drop at s.now) ≡ until 10 (drop at s.now) ∷ lines_of (drop result.next s.now) }
 {
     let n = s.len();
     let stop = first_of(s, at, n, b'\n');
@@ -241,8 +241,8 @@ fn value(w: &[u8], k: usize) -> Numeral
 // A line's value, if it has words, as value k.
 fn take_line(w: &[u8], k: usize, values: &mut [u64; 9]) -> Given
     requires { (k ≤ 9) × (length values.old ≡ 9) }
-    ensures more_bound { (k + result.more ≤ 9) × (result.wrong ≡ wrong_in k w.now) × (length values.new ≡ 9) }
-    ensures values_after { take (k + result.more) values.new ≡ take k values.old ++ given_by k w.now }
+    ensures wrong_and_at_most_nine { (k + result.more ≤ 9) × (result.wrong ≡ wrong_in k w.now) × (length values.new ≡ 9) }
+    ensures given_appended { take (k + result.more) values.new ≡ take k values.old ++ given_by k w.now }
 {
     if w.len() == 0 {
         return Given {

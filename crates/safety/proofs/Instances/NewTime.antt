@@ -5,7 +5,7 @@ use Prim.Native.Nat.{ℕ, zero, suc, ◌+◌, ◌<◌}
 use mathlib.Core.Path.{◌≡◌, refl, sym, subst}
 use mathlib.Core.Bool.{true}
 use mathlib.Core.List.{[], ◌∷◌}
-use mathlib.Core.Logic.{inl}
+use mathlib.Core.Logic.{inl, inr}
 use native.Mathlib.Omega.{arith}
 use lib.ListN.{replicate}
 use Rattle.terms.specs.declared.Refusal.TheVariants.{NoRoom}
@@ -82,6 +82,7 @@ told_so x m h = only (subst (In x) one.replies_are m)
           is = (one.of_time_1).1;
           wrote = record { at = record { before = []; call = told; after = []; is = refl }; size = 23; replied = refl; is = sym (one.asked_is).1 };
         })
+    only (inr q) = elim q [ ]
 
 pub passed_so : 1 < new_time_of one.to_write
 passed_so = lives_pass_what_is_complete one.plan nodes one.to_write 1 lives_so executed_so told_so

@@ -108,33 +108,33 @@ past_first x y n from k e h =
     sym (part_past x y n (from - n) k e) ∙ ap (λ (i : ℕ). part (x ++ y) i k) a
 
 -- what stands before the fragment, and a strip of it, are a stretch of the message
-pub stretch_is : (heads d qs : List ℕ) (g : Group) (y : Stretch) (k i : ℕ) → Fits g y → k ≡ head_in y → i < 16 → length heads ≡ 128
-    → part heads (8 * i) k ++ regenerated d (strip_of g.slots (y.from + k - y.head) (y.size - k)) qs i ≡ part (message_in heads y.head d g.slots qs i) y.from y.size
+pub stretch_is : (heads d qs : List ℕ) (g : Group) (y : Stretch) (k i : ℕ) → Fits g y → k ≡ head_in y → i < 16 → length heads ≡ 256
+    → part heads (16 * i) k ++ regenerated d (strip_of g.slots (y.from + k - y.head) (y.size - k)) qs i ≡ part (message_in heads y.head d g.slots qs i) y.from y.size
 stretch_is heads d qs g y k i f e h z = go (ℕ_discrete y.from 0)
   where
     whole : List ℕ
     whole = regenerated d g.slots qs i
 
-    before : length (part heads (8 * i) y.head) ≡ y.head
-    before = length_part heads (8 * i) y.head (omega (arith, f.head))
+    before : length (part heads (16 * i) y.head) ≡ y.head
+    before = length_part heads (16 * i) y.head (omega (arith, f.head))
 
     strip : regenerated d (strip_of g.slots (y.from + k - y.head) (y.size - k)) qs i ≡ part whole (y.from + k - y.head) (y.size - k)
     strip = let q = split g y k f e in regenerated_strip d g.slots qs i (y.from + k - y.head) (y.size - k) (omega (arith, q.small, q.inner, q.past, f.inside))
 
-    go : Dec (y.from ≡ 0) → part heads (8 * i) k ++ regenerated d (strip_of g.slots (y.from + k - y.head) (y.size - k)) qs i ≡ part (message_in heads y.head d g.slots qs i) y.from y.size
+    go : Dec (y.from ≡ 0) → part heads (16 * i) k ++ regenerated d (strip_of g.slots (y.from + k - y.head) (y.size - k)) qs i ≡ part (message_in heads y.head d g.slots qs i) y.from y.size
     go (yes a) =
         let q : k ≡ y.head = e ∙ sym (head_first y a) in
         let o : y.from + k - y.head ≡ 0 = omega arith in
         let n : y.size - k ≡ y.size - y.head = omega arith in
-        ap₂ (λ (u v : List ℕ). u ++ v) (ap (part heads (8 * i)) q) (strip ∙ ap₂ (part whole) o n)
-        ∙ over_both (part heads (8 * i) y.head) whole y.head y.size before (f.first a)
+        ap₂ (λ (u v : List ℕ). u ++ v) (ap (part heads (16 * i)) q) (strip ∙ ap₂ (part whole) o n)
+        ∙ over_both (part heads (16 * i) y.head) whole y.head y.size before (f.first a)
         ∙ ap (λ (j : ℕ). part (message_in heads y.head d g.slots qs i) j y.size) (sym a)
     go (no a) =
         let q : k ≡ 0 = e ∙ sym (head_later y a) in
         let o : y.from + k - y.head ≡ y.from - y.head = omega arith in
         let n : y.size - k ≡ y.size = omega arith in
-        ap₂ (λ (u v : List ℕ). u ++ v) (ap (part heads (8 * i)) q ∙ part_none heads (8 * i)) (strip ∙ ap₂ (part whole) o n)
-        ∙ past_first (part heads (8 * i) y.head) whole y.head y.from y.size before (f.later a)
+        ap₂ (λ (u v : List ℕ). u ++ v) (ap (part heads (16 * i)) q ∙ part_none heads (16 * i)) (strip ∙ ap₂ (part whole) o n)
+        ∙ past_first (part heads (16 * i) y.head) whole y.head y.from y.size before (f.later a)
 
 -- ---- the stretches of a group, side by side
 -- the strip t of the fragments, and the batch x of the stretches
@@ -154,7 +154,7 @@ module _ (d qs : List ℕ) (t : Slots) (g : Group) (y : Stretch) (k : ℕ) (f : 
     pub lanes_are : x.n ≡ g.n
     lanes_are = ap (λ (b : Batch). b.n) ex
 
-    module _ (heads rows : List ℕ) (z : length heads ≡ 128) (r : Rowed d t qs g.first g.n rows) where
+    module _ (heads rows : List ℕ) (z : length heads ≡ 256) (r : Rowed d t qs g.first g.n rows) where
       pub stretches_lie : Lying heads rows x
       stretches_lie =
           rw ex (record {
@@ -164,7 +164,7 @@ module _ (d qs : List ℕ) (t : Slots) (g : Group) (y : Stretch) (k : ℕ) (f : 
 
       stretch_of : (l : ℕ) → l < g.n → message_of heads rows x l ≡ part (message_in heads y.head d g.slots qs (g.first + l)) y.from y.size
       stretch_of l h =
-          let a : 8 * g.first + l * 8 ≡ 8 * (g.first + l) = omega arith in
+          let a : 16 * g.first + l * 16 ≡ 16 * (g.first + l) = omega arith in
           let b : 0 + l * 192 ≡ 192 * l = omega arith in
           ap (λ (b : Batch). message_of heads rows b l) ex
           ∙ ap₂ (λ (u v : List ℕ). u ++ v) (ap (λ (i : ℕ). part heads i k) a) (ap (λ (i : ℕ). part rows i t.fragment) b ∙ r.held l h ∙ ap (λ (v : Slots). regenerated d v qs (g.first + l)) et)
@@ -177,7 +177,7 @@ module _ (d qs : List ℕ) (t : Slots) (g : Group) (y : Stretch) (k : ℕ) (f : 
           (subst (λ (n : ℕ). EachLane (λ l. after (lane_of old l) y.blocks (ended y.from (message_of heads rows x l))) n old new) lanes_are u)
 
 -- ---- stretch after stretch
-module _ (g : Group) (head : ℕ) (u : Hashable g) (b : head ≤ 8) where
+module _ (g : Group) (head : ℕ) (u : Hashable g) (b : head ≤ 16) where
   pub fits_whole : (from : ℕ) → from % 192 ≡ 0 → from + 192 < head + g.slots.fragment → Fits g (record { head = head; from = from; size = 192; blocks = 3 })
   fits_whole from z h =
       record {
@@ -204,11 +204,11 @@ module _ (g : Group) (head : ℕ) (u : Hashable g) (b : head ≤ 8) where
         blocks = omega arith;
       }
 
-module _ (heads d : List ℕ) (g : Group) (head : ℕ) (src : Sources d g.slots (points_of g.basis)) (z : length heads ≡ 128) where
-  message_long : (i : ℕ) → i < 16 → head ≤ 8 → length (message_in heads head d g.slots (points_of g.basis) i) ≡ head + g.slots.fragment
+module _ (heads d : List ℕ) (g : Group) (head : ℕ) (src : Sources d g.slots (points_of g.basis)) (z : length heads ≡ 256) where
+  message_long : (i : ℕ) → i < 16 → head ≤ 16 → length (message_in heads head d g.slots (points_of g.basis) i) ≡ head + g.slots.fragment
   message_long i h b =
-      length-append (part heads (8 * i) head) (regenerated d g.slots (points_of g.basis) i)
-      ∙ ap₂ (λ (x y : ℕ). x + y) (length_part heads (8 * i) head (omega arith)) (length_regenerated d g.slots (points_of g.basis) i src)
+      length-append (part heads (16 * i) head) (regenerated d g.slots (points_of g.basis) i)
+      ∙ ap₂ (λ (x y : ℕ). x + y) (length_part heads (16 * i) head (omega arith)) (length_regenerated d g.slots (points_of g.basis) i src)
 
   pub taken_none : (old h : List ℕ) → EachLane (λ l. H0) g.n old h → Taken heads head d g 0 h
   unfolding after
@@ -232,9 +232,9 @@ module _ (heads d : List ℕ) (g : Group) (head : ℕ) (src : Sources d g.slots 
           ∙ after_stretch H0 m y.from y.size y.blocks f.whole (omega (arith, f.inside)) (λ b. w b ∙ sym n)
           ∙ ap (λ (x : ℕ). after H0 x (ended 0 m)) (sym q)
 
-  pub all_taken : (p : Plan) (k : ℕ) (h : List ℕ) → head ≤ 8 → g.first + g.n ≤ 16 → k ≡ (head + g.slots.fragment + 72) / 64 → ((i : ℕ) → i < 16 → part heads (8 * i) head ≡ prefix_of p i)
+  pub all_taken : (p : Plan) (k : ℕ) (h : List ℕ) → head ≤ 16 → g.first + g.n ≤ 16 → k ≡ (head + g.slots.fragment + 72) / 64 → ((i : ℕ) → i < 16 → part heads (16 * i) head ≡ prefix_of p i)
       → Taken heads head d g k h → (l : ℕ) → l < g.n → bytes_of (lane_of h l) ≡ fragment_hash p (g.first + l) (regenerated d g.slots (points_of g.basis) (g.first + l))
   all_taken p k h b c e q t l i =
       hash_of (message_in heads head d g.slots (points_of g.basis) (g.first + l)) (head + g.slots.fragment) (lane_of h l) H0 (message_long (g.first + l) (omega arith) b) refl
       (t.done l i ∙ ap (λ (x : ℕ). after H0 x (ended 0 (message_in heads head d g.slots (points_of g.basis) (g.first + l)))) e)
-      ∙ hashed p (g.first + l) (part heads (8 * (g.first + l)) head) (regenerated d g.slots (points_of g.basis) (g.first + l)) (q (g.first + l) (omega arith))
+      ∙ hashed p (g.first + l) (part heads (16 * (g.first + l)) head) (regenerated d g.slots (points_of g.basis) (g.first + l)) (q (g.first + l) (omega arith))

@@ -24,7 +24,7 @@ abbrev pub entries_of : Plan → List ℕ → Slots → List ℕ → ℕ → ℕ
 entries_of p d s qs i n = row (λ l. fragment_hash p (i + l) (regenerated d s qs (i + l))) n
 
 abbrev pub message_in : List ℕ → ℕ → List ℕ → Slots → List ℕ → ℕ → List ℕ
-message_in heads size d s qs i = part heads (8 * i) size ++ regenerated d s qs i
+message_in heads size d s qs i = part heads (16 * i) size ++ regenerated d s qs i
 
 -- all of it stands in the first stretch
 unfoldable pub head_in : Stretch → ℕ
@@ -32,7 +32,7 @@ head_in y = cond (eqb y.from 0) y.head 0
 
 -- in rows of 8 and of 192 bytes
 abbrev pub batch_in : Group → ℕ → ℕ → Batch
-batch_in g k n = record { heads = record { first = 8 * g.first; stride = 8; size = k }; bodies = record { first = 0; stride = 192; size = n }; n = g.n }
+batch_in g k n = record { heads = record { first = 16 * g.first; stride = 16; size = k }; bodies = record { first = 0; stride = 192; size = n }; n = g.n }
 
 pub record Rowed (d : List ℕ) (s : Slots) (qs : List ℕ) (i n : ℕ) (rows : List ℕ) : Type 0 where
   pub long : length rows ≡ 1536
@@ -47,7 +47,7 @@ pub record Hashable (g : Group) : Type 0 where
 
 pub record Fits (g : Group) (y : Stretch) : Type 0 where
   pub group : Hashable g
-  pub head : y.head ≤ 8
+  pub head : y.head ≤ 16
   pub inside : y.from + y.size ≤ y.head + g.slots.fragment
   pub short : y.size ≤ 192
   pub first : y.from ≡ 0 → y.head ≤ y.size

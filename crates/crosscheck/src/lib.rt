@@ -78,8 +78,8 @@ fn batch(g: Group, k: usize, n: usize) -> Batch
     ensures { result ≡ batch_in g k n }
 {
     let heads = Rows {
-        first: 8 * g.first,
-        stride: 8,
+        first: 16 * g.first,
+        stride: 16,
         size: k,
     };
     let bodies = Rows {
@@ -96,7 +96,7 @@ fn batch(g: Group, k: usize, n: usize) -> Batch
 
 // A stretch of every fragment of a group, regenerated into rows and taken into the hashes.
 fn take_in(h: &mut [u32; 64], heads: &[u8], desk: &[u8], g: Group, y: Stretch, scratch: &mut [u8])
-    requires { (Ready g.basis) × (Sources desk.now g.slots (points_of g.basis)) × (Fits g y) × (length heads.now ≡ 128) × (length h.old ≡ 64) × (length scratch.old ≡ 1536) }
+    requires { (Ready g.basis) × (Sources desk.now g.slots (points_of g.basis)) × (Fits g y) × (length heads.now ≡ 256) × (length h.old ≡ 64) × (length scratch.old ≡ 1536) }
     ensures { (length scratch.new ≡ 1536)
         × (EachLane (λ l. after (lane_of h.old l) y.blocks (ended y.from (part (message_in heads.now y.head desk.now g.slots (points_of g.basis) (g.first + l)) y.from y.size)))
         g.n h.old h.new) }
@@ -117,7 +117,7 @@ fn whole_stretches(
     g: Group,
     scratch: &mut [u8],
 ) -> usize
-    requires { (Ready g.basis) × (Sources desk.now g.slots (points_of g.basis)) × (Hashable g) × (head ≤ 8) × (length heads.now ≡ 128) × (length scratch.old ≡ 1536)
+    requires { (Ready g.basis) × (Sources desk.now g.slots (points_of g.basis)) × (Hashable g) × (head ≤ 16) × (length heads.now ≡ 256) × (length scratch.old ≡ 1536)
         × (Taken heads.now head desk.now g 0 h.old) }
     ensures { (length scratch.new ≡ 1536) × (LastFrom (head + g.slots.fragment) result)
         × (Taken heads.now head desk.now g (result / 64) h.new) }

@@ -22,7 +22,7 @@ use Rattle.terms.specs.declared.Plan.{Plan}
 use Rattle.terms.proofs.Down as down
 use Rattle.terms.proofs.Ladders.{by_ladder}
 use Rattle.frame.specs.Frame.{longest, rest_of, header_in, body_of, one_of, cut_at}
-use Rattle.book.specs.Book.{joined, good_book, book_lent, Itself}
+use Rattle.book.specs.Book.{good_book, book_lent, Itself}
 use Rattle.book.proofs.Laws as books
 use Rattle.node.specs.Node.{ServedOutcome, served_outcome, refused, node_ladder, book_reply_ok, sends, answered, served}
 use Rattle.node.proofs.Laws.{lengths_are}
@@ -37,7 +37,7 @@ use Rattle.store.specs.Deliver.{Among}
 use Rattle.store.proofs.Run.{Brought, requests_of, through, RoomyEach}
 use Rattle.store.proofs.Books.{Brings}
 use Rattle.store.proofs.Kept.{StaysGood, served_stays}
-use Rattle.demands.specs.Evening.{RunDelivery, books_after_run, delivered_by_runs, RunsCalled, frames_to, DeliversByRuns, Framed, AllFramed, is_frame_number, all_numbers}
+use Rattle.demands.specs.Evening.{RunDelivery, books_after_run, delivered_by_runs, RunsCalled, frames_to, DeliversByRuns, Framed, laid_end_to_end, AllFramed, is_frame_number, all_numbers}
 
 -- ---- one run: its frames, each lent the run's reply buffer
 unfoldable pub each : List ℕ → List (List ℕ) → List Brought
@@ -168,8 +168,8 @@ next_at pre f rest h =
 
 -- the frames after some bytes
 cut_after_lem : (fs : List (List ℕ)) (pre : List ℕ) → AllFramed fs
-    → cut_after (pre ++ joined fs) (length pre) ≡ cut_into fs (length (pre ++ joined fs))
-unfolding joined
+    → cut_after (pre ++ laid_end_to_end fs) (length pre) ≡ cut_into fs (length (pre ++ laid_end_to_end fs))
+unfolding laid_end_to_end
 cut_after_lem [] pre h =
     let l = length-append pre [] in
     let e : length pre ≡ length (pre ++ []) = l_is l in
@@ -181,7 +181,7 @@ cut_after_lem [] pre h =
     none_past : (s : List ℕ) (at : ℕ) → length s ≤ at → next_place s at ≤ at
     none_past s at q = ltb-false _ _ (past s at q)
 cut_after_lem (f ∷ fs) pre h =
-    let rest : List ℕ = joined fs in
+    let rest : List ℕ = laid_end_to_end fs in
     let s : List ℕ = pre ++ (f ++ rest) in
     let at : ℕ = length pre in
     let g = h.0.long in
@@ -194,7 +194,7 @@ cut_after_lem (f ∷ fs) pre h =
     one_more s at (omega arith) ∙ (λ u. cut_into (x u ∷ (ih u).frames) (ih u).ended)
 
 -- "A run of frames laid end to end" is cut into them, and ends with the last.
-pub cut_back : (fs : List (List ℕ)) → AllFramed fs → cut_run (joined fs) ≡ cut_into fs (length (joined fs))
+pub cut_back : (fs : List (List ℕ)) → AllFramed fs → cut_run (laid_end_to_end fs) ≡ cut_into fs (length (laid_end_to_end fs))
 unfolding cut_run
 cut_back fs h = cut_after_lem fs [] h
 

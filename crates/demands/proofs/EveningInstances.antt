@@ -13,7 +13,7 @@ use Rattle.terms.specs.Ladder.{None}
 use Rattle.terms.proofs.Ladders.{is_passed}
 use Rattle.frame.specs.Frame.{longest}
 use Rattle.frame.proofs.Frames.{request_is}
-use Rattle.book.specs.Book.{joined, good_book, book_lent, Itself}
+use Rattle.book.specs.Book.{good_book, book_lent, Itself}
 use Rattle.runs.specs.declared.Ran.TheVariants.{Did}
 use Rattle.runs.specs.Cuts.{cut_run}
 use Rattle.runs.specs.Runs.{singly, room_for, run_ladder, refused, run_outcome, run_of, ran_over, RunCall}
@@ -22,7 +22,7 @@ use Rattle.store.proofs.Order as order
 use Rattle.store.proofs.One as one
 use Rattle.store.proofs.Kept.{StaysGood}
 use Rattle.store.proofs.Instances.{plan, r_is, zeros, length_zeros, books, set, request, passing, at_zero, given_first}
-use Rattle.demands.specs.Evening.{RunDelivery, delivered_by_runs, RunsCalled, frames_to, DeliversByRuns, RunSetting, Framed, AllFramed}
+use Rattle.demands.specs.Evening.{RunDelivery, delivered_by_runs, RunsCalled, frames_to, DeliversByRuns, RunSetting, Framed, laid_end_to_end, AllFramed}
 use Rattle.demands.proofs.Evening.{cut_back, singly_stays}
 use Rattle.demands.proofs.Demand3.{runs_in_any_order}
 
@@ -43,7 +43,7 @@ framed_2 = framed (request 2) (one.pass_is plan 0 (request 2) (passing 2 (omega 
 -- ---- a run of frames laid end to end, on a good book, with room: it is not refused
 module _ (fs : List (List ℕ)) (framed_all : AllFramed fs) (b z : List ℕ) (lent : book_lent (length b) ≡ true) (good : good_book plan b ≡ true) (places : length fs ≤ length z) where
   abbrev run_bytes : List ℕ
-  run_bytes = joined fs
+  run_bytes = laid_end_to_end fs
 
   abbrev lent_reply : List ℕ
   lent_reply = zeros (length fs * 88)
@@ -111,13 +111,13 @@ one_called = (ran_so pair (framed_1, (framed_2, tt)) (books 0) two_places (lent_
 
 -- ---- the second alone, then both
 abbrev after_2 : List ℕ
-after_2 = (run_of plan (joined (request 2 ∷ [])) (books 0) (zeros 88) (0 ∷ [])).book
+after_2 = (run_of plan (laid_end_to_end (request 2 ∷ [])) (books 0) (zeros 88) (0 ∷ [])).book
 
 good_2 : good_book plan after_2 ≡ true
-good_2 = (later (cut_run (joined (request 2 ∷ []))).frames (zeros 88)).good
+good_2 = (later (cut_run (laid_end_to_end (request 2 ∷ []))).frames (zeros 88)).good
 
 lent_2 : book_lent (length after_2) ≡ true
-lent_2 = lent_as after_2 (later (cut_run (joined (request 2 ∷ []))).frames (zeros 88)).size
+lent_2 = lent_as after_2 (later (cut_run (laid_end_to_end (request 2 ∷ []))).frames (zeros 88)).size
 
 pub two_runs : List RunDelivery
 two_runs =

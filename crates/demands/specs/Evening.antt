@@ -5,7 +5,7 @@
 --   frames_to               the frames that these runs bring to a node, in order
 --   DeliversByRuns         a node is brought nothing but the set, and each request of the set that passes there at least once
 --   RunSetting             what the demand takes
---   Framed, AllFramed      a frame by its length alone; laid end to end, frames are `joined` of book
+--   Framed, laid_end_to_end   a frame by its length alone; frames laid end to end
 --   is_frame_number, all_numbers   what a frame's number may be
 -- Assumes nothing.
 use Prim.{Unit}
@@ -63,6 +63,10 @@ pub record RunSetting (p : Plan) (books : ℕ → List ℕ) (fs : List (List ℕ
 pub record Framed (f : List ℕ) : Type 0 where
   pub long : 15 ≤ length f
   pub told : 4 + rest_of f ≡ length f
+
+unfoldable pub laid_end_to_end : List (List ℕ) → List ℕ
+laid_end_to_end [] = []
+laid_end_to_end (f ∷ fs) = f ++ laid_end_to_end fs
 
 abbrev pub AllFramed : List (List ℕ) → Type 0
 AllFramed [] = Unit {0}

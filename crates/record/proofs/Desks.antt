@@ -207,25 +207,25 @@ module _ (p : Plan) (d : List ℕ) (s : Slots) (ok : plan_ok p ≡ true) (ld : l
 
 -- the fragments of a desk as a batch of messages, each after its prefix, and all of it lies in what is lent
 abbrev pub fragments_in : ℕ → Slots → Batch
-fragments_in z s = record { heads = record { first = 0; stride = 8; size = z }; bodies = record { first = s.head; stride = s.size; size = s.fragment }; n = s.n }
+fragments_in z s = record { heads = record { first = 0; stride = 16; size = z }; bodies = record { first = s.head; stride = s.size; size = s.fragment }; n = s.n }
 
-pub fragments_lie : (p : Plan) (heads d : List ℕ) (z : ℕ) (s : Slots) → plan_ok p ≡ true → length d ≡ p.n * record_length p → s ≡ slots_of p → length heads ≡ 128 → z ≤ 8
+pub fragments_lie : (p : Plan) (heads d : List ℕ) (z : ℕ) (s : Slots) → plan_ok p ≡ true → length d ≡ p.n * record_length p → s ≡ slots_of p → length heads ≡ 256 → z ≤ 16
     → Lying heads d (fragments_in z s)
 fragments_lie p heads d z s ok ld es h b =
     let q = slots_are p s ok es in
     record { of_heads = λ i l. omega (arith, q.n_is, q.n_high); of_bodies = λ i l. entry_fits p d s ok ld es i l }
 
 -- their hashes, laid into a buffer, are the cross checksum
-pub crossed : (p : Plan) (heads d : List ℕ) (z : ℕ) (s : Slots) → s ≡ slots_of p → ((k : ℕ) → k < 16 → part heads (8 * k) z ≡ prefix_of p k)
+pub crossed : (p : Plan) (heads d : List ℕ) (z : ℕ) (s : Slots) → s ≡ slots_of p → ((k : ℕ) → k < 16 → part heads (16 * k) z ≡ prefix_of p k)
     → (out : List ℕ) (at n : ℕ) → n ≤ 16 → at ≤ length out → hashed_into heads d (fragments_in z s) at 32 n out ≡ put out at (cross_made p (fragment_in p d) n)
 unfolding hashed_into
 crossed p heads d z s es f out at zero b h = cross_start p (fragment_in p d) out at
 crossed p heads d z s es f out at (suc n) b h =
     let e : at + n * 32 ≡ at + 32 * n = omega arith in
-    let a : 0 + n * 8 ≡ 8 * n = omega arith in
+    let a : 0 + n * 16 ≡ 16 * n = omega arith in
     let m : part d (fragment_at s n) s.fragment ≡ fragment_in p d n = ap (λ (t : Slots). part d (fragment_at t n) t.fragment) es ∙ fragment_in_lem p d n in
     (λ i. put (hashed_into heads d (fragments_in z s) at 32 n out) (e i) (sha256 (part heads (a i) z ++ m i)))
-    ∙ ap (put (hashed_into heads d (fragments_in z s) at 32 n out) (at + 32 * n)) (hashed p n (part heads (8 * n) z) (fragment_in p d n) (f n (omega arith)))
+    ∙ ap (put (hashed_into heads d (fragments_in z s) at 32 n out) (at + 32 * n)) (hashed p n (part heads (16 * n) z) (fragment_in p d n) (f n (omega arith)))
     ∙ cross_turn p (fragment_in p d) (hashed_into heads d (fragments_in z s) at 32 n out) out at n h (crossed p heads d z s es f out at n (omega arith) h)
     ∙ ap (λ (k : ℕ). put out at (cross_made p (fragment_in p d) k)) (add-one n)
 

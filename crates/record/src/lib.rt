@@ -13,19 +13,19 @@ ghost use Rattle.record.specs.Desk.{slot_of, fragment_in, cross_made, desk_of, s
 use lanes::{Batch, Rows};
 use terms::{Hash, Plan, Slots, Time, Timestamp};
 
-// What is hashed before the fragments of nodes 0 to 15: for each the first `size` of 8 bytes.
+// What is hashed before the fragments of nodes 0 to 15: for each the first `size` of 16 bytes.
 #[derive(Clone, Copy)]
 pub struct PrefixRows {
-    pub bytes: [u8; 128],
+    pub bytes: [u8; 256],
     pub size: usize,
 }
 
 // What is hashed before the fragment of each node: nothing, under every plan.
 pub fn prefixes(p: Plan) -> PrefixRows
-    ensures { (length result.bytes ≡ 128) × (result.size ≤ 8) × ((k : ℕ) → k < 16 → part result.bytes (8 * k) result.size ≡ prefix_of p k) }
+    ensures { (length result.bytes ≡ 256) × (result.size ≤ 16) × ((k : ℕ) → k < 16 → part result.bytes (16 * k) result.size ≡ prefix_of p k) }
 {
     PrefixRows {
-        bytes: [0; 128],
+        bytes: [0; 256],
         size: 0,
     }
 }
@@ -37,7 +37,7 @@ pub fn entry_ok(p: Plan, node: usize, fragment: &[u8], s: &[u8], at: usize) -> b
 {
     let x = prefixes(p);
     let b = x.bytes;
-    let from = 8 * node;
+    let from = 16 * node;
     let end = from + x.size;
     sha256::matches(&b[from..end], fragment, s, at)
 }
@@ -88,7 +88,7 @@ pub fn cross(p: Plan, desk: &[u8], out: &mut [u8], at: usize)
     let b = x.bytes;
     let heads = Rows {
         first: 0,
-        stride: 8,
+        stride: 16,
         size: x.size,
     };
     let bodies = Rows {

@@ -11,12 +11,30 @@ mod runs;
 mod script;
 mod walk;
 
-use libc::STDIN_FILENO;
+ghost use Rattle.std.specs.Prelude.{◌≤◌, length, IfOk};
 
-fn main() {
-    let mut space = io::large_buffer();
-    let n = io::read_full(STDIN_FILENO, &mut space);
-    script::run(&space[..n]);
-    runs::all();
-    large::full();
+use std::io;
+use std::io::Read;
+
+// Reads until the buffer is full or the input ends, and answers how many bytes are at its start.
+fn read_full(rt: &HostRuntime, space: &mut [u8]) -> io::Result<usize>
+    ensures { IfOk result (λ n. n ≤ length space.new) }
+{
+    let mut done = 0;
+    while done < space.len() {
+        let n = rt.stdin().read(&mut space[done..])?;
+        if n == 0 {
+            break;
+        }
+        done += n;
+    }
+    Ok(done)
+}
+
+fn main(rt: HostRuntime) -> io::Result<()> {
+    let mut space = [0u8; 65536];
+    let n = read_full(&rt, &mut space)?;
+    script::run(&rt, &space[..n])?;
+    runs::all(&rt)?;
+    large::full(&rt)
 }

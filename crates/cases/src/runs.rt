@@ -2,6 +2,8 @@
 // F 1,024 (large.rt). A line has what the run tells, what came of its frames in order, and how the book is filled.
 ghost use Rattle.std.specs.Prelude.{◌≡◌, ◌<◌, ◌≤◌, length};
 
+use std::io;
+
 use crate::lines::{filling, say, text};
 use crate::places::{number_at, part, put};
 use crate::walk::{BLANK, records};
@@ -80,95 +82,97 @@ fn until(numbers: &[u8], at: usize) -> usize
 }
 
 // So many frames in a row that got the same number.
-fn in_a_row(n: usize, x: u8) {
-    say(b", ", n as u64);
+fn in_a_row(rt: &HostRuntime, n: usize, x: u8) -> io::Result<()> {
+    say(rt, b", ", n as u64)?;
     if x == 0 {
-        text(b" accepted");
+        text(rt, b" accepted")
     } else {
-        say(b" refused ", x as u64);
+        say(rt, b" refused ", x as u64)
     }
 }
 
 // What came of the frames, in order.
-fn answers(numbers: &[u8]) {
+fn answers(rt: &HostRuntime, numbers: &[u8]) -> io::Result<()> {
     let mut k: usize = 0;
     while k < numbers.len() {
         let e = until(numbers, k);
-        in_a_row(e - k, numbers[k]);
+        in_a_row(rt, e - k, numbers[k])?;
         k = e;
     }
+    Ok(())
 }
 
 // The line of a run that was served.
-fn told(book: &[u8], numbers: &[u8], what: &[u8]) {
+fn told(rt: &HostRuntime, book: &[u8], numbers: &[u8], what: &[u8]) -> io::Result<()> {
     let n = number_at(what, 0, 8);
-    say(b": frames ", n);
-    say(b", reply bytes ", number_at(what, 8, 8));
-    say(b", place ", number_at(what, 16, 8));
-    answers(part(numbers, 0, n as usize));
-    filling(book);
+    say(rt, b": frames ", n)?;
+    say(rt, b", reply bytes ", number_at(what, 8, 8))?;
+    say(rt, b", place ", number_at(what, 16, 8))?;
+    answers(rt, part(numbers, 0, n as usize))?;
+    filling(rt, book)
 }
 
 // A run at a book, with what it is lent for its replies and numbers; and its line.
 pub fn serve(
+    rt: &HostRuntime,
     name: &[u8],
     plan: &[u8],
     run: &[u8],
     book: &mut [u8],
     replies: &mut [u8],
     numbers: &mut [u8],
-) {
+) -> io::Result<()> {
     let mut what = [0u8; 24];
     let a = store::pasis_run(plan, run, book, replies, numbers, &mut what);
-    text(name);
+    text(rt, name)?;
     if a > 0 {
-        say(b": refused ", a as u64);
+        say(rt, b": refused ", a as u64)?;
     } else {
-        told(book, numbers, &what);
+        told(rt, book, numbers, &what)?;
     }
-    text(b"\n");
+    text(rt, b"\n")
 }
 
 // A run at a fresh book with room for four records, lent room for six frames.
-fn small(name: &[u8], run: &[u8]) {
+fn small(rt: &HostRuntime, name: &[u8], run: &[u8]) -> io::Result<()> {
     let plan = five();
     let mut book = [BLANK; 1030];
     let mut replies = [BLANK; 1314];
     let mut numbers = [BLANK; 6];
     store::pasis_fresh_book(&plan, 3, &mut book);
-    serve(name, &plan, run, &mut book, &mut replies, &mut numbers);
+    serve(rt, name, &plan, run, &mut book, &mut replies, &mut numbers)
 }
 
 // ---- runs
 
 // Two frames, the second of them cut after n bytes.
-fn cut_after(name: &[u8], n: usize) {
+fn cut_after(rt: &HostRuntime, name: &[u8], n: usize) -> io::Result<()> {
     let first = write(1);
     let second = write(2);
     let mut run = [0u8; 438];
     put(&mut run, 0, &first);
     put(&mut run, 219, &second);
     if n > 219 {
-        return;
+        return Ok(());
     }
-    small(name, part(&run, 0, 219 + n));
+    small(rt, name, part(&run, 0, 219 + n))
 }
 
 // A time request, then a request whose length field says this, and n bytes of it.
-fn of_rest(name: &[u8], says: u8, n: usize) {
+fn of_rest(rt: &HostRuntime, name: &[u8], says: u8, n: usize) -> io::Result<()> {
     let first = bare(frame::TIME_REQUEST);
     let second = of_length(frame::READ_LATEST, says);
     let mut run = [0u8; 45];
     put(&mut run, 0, &first);
     put(&mut run, 15, &second);
     if n > 30 {
-        return;
+        return Ok(());
     }
-    small(name, part(&run, 0, 15 + n));
+    small(rt, name, part(&run, 0, 15 + n))
 }
 
 // A record, one for another node, one of time 0, one of another hash, the first again, and what is the latest.
-fn among_good() {
+fn among_good(rt: &HostRuntime) -> io::Result<()> {
     let good = write(1);
     let other_node = bent(1, 6);
     let no_time = bent(1, 22);
@@ -181,17 +185,17 @@ fn among_good() {
     put(&mut run, 657, &other_hash);
     put(&mut run, 876, &good);
     put(&mut run, 1095, &latest);
-    small(b"run, refused frames among good ones", &run);
+    small(rt, b"run, refused frames among good ones", &run)
 }
 
 // A time request with one byte behind it, which its length field has in it; then the latest.
-fn too_long() {
+fn too_long(rt: &HostRuntime) -> io::Result<()> {
     let long = of_length(frame::TIME_REQUEST, 12);
     let latest = bare(frame::READ_LATEST);
     let mut run = [0u8; 31];
     put(&mut run, 0, &long);
     put(&mut run, 16, &latest);
-    small(b"run, a frame cut whole and too long for its kind", &run);
+    small(rt, b"run, a frame cut whole and too long for its kind", &run)
 }
 
 // The write requests of times 1 to 300.
@@ -205,75 +209,75 @@ fn lay_all(run: &mut [u8]) {
 }
 
 // These at a book of 65,536 bytes, lent exactly what they need.
-fn hundreds(run: &mut [u8], book: &mut [u8], replies: &mut [u8], numbers: &mut [u8]) {
+fn hundreds(rt: &HostRuntime, run: &mut [u8], book: &mut [u8], replies: &mut [u8], numbers: &mut [u8]) -> io::Result<()> {
     let plan = five();
     lay_all(run);
     store::pasis_fresh_book(&plan, 3, book);
-    serve(b"run of 300 writes", &plan, run, book, replies, numbers);
+    serve(rt, b"run of 300 writes", &plan, run, book, replies, numbers)
 }
 
-fn three_hundred() {
+fn three_hundred(rt: &HostRuntime) -> io::Result<()> {
     let mut run = [0u8; 65700];
     let mut book = [BLANK; 65536];
     let mut replies = [BLANK; 65700];
     let mut numbers = [BLANK; 300];
-    hundreds(&mut run, &mut book, &mut replies, &mut numbers);
+    hundreds(rt, &mut run, &mut book, &mut replies, &mut numbers)
 }
 
 // Two time requests at a book, with what is lent for their replies and numbers.
-fn two(name: &[u8], book: &mut [u8], replies: &mut [u8], numbers: &mut [u8]) {
+fn two(rt: &HostRuntime, name: &[u8], book: &mut [u8], replies: &mut [u8], numbers: &mut [u8]) -> io::Result<()> {
     let plan = five();
     let time = bare(frame::TIME_REQUEST);
     let mut run = [0u8; 30];
     put(&mut run, 0, &time);
     put(&mut run, 15, &time);
-    serve(name, &plan, &run, book, replies, numbers);
+    serve(rt, name, &plan, &run, book, replies, numbers)
 }
 
 // The same at a fresh book.
-fn at_fresh(name: &[u8], replies: &mut [u8], numbers: &mut [u8]) {
+fn at_fresh(rt: &HostRuntime, name: &[u8], replies: &mut [u8], numbers: &mut [u8]) -> io::Result<()> {
     let plan = five();
     let mut book = [BLANK; 1030];
     store::pasis_fresh_book(&plan, 3, &mut book);
-    two(name, &mut book, replies, numbers);
+    two(rt, name, &mut book, replies, numbers)
 }
 
 // The same at bytes that are no book.
-fn at_none(name: &[u8], replies: &mut [u8]) {
+fn at_none(rt: &HostRuntime, name: &[u8], replies: &mut [u8]) -> io::Result<()> {
     let mut book = [BLANK; 1030];
     let mut numbers = [BLANK; 2];
-    two(name, &mut book, replies, &mut numbers);
+    two(rt, name, &mut book, replies, &mut numbers)
 }
 
 // Lent what they need, one byte or one place less; and which refusal comes first.
-fn rooms() {
+fn rooms(rt: &HostRuntime) -> io::Result<()> {
     let mut whole = [BLANK; 438];
     let mut short = [BLANK; 437];
     let mut places = [BLANK; 2];
     let mut one = [BLANK; 1];
-    at_fresh(b"run of two, lent what it needs", &mut whole, &mut places);
-    at_fresh(b"run of two, one reply byte short", &mut short, &mut places);
-    at_fresh(b"run of two, one number place short", &mut whole, &mut one);
-    at_none(b"run of two, one reply byte short, no book", &mut short);
-    at_none(b"run of two, no book", &mut whole);
+    at_fresh(rt, b"run of two, lent what it needs", &mut whole, &mut places)?;
+    at_fresh(rt, b"run of two, one reply byte short", &mut short, &mut places)?;
+    at_fresh(rt, b"run of two, one number place short", &mut whole, &mut one)?;
+    at_none(rt, b"run of two, one reply byte short, no book", &mut short)?;
+    at_none(rt, b"run of two, no book", &mut whole)
 }
 
-fn empty() {
+fn empty(rt: &HostRuntime) -> io::Result<()> {
     let run = [0u8; 1];
-    small(b"run, empty", &run[0..0]);
+    small(rt, b"run, empty", &run[0..0])
 }
 
-pub fn all() {
-    empty();
-    cut_after(b"run of one", 0);
-    cut_after(b"run, cut within a length", 3);
-    cut_after(b"run, cut within a frame", 218);
-    cut_after(b"run of two", 219);
-    of_rest(b"run, a length of 10", 10, 15);
-    of_rest(b"run, a length of 11", 11, 15);
-    of_rest(b"run, a length one past the rest", 12, 15);
-    among_good();
-    too_long();
-    three_hundred();
-    rooms();
+pub fn all(rt: &HostRuntime) -> io::Result<()> {
+    empty(rt)?;
+    cut_after(rt, b"run of one", 0)?;
+    cut_after(rt, b"run, cut within a length", 3)?;
+    cut_after(rt, b"run, cut within a frame", 218)?;
+    cut_after(rt, b"run of two", 219)?;
+    of_rest(rt, b"run, a length of 10", 10, 15)?;
+    of_rest(rt, b"run, a length of 11", 11, 15)?;
+    of_rest(rt, b"run, a length one past the rest", 12, 15)?;
+    among_good(rt)?;
+    too_long(rt)?;
+    three_hundred(rt)?;
+    rooms(rt)
 }

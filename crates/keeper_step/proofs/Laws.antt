@@ -33,8 +33,6 @@ use Rattle.runs.specs.declared.Ran.{Ran}
 use Rattle.runs.specs.declared.Ran.TheVariants.{Refused, Did}
 use Rattle.runs.proofs.Bounds as bounds
 use Rattle.runs.proofs.Cuts as cuts
-use Rattle.io.specs.Counts.{IsPrefixLen}
-use Rattle.io.proofs.Counting.{prefix_len_of_le}
 use Rattle.keeper_step.specs.declared.Next.{Next}
 use Rattle.keeper_step.specs.declared.Next.TheVariants as next
 use Rattle.keeper_step.specs.declared.Due.{Due}
@@ -195,16 +193,16 @@ reply_not_nothing : (n k : ℕ) → due.Reply n k ≡ due.Nothing → ⊥
 reply_not_nothing n k e = let z : ◌≡◌ {A = ℕ} 0 1 = cc in omega arith
 
 pub counted_due : (x : Next) (s : Bool) (d : Due) (n k : ℕ) (y z : List ℕ) → d ≡ due_after x s → d ≡ due.Reply n k → written_of (answer_of x) ≤ length y → frames_of (answer_of x) ≤ length z
-    → IsPrefixLen k y × IsPrefixLen n z
+    → (k ≤ length y) × (n ≤ length z)
 counted_due x s d n k y z e f h g = go x s (sym f ∙ e) h g
   where
-    both : (i j : ℕ) → due.Reply n k ≡ due.Reply i j → j ≤ length y → i ≤ length z → IsPrefixLen k y × IsPrefixLen n z
+    both : (i j : ℕ) → due.Reply n k ≡ due.Reply i j → j ≤ length y → i ≤ length z → (k ≤ length y) × (n ≤ length z)
     both i j e h g =
         let a : n ≡ i = cc in
         let b : k ≡ j = cc in
-        (prefix_len_of_le k y (omega arith), prefix_len_of_le n z (omega arith))
+        (omega arith, omega arith)
 
-    go : (x : Next) (s : Bool) → due.Reply n k ≡ due_after x s → written_of (answer_of x) ≤ length y → frames_of (answer_of x) ≤ length z → IsPrefixLen k y × IsPrefixLen n z
+    go : (x : Next) (s : Bool) → due.Reply n k ≡ due_after x s → written_of (answer_of x) ≤ length y → frames_of (answer_of x) ≤ length z → (k ≤ length y) × (n ≤ length z)
     go (next.Refused r) s e h g = absurd (reply_not_said n k r e)
     go (next.Send i j at) s e h g = both i j e h g
     go (next.Sync i j at) true e h g = both i j e h g

@@ -3,7 +3,6 @@ ghost use Rattle.std.specs.Prelude.{◌≤◌, length};
 
 use std::io;
 use std::io::{Cursor, Print, Write};
-
 use terms::Refusal;
 
 pub fn text(rt: &HostRuntime, s: &[u8]) {

@@ -1,13 +1,12 @@
 // Document 01's row of N 16 and F 1,024: a book of 65,536 bytes, filled.
 ghost use Rattle.std.specs.Prelude.{◌≡◌, length};
 
-use std::io;
-
 use crate::lines::{end, fields, filling, say, text, told};
 use crate::places::{alike, put, used};
 use crate::runs;
 use crate::walk::{BLANK, records};
 use pasis::store;
+use std::io;
 use terms::Ask;
 
 // A book, the reply that was written and the answer.
@@ -143,7 +142,11 @@ fn evening(rt: &HostRuntime, from: [u8; 65536]) -> io::Result<()> {
 pub fn full(rt: &HostRuntime) -> io::Result<()> {
     let f = fill();
     let book = f.book;
-    say(rt, b"N16 F1024, 65536 bytes: records stored ", f.stored as u64)?;
+    say(
+        rt,
+        b"N16 F1024, 65536 bytes: records stored ",
+        f.stored as u64,
+    )?;
     filling(rt, &book)?;
     again(rt, b"\nN16 F1024, the next record", book, 42, b", ")?;
     again(rt, b"\nN16 F1024, a held record", book, 1, b", book ")?;

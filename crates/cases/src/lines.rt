@@ -1,14 +1,13 @@
 // What a case writes: one line. Its name, what came out, and after a refusal whether the session and every buffer are, byte for byte, as
 // they came.
-use std::io;
-use std::io::Print;
-
 use crate::places::{alike, number_at, part, used};
 use crate::walk;
 use crate::walk::{
     BLANK, BOOK_3, BOOKS, ENDING, ITEM, KEPT, OLD, OLD_BOOKS, REPLY, ROUND, ROUNDS, STAGE, STAMP,
     VERIFIER,
 };
+use std::io;
+use std::io::Print;
 
 // ---- words and numbers
 

@@ -2,12 +2,11 @@
 // F 1,024 (large.rt). A line has what the run tells, what came of its frames in order, and how the book is filled.
 ghost use Rattle.std.specs.Prelude.{◌≡◌, ◌<◌, ◌≤◌, length};
 
-use std::io;
-
 use crate::lines::{filling, say, text};
 use crate::places::{number_at, part, put};
 use crate::walk::{BLANK, records};
 use pasis::store;
+use std::io;
 use terms::Ask;
 
 // ---- frames
@@ -195,7 +194,11 @@ fn too_long(rt: &HostRuntime) -> io::Result<()> {
     let mut run = [0u8; 31];
     put(&mut run, 0, &long);
     put(&mut run, 16, &latest);
-    small(rt, b"run, a frame cut whole and too long for its kind", &run)
+    small(
+        rt,
+        b"run, a frame cut whole and too long for its kind",
+        &run,
+    )
 }
 
 // The write requests of times 1 to 300.
@@ -209,7 +212,13 @@ fn lay_all(run: &mut [u8]) {
 }
 
 // These at a book of 65,536 bytes, lent exactly what they need.
-fn hundreds(rt: &HostRuntime, run: &mut [u8], book: &mut [u8], replies: &mut [u8], numbers: &mut [u8]) -> io::Result<()> {
+fn hundreds(
+    rt: &HostRuntime,
+    run: &mut [u8],
+    book: &mut [u8],
+    replies: &mut [u8],
+    numbers: &mut [u8],
+) -> io::Result<()> {
     let plan = five();
     lay_all(run);
     store::pasis_fresh_book(&plan, 3, book);
@@ -225,7 +234,13 @@ fn three_hundred(rt: &HostRuntime) -> io::Result<()> {
 }
 
 // Two time requests at a book, with what is lent for their replies and numbers.
-fn two(rt: &HostRuntime, name: &[u8], book: &mut [u8], replies: &mut [u8], numbers: &mut [u8]) -> io::Result<()> {
+fn two(
+    rt: &HostRuntime,
+    name: &[u8],
+    book: &mut [u8],
+    replies: &mut [u8],
+    numbers: &mut [u8],
+) -> io::Result<()> {
     let plan = five();
     let time = bare(frame::TIME_REQUEST);
     let mut run = [0u8; 30];
@@ -235,7 +250,12 @@ fn two(rt: &HostRuntime, name: &[u8], book: &mut [u8], replies: &mut [u8], numbe
 }
 
 // The same at a fresh book.
-fn at_fresh(rt: &HostRuntime, name: &[u8], replies: &mut [u8], numbers: &mut [u8]) -> io::Result<()> {
+fn at_fresh(
+    rt: &HostRuntime,
+    name: &[u8],
+    replies: &mut [u8],
+    numbers: &mut [u8],
+) -> io::Result<()> {
     let plan = five();
     let mut book = [BLANK; 1030];
     store::pasis_fresh_book(&plan, 3, &mut book);
@@ -255,9 +275,24 @@ fn rooms(rt: &HostRuntime) -> io::Result<()> {
     let mut short = [BLANK; 437];
     let mut places = [BLANK; 2];
     let mut one = [BLANK; 1];
-    at_fresh(rt, b"run of two, lent what it needs", &mut whole, &mut places)?;
-    at_fresh(rt, b"run of two, one reply byte short", &mut short, &mut places)?;
-    at_fresh(rt, b"run of two, one number place short", &mut whole, &mut one)?;
+    at_fresh(
+        rt,
+        b"run of two, lent what it needs",
+        &mut whole,
+        &mut places,
+    )?;
+    at_fresh(
+        rt,
+        b"run of two, one reply byte short",
+        &mut short,
+        &mut places,
+    )?;
+    at_fresh(
+        rt,
+        b"run of two, one number place short",
+        &mut whole,
+        &mut one,
+    )?;
     at_none(rt, b"run of two, one reply byte short, no book", &mut short)?;
     at_none(rt, b"run of two, no book", &mut whole)
 }

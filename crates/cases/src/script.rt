@@ -1,12 +1,11 @@
 // The lines of the script, read and run: steps, a bar and the name of a case. The file `stdin` says what each step is.
 ghost use Rattle.std.specs.Prelude.{◌+◌, ◌<◌, ◌≤◌, length};
 
-use std::io;
-
 use crate::lines::{tell, text};
 use crate::places::find;
 use crate::walk;
 use crate::walk::World;
+use std::io;
 
 // ---- numbers
 

@@ -4,11 +4,10 @@
 ghost use Rattle.std.specs.Prelude.{◌≡◌, ◌*◌, ◌≤◌, true, length};
 ghost use Rattle.terms.specs.Terms.{plan_ok, record_length};
 
-use std::io;
-
 use crate::lines::text;
 use crate::places::{number_at, part, put, take, used};
 use pasis::{client, store};
+use std::io;
 use terms::{Ask, Hash, Plan, Time, Timestamp};
 
 // What books and the item buffer hold before they are written: no last byte of a record here is this one.

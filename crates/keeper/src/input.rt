@@ -2,9 +2,8 @@
 // of a request that is not whole yet stay. No read is made while the area holds a whole one.
 ghost use Rattle.std.specs.Prelude.{◌≤◌, ◌≡◌, length};
 
-use std::io::Read;
-
 use book_file::say;
+use std::io::Read;
 
 // The longest request of any plan: R+15 at N 16 and F 1,024. A reply is no longer.
 const LONGEST: usize = 1591;

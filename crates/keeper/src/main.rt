@@ -18,15 +18,14 @@ mod serve;
 
 ghost use Rattle.std.specs.Prelude.{◌≤◌, ◌≡◌, length};
 
-use std::env::{Env, FillError};
-use std::io;
-use std::io::Print;
-
 use book::Shape;
 use book_file::say;
 use input::Stand;
 use node::Made;
 use plan_text::{Numeral, Reading};
+use std::env::{Env, FillError};
+use std::io;
+use std::io::Print;
 use terms::{Plan, Refusal};
 
 // ---- the two ways to run
@@ -145,7 +144,10 @@ fn say_arg(rt: &HostRuntime, what: &[u8], e: FillError) {
 }
 
 fn usage(rt: &HostRuntime) {
-    say::line(rt, b"usage: keeper PLAN BOOK [locked], or keeper PLAN BOOK new NODE BYTES");
+    say::line(
+        rt,
+        b"usage: keeper PLAN BOOK [locked], or keeper PLAN BOOK new NODE BYTES",
+    );
 }
 
 // Argument i as a number.

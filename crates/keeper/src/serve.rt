@@ -2,11 +2,10 @@
 ghost use Rattle.std.specs.Prelude.{◌≤◌, ◌≡◌, false, length};
 ghost use Rattle.keeper_step.specs.Step.{asks_to_write};
 
-use std::fs::File;
-use std::io::Print;
-
 use book_file::say;
 use keeper_step::{Due, Next};
+use std::fs::File;
+use std::io::Print;
 use terms::{Plan, Refusal};
 
 // The replies, once the book is safe. False where they cannot be written.
@@ -161,7 +160,17 @@ fn answer_held(
         return false;
     }
     let n = got.length;
-    settle(rt, p, path, durable, file, run, &mut area[..n], reply, numbers)
+    settle(
+        rt,
+        p,
+        path,
+        durable,
+        file,
+        run,
+        &mut area[..n],
+        reply,
+        numbers,
+    )
 }
 
 // A run, and whether to go on. Who holds the lock of the book has had it on the disk at the start, and no other changes it, so that it is

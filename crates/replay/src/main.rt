@@ -11,10 +11,9 @@
 
 ghost use Rattle.std.specs.Prelude.{◌*◌, ◌≤◌, ◌<◌, ◌≡◌, length, IfOk};
 
+use pasis::{client, plans, store};
 use std::io;
 use std::io::Read;
-
-use pasis::{client, plans, store};
 
 // Room for all of standard input. The ensures gives only the length, which lending the array as a slice needs.
 fn room() -> [u8; 327680]
@@ -275,7 +274,14 @@ fn line(rt: &HostRuntime, text: &[u8], at: usize) -> io::Result<usize> {
     let x = number.bytes;
     let p = plan.bytes;
     let n = plan.n;
-    lend(rt, text, plan.next, which[0], &p[0..n], octets::get(&x, 0, 8))
+    lend(
+        rt,
+        text,
+        plan.next,
+        which[0],
+        &p[0..n],
+        octets::get(&x, 0, 8),
+    )
 }
 
 // The place to go on at: past `at` in any case, so that the program ends.

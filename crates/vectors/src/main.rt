@@ -4,9 +4,8 @@
 
 ghost use Rattle.std.specs.Prelude.{◌≡◌, ◌<◌, ◌^◌, length};
 
-use std::io;
-
 use lanes::{Batch, Rows};
+use std::io;
 
 // Of thirteen hashes of p and then s side by side, a group of eight, one of four and a single one: how many are what a hash alone is, up to the first that is not.
 fn alike(p: &[u8], s: &[u8]) -> u64

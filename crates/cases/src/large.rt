@@ -1,9 +1,9 @@
 // Document 01's row of N 16 and F 1,024: a book of 65,536 bytes, filled.
 ghost use Rattle.std.specs.Prelude.{◌≡◌, length};
 
+use crate::frame_runs;
 use crate::lines::{end, fields, filling, say, text, told};
 use crate::places::{alike, put, used};
-use crate::runs;
 use crate::walk::{BLANK, records};
 use pasis::store;
 use std::io;
@@ -117,8 +117,8 @@ fn evening(rt: &HostRuntime, from: [u8; 65536]) -> io::Result<()> {
     let plan = sixteen();
     let next = request(42);
     let held = request(1);
-    let time = runs::bare(frame::TIME_REQUEST);
-    let latest = runs::bare(frame::READ_LATEST);
+    let time = frame_runs::bare(frame::TIME_REQUEST);
+    let latest = frame_runs::bare(frame::READ_LATEST);
     let mut book = from;
     let mut run = [0u8; 3212];
     let mut replies = [BLANK; 6364];
@@ -127,7 +127,7 @@ fn evening(rt: &HostRuntime, from: [u8; 65536]) -> io::Result<()> {
     put(&mut run, 1591, &time);
     put(&mut run, 1606, &latest);
     put(&mut run, 1621, &held);
-    runs::serve(
+    frame_runs::serve(
         rt,
         b"N16 F1024, a run at the full book",
         &plan,

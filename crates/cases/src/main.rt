@@ -1,13 +1,13 @@
 // Document 01's unstarred table rows, one case for each refusal and each ending, and the client's whole way through node calls, run by the
 // calls for a host. The cases of N 5 and F 4 are the lines of the file `stdin`, which says how they are written; large.rt has the row of
-// N 16 and F 1,024, and runs.rt the runs of frames of document 02's Q-3. What this writes is held to the file `stdout`. walk.rt has the steps of a case, script.rt reads them, lines.rt has what a
+// N 16 and F 1,024, and frame_runs.rt the runs of frames of document 02's Q-3. What this writes is held to the file `stdout`. walk.rt has the steps of a case, script.rt reads them, lines.rt has what a
 // case writes, places.rt bytes in a buffer.
 #![tactic(auto)]
 
+mod frame_runs;
 mod large;
 mod lines;
 mod places;
-mod runs;
 mod script;
 mod walk;
 
@@ -35,6 +35,6 @@ fn main(rt: HostRuntime) -> io::Result<()> {
     let mut space = [0u8; 65536];
     let n = read_full(&rt, &mut space)?;
     script::run(&rt, &space[..n])?;
-    runs::all(&rt)?;
+    frame_runs::all(&rt)?;
     large::full(&rt)
 }

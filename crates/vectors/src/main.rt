@@ -60,9 +60,18 @@ fn million() -> [u8; 1000000]
     [97u8; 1000000]
 }
 
+fn hex(rt: &HostRuntime, x: u8) -> io::Result<()> {
+    print!(rt; "{x:02x}")
+}
+
 // A line: two bytes, the sign of an operation between them, and its result.
 fn equation(rt: &HostRuntime, a: u8, sign: &str, b: u8, c: u8) -> io::Result<()> {
-    println!(rt; "{a:02x}{sign}{b:02x} = {c:02x}")
+    hex(rt, a)?;
+    print!(rt; "{sign}")?;
+    hex(rt, b)?;
+    print!(rt; " = ")?;
+    hex(rt, c)?;
+    print!(rt; "\n")
 }
 
 fn product(rt: &HostRuntime, a: u8, b: u8) -> io::Result<()> {

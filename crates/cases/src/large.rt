@@ -1,11 +1,12 @@
 // Document 01's row of N 16 and F 1,024: a book of 65,536 bytes, filled.
 ghost use Rattle.std.specs.Prelude.{◌≡◌, length};
 
+use crate::frame_runs;
 use crate::lines::{end, fields, filling, say, text, told};
 use crate::places::{alike, put, used};
-use crate::runs;
 use crate::walk::{BLANK, records};
 use pasis::store;
+use std::io;
 use terms::Ask;
 
 // A book, the reply that was written and the answer.
@@ -90,34 +91,34 @@ fn fill() -> Shelf {
 }
 
 // What came of a call whose reply buffer was blank: the reply, or a refusal.
-fn outcome(reply: &[u8], a: u64) {
+fn outcome(rt: &HostRuntime, reply: &[u8], a: u64) -> io::Result<()> {
     if a == 0 {
-        fields(reply);
-        return;
+        return fields(rt, reply);
     }
-    told(reply, a);
+    told(rt, reply, a)?;
     if used(reply, BLANK) > 0 {
-        text(b", reply CHANGED");
+        text(rt, b", reply CHANGED")?;
     }
+    Ok(())
 }
 
 // The record of a time, given to a full book: what comes of it, and whether the book is as it was.
-fn again(name: &[u8], book: [u8; 65536], time: u8, of: &[u8]) {
+fn again(rt: &HostRuntime, name: &[u8], book: [u8; 65536], time: u8, of: &[u8]) -> io::Result<()> {
     let s = serve(book, time);
     let after = s.book;
     let reply = s.reply;
-    text(name);
-    outcome(&reply, s.answer as u64);
-    end(of, alike(&after, &book));
+    text(rt, name)?;
+    outcome(rt, &reply, s.answer as u64)?;
+    end(rt, of, alike(&after, &book))
 }
 
 // A run at a full book: the next record, the time, the latest record, and one that it holds.
-fn evening(from: [u8; 65536]) {
+fn evening(rt: &HostRuntime, from: [u8; 65536]) -> io::Result<()> {
     let plan = sixteen();
     let next = request(42);
     let held = request(1);
-    let time = runs::bare(frame::TIME_REQUEST);
-    let latest = runs::bare(frame::READ_LATEST);
+    let time = frame_runs::bare(frame::TIME_REQUEST);
+    let latest = frame_runs::bare(frame::READ_LATEST);
     let mut book = from;
     let mut run = [0u8; 3212];
     let mut replies = [BLANK; 6364];
@@ -126,24 +127,29 @@ fn evening(from: [u8; 65536]) {
     put(&mut run, 1591, &time);
     put(&mut run, 1606, &latest);
     put(&mut run, 1621, &held);
-    runs::serve(
+    frame_runs::serve(
+        rt,
         b"N16 F1024, a run at the full book",
         &plan,
         &run,
         &mut book,
         &mut replies,
         &mut numbers,
-    );
+    )
 }
 
 // A full book: it refuses the next record, and acknowledges one that it holds.
-pub fn full() {
+pub fn full(rt: &HostRuntime) -> io::Result<()> {
     let f = fill();
     let book = f.book;
-    say(b"N16 F1024, 65536 bytes: records stored ", f.stored as u64);
-    filling(&book);
-    again(b"\nN16 F1024, the next record", book, 42, b", ");
-    again(b"\nN16 F1024, a held record", book, 1, b", book ");
-    text(b"\n");
-    evening(book);
+    say(
+        rt,
+        b"N16 F1024, 65536 bytes: records stored ",
+        f.stored as u64,
+    )?;
+    filling(rt, &book)?;
+    again(rt, b"\nN16 F1024, the next record", book, 42, b", ")?;
+    again(rt, b"\nN16 F1024, a held record", book, 1, b", book ")?;
+    text(rt, b"\n")?;
+    evening(rt, book)
 }

@@ -5,6 +5,7 @@ use crate::lines::{tell, text};
 use crate::places::find;
 use crate::walk;
 use crate::walk::World;
+use std::io;
 
 // ---- numbers
 
@@ -28,7 +29,7 @@ fn longer(x: u64, c: u8) -> u64 {
     if x > 1844674407370955161 {
         return x;
     }
-    std::num::wrapping_add_u64(x * 10, digit(c))
+    (x * 10).wrapping_add(digit(c))
 }
 
 // The number that starts at a place; 0 where there is no digit.
@@ -52,20 +53,20 @@ fn number(s: &[u8], at: usize) -> Decimal
 // ---- steps
 
 // A call of the client or of a node, with its number; a digit is a node whose request is carried.
-fn call(w: World, op: u8, x: u64) -> World {
+fn call(rt: &HostRuntime, w: World, op: u8, x: u64) -> io::Result<World> {
     match op {
-        b'0'..=b'9' => walk::carry(w, digit(op)),
-        b'w' => walk::open(w, 0, x),
-        b'r' => walk::read(w, x),
-        b'o' => walk::owe(w, x),
-        b'h' => walk::hear(w, walk::operation(&w)),
-        b'v' => walk::hear(w, 0),
-        b'u' => walk::hear(w, 1),
-        b's' => walk::serve(w, x),
-        b'f' => walk::fresh(w, 3, x),
-        b'm' => walk::short_serve(w),
-        b'n' => walk::short_fresh(w),
-        _ => change(w, op, x),
+        b'0'..=b'9' => Ok(walk::carry(w, digit(op))),
+        b'w' => Ok(walk::open(w, 0, x)),
+        b'r' => Ok(walk::read(w, x)),
+        b'o' => Ok(walk::owe(w, x)),
+        b'h' => Ok(walk::hear(w, walk::operation(&w))),
+        b'v' => Ok(walk::hear(w, 0)),
+        b'u' => Ok(walk::hear(w, 1)),
+        b's' => Ok(walk::serve(w, x)),
+        b'f' => Ok(walk::fresh(w, 3, x)),
+        b'm' => walk::short_serve(rt, w),
+        b'n' => walk::short_fresh(rt, w),
+        _ => change(rt, w, op, x),
     }
 }
 
@@ -76,30 +77,30 @@ fn with_item(w: World, x: u8) -> World {
 }
 
 // What a case changes by itself.
-fn change(w: World, op: u8, x: u64) -> World {
+fn change(rt: &HostRuntime, w: World, op: u8, x: u64) -> io::Result<World> {
     match op {
-        b'q' => walk::flip(w, walk::REQUEST, x),
-        b'y' => walk::flip(w, walk::REPLY, x),
-        b'd' => walk::flip(w, walk::DESK, x),
-        b'b' => walk::flip(w, walk::BOOK_3, x),
-        b'g' => walk::set(w, walk::REQUEST_TIME, (x % 256) as u8),
-        b'i' => with_item(w, (x % 256) as u8),
-        b'p' => walk::under(w, x),
-        b'l' => walk::lie(w, x),
-        b't' => walk::time_reply(w, x),
-        b'k' => walk::previous(w, x),
+        b'q' => Ok(walk::flip(w, walk::REQUEST, x)),
+        b'y' => Ok(walk::flip(w, walk::REPLY, x)),
+        b'd' => Ok(walk::flip(w, walk::DESK, x)),
+        b'b' => Ok(walk::flip(w, walk::BOOK_3, x)),
+        b'g' => Ok(walk::set(w, walk::REQUEST_TIME, (x % 256) as u8)),
+        b'i' => Ok(with_item(w, (x % 256) as u8)),
+        b'p' => Ok(walk::under(w, x)),
+        b'l' => Ok(walk::lie(w, x)),
+        b't' => Ok(walk::time_reply(w, x)),
+        b'k' => Ok(walk::previous(w, x)),
         _ => {
-            text(b"UNKNOWN STEP ");
-            w
+            text(rt, b"UNKNOWN STEP ")?;
+            Ok(w)
         }
     }
 }
 
 // A step, with what was before it kept: a digit or a letter. Any other sign is none.
-fn step(w: World, op: u8, x: u64) -> World {
+fn step(rt: &HostRuntime, w: World, op: u8, x: u64) -> io::Result<World> {
     match op {
-        b'0'..=b'9' | b'a'..=b'z' => call(walk::keep(w), op, x),
-        _ => w,
+        b'0'..=b'9' | b'a'..=b'z' => call(rt, walk::keep(w), op, x),
+        _ => Ok(w),
     }
 }
 
@@ -120,16 +121,16 @@ fn argument(s: &[u8], at: usize) -> Decimal
 }
 
 // The steps, walked.
-fn steps(s: &[u8]) -> World {
+fn steps(rt: &HostRuntime, s: &[u8]) -> io::Result<World> {
     let mut w = walk::new();
     let mut k: usize = 0;
     while k < s.len() {
         let x = argument(s, k);
-        let next = step(w, s[k], x.is);
+        let next = step(rt, w, s[k], x.is)?;
         w = next;
         k = x.next;
     }
-    w
+    Ok(w)
 }
 
 // The sign that stands last of all: what is shown.
@@ -142,38 +143,38 @@ fn sign(s: &[u8]) -> u8 {
 }
 
 // A case: its name, and what came of its steps.
-fn run_case(s: &[u8], name: &[u8]) {
-    let w = steps(s);
-    text(name);
-    tell(&w, sign(s));
-    text(b"\n");
+fn run_case(rt: &HostRuntime, s: &[u8], name: &[u8]) -> io::Result<()> {
+    let w = steps(rt, s)?;
+    text(rt, name)?;
+    tell(rt, &w, sign(s))?;
+    text(rt, b"\n")
 }
 
 // A line; one that starts with '#' says something to the reader, and an empty one nothing.
-fn line(s: &[u8]) {
+fn line(rt: &HostRuntime, s: &[u8]) -> io::Result<()> {
     if s.len() == 0 {
-        return;
+        return Ok(());
     }
     if s[0] == b'#' {
-        return;
+        return Ok(());
     }
     let bar = find(s, 0, b'|');
     if s.len() - bar < 2 {
-        text(b"NO NAME\n");
-        return;
+        return text(rt, b"NO NAME\n");
     }
     let name = bar + 2;
-    run_case(&s[0..bar], &s[name..]);
+    run_case(rt, &s[0..bar], &s[name..])
 }
 
-pub fn run(s: &[u8]) {
+pub fn run(rt: &HostRuntime, s: &[u8]) -> io::Result<()> {
     let mut k: usize = 0;
     while k < s.len() {
         let e = find(s, k, b'\n');
-        line(&s[k..e]);
+        line(rt, &s[k..e])?;
         if e == s.len() {
-            return;
+            return Ok(());
         }
         k = e + 1;
     }
+    Ok(())
 }

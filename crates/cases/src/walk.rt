@@ -7,6 +7,7 @@ ghost use Rattle.terms.specs.Terms.{plan_ok, record_length};
 use crate::lines::text;
 use crate::places::{number_at, part, put, take, used};
 use pasis::{client, store};
+use std::io;
 use terms::{Ask, Hash, Plan, Time, Timestamp};
 
 // What books and the item buffer hold before they are written: no last byte of a record here is this one.
@@ -252,22 +253,23 @@ pub fn serve(w: World, i: u64) -> World {
 }
 
 // Says so where a buffer that was blank was written.
-fn still_blank(s: &[u8]) {
+fn still_blank(rt: &HostRuntime, s: &[u8]) -> io::Result<()> {
     if used(s, BLANK) > 0 {
-        text(b"WRITTEN ");
+        text(rt, b"WRITTEN ")?;
     }
+    Ok(())
 }
 
 // A fresh book of 10 bytes.
-pub fn short_fresh(w: World) -> World {
+pub fn short_fresh(rt: &HostRuntime, w: World) -> io::Result<World> {
     let mut book = [BLANK; 10];
     let a = store::pasis_fresh_book(part(&w, PLAN, 11), 3, &mut book);
-    still_blank(&book);
-    says(w, a)
+    still_blank(rt, &book)?;
+    Ok(says(w, a))
 }
 
 // The request, served by a node whose book has 10 bytes.
-pub fn short_serve(w: World) -> World {
+pub fn short_serve(rt: &HostRuntime, w: World) -> io::Result<World> {
     let s: &[u8] = &w;
     let mut book = [BLANK; 10];
     let mut reply = [BLANK; 219];
@@ -277,9 +279,9 @@ pub fn short_serve(w: World) -> World {
         &mut book,
         &mut reply,
     );
-    still_blank(&book);
-    still_blank(&reply);
-    says(w, a)
+    still_blank(rt, &book)?;
+    still_blank(rt, &reply)?;
+    Ok(says(w, a))
 }
 
 // ---- calls of the client

@@ -1,10 +1,9 @@
 // What waits on standard input. It is read into an area by one call for all that is there, and taken out as runs of whole requests; the bytes
 // of a request that is not whole yet stay. No read is made while the area holds a whole one.
 ghost use Rattle.std.specs.Prelude.{◌≤◌, ◌≡◌, length};
-ghost use Rattle.io.specs.Counts.{IsPrefixLen};
 
 use book_file::say;
-use libc::STDIN_FILENO;
+use std::io::Read;
 
 // The longest request of any plan: R+15 at N 16 and F 1,024. A reply is no longer.
 const LONGEST: usize = 1591;
@@ -55,7 +54,7 @@ fn request_end(s: &[u8], at: usize) -> usize
 
 // Where the run of whole requests at the start of what waits ends, with at most so many of them.
 fn whole(waits: &[u8], most: usize) -> usize
-    ensures { IsPrefixLen result waits.now }
+    ensures { result ≤ length waits.now }
 {
     let mut at = 0;
     let mut left = most;
@@ -70,8 +69,9 @@ fn whole(waits: &[u8], most: usize) -> usize
 
 // The same of an area with so many bytes that wait.
 pub fn run_end(area: &[u8], held: usize, most: usize) -> usize
-    requires { IsPrefixLen held area.now }
-    ensures { IsPrefixLen result area.now × (result ≤ held) }
+    requires { held ≤ length area.now }
+    ensures in_area { result ≤ length area.now }
+    ensures in_held { result ≤ held }
 {
     whole(&area[..held], most)
 }
@@ -85,16 +85,16 @@ fn no_length(rest: u64) -> bool {
 }
 
 // A length that no request has: the bytes are not frames, and none after them is taken for one.
-fn say_damaged(passed: u64, rest: u64) {
-    say::text(b"standard input, after ");
-    say::decimal(passed);
-    say::text(b" bytes: no request has the length ");
-    say::decimal(rest);
-    say::text(b"; the rest of the input is not read\n");
+fn say_damaged(rt: &HostRuntime, passed: u64, rest: u64) {
+    say::text(rt, b"standard input, after ");
+    say::decimal(rt, passed);
+    say::text(rt, b" bytes: no request has the length ");
+    say::decimal(rt, rest);
+    say::text(rt, b"; the rest of the input is not read\n");
 }
 
 // Whether what waits starts with a length that no request has; then a line says so.
-fn damaged(waits: &[u8], passed: u64) -> bool {
+fn damaged(rt: &HostRuntime, waits: &[u8], passed: u64) -> bool {
     if waits.len() < 4 {
         return false;
     }
@@ -102,50 +102,48 @@ fn damaged(waits: &[u8], passed: u64) -> bool {
     if !no_length(rest) {
         return false;
     }
-    say_damaged(passed, rest);
+    say_damaged(rt, passed, rest);
     true
 }
 
 // The end of the input, with so many bytes of a frame.
-fn ended(held: usize) -> Stand
+fn ended(rt: &HostRuntime, held: usize) -> Stand
     ensures { result.held ≡ 0 }
 {
     if held > 0 {
-        say::line(b"the input ends within a frame, which is dropped");
+        say::line(rt, b"the input ends within a frame, which is dropped");
     }
     over()
 }
 
 // One read of what is there, behind what waits; it waits only where nothing is.
-fn read_on(area: &mut [u8], held: usize, passed: u64) -> Stand
+fn read_on(rt: &HostRuntime, area: &mut [u8], held: usize, passed: u64) -> Stand
     requires { held ≤ length area.old }
     ensures { result.held ≤ length area.new }
 {
-    let got = libc::read(STDIN_FILENO, &mut area[held..]);
-    if got < 0 {
-        say::failed(b"standard input");
-        return over();
-    }
-    if got == 0 {
-        return ended(held);
-    }
-    let n = io::count(got, &area[held..]);
-    Stand {
-        on: true,
-        held: held + n,
-        passed: passed,
+    match rt.stdin().read(&mut area[held..]) {
+        Ok(0) => ended(rt, held),
+        Ok(n) => Stand {
+            on: true,
+            held: held + n,
+            passed: passed,
+        },
+        Err(e) => {
+            say::failed(rt, b"standard input", e);
+            over()
+        }
     }
 }
 
 // What waits has no whole request at its start: more is read, unless none could follow.
-pub fn more(area: &mut [u8], held: usize, passed: u64) -> Stand
-    requires { IsPrefixLen held area.old }
+pub fn more(rt: &HostRuntime, area: &mut [u8], held: usize, passed: u64) -> Stand
+    requires { held ≤ length area.old }
     ensures { result.held ≤ length area.new }
 {
-    if damaged(&area[..held], passed) {
+    if damaged(rt, &area[..held], passed) {
         return over();
     }
-    read_on(area, held, passed)
+    read_on(rt, area, held, passed)
 }
 
 // So many bytes of the input more; a count that no input reaches stays.
@@ -158,7 +156,8 @@ fn further(passed: u64, n: usize) -> u64 {
 
 // After a run: the rest is moved to the front.
 pub fn rest(area: &mut [u8], cut: usize, held: usize, passed: u64, on: bool) -> Stand
-    requires { (cut ≤ held) × (held ≤ length area.old) }
+    requires in_held { cut ≤ held }
+    requires in_area { held ≤ length area.old }
     ensures { result.held ≤ length area.new }
 {
     octets::down(area, 0, held - cut, cut);

@@ -21,27 +21,29 @@ ghost use Rattle.std.specs.Prelude.{◌≤◌, ◌≡◌, length};
 use book::Shape;
 use book_file::say;
 use input::Stand;
-use libc::STDOUT_FILENO;
 use node::Made;
 use plan_text::{Numeral, Reading};
+use std::env::{Env, FillError};
+use std::io;
+use std::io::Print;
 use terms::{Plan, Refusal};
 
 // ---- the two ways to run
 
 // Whether a book is one of this plan; else a line says why.
-fn good(p: Plan, book: &[u8]) -> bool {
+fn good(rt: &HostRuntime, p: Plan, book: &[u8]) -> bool {
     if !terms::plan_ok(p) {
-        say::refused(Refusal::OutsidePlan);
+        say::refused(rt, Refusal::OutsidePlan);
         return false;
     }
     if !book::lent(book.len()) {
-        say::refused(Refusal::WrongLength);
+        say::refused(rt, Refusal::WrongLength);
         return false;
     }
     let shape = book::good(p, book);
     match shape {
         Shape::Bad => {
-            say::refused(Refusal::WrongBook);
+            say::refused(rt, Refusal::WrongBook);
             false
         }
         Shape::Good(_) => true,
@@ -49,79 +51,116 @@ fn good(p: Plan, book: &[u8]) -> bool {
 }
 
 // Whether the book can be had, and is one; else a line says why.
-fn book_ok(p: Plan, path: &[u8]) -> bool {
-    let mut area = io::large_buffer();
-    let got = book_file::load(path, &mut area);
+fn book_ok(rt: &HostRuntime, p: Plan, path: &[u8]) -> bool {
+    let mut area = [0u8; 65536];
+    let got = book_file::load(rt, path, &mut area);
     if !got.is {
         return false;
     }
     let n = got.length;
-    good(p, &area[..n])
+    good(rt, p, &area[..n])
 }
 
-fn say_made() {
-    if !io::write_all(STDOUT_FILENO, b"made\n") {
-        say::failed(b"standard output");
+fn say_made(rt: &HostRuntime) {
+    if let Err(e) = Print::write_all(&rt.stdout(), b"made\n") {
+        say::failed(rt, b"standard output", e);
     }
 }
 
 // A fresh book on the disk, where nothing has its name.
-fn lay_down(path: &[u8], book: &[u8], text: &[u8]) {
-    let fd = book_file::hold(path, false);
-    if fd < 0 {
+fn lay_down(rt: &HostRuntime, path: &[u8], book: &[u8], text: &[u8]) {
+    let Some(file) = book_file::hold(rt, path, false) else {
         return;
-    }
-    if book_file::make(fd, path, book, text) {
-        say_made();
+    };
+    if book_file::make(rt, file, path, book, text) {
+        say_made(rt);
     }
 }
 
 // A fresh book, and its file.
-fn fill(p: Plan, path: &[u8], text: &[u8], node: u64, book: &mut [u8]) {
+fn fill(rt: &HostRuntime, p: Plan, path: &[u8], text: &[u8], node: u64, book: &mut [u8]) {
     let made = node::fresh(p, node, book);
     match made {
-        Made::Refused(r) => say::refused(r),
-        Made::Fresh => lay_down(path, book, text),
+        Made::Refused(r) => say::refused(rt, r),
+        Made::Fresh => lay_down(rt, path, book, text),
     }
 }
 
 // What is wrong with a book that is longer than any: 1 comes before 2.
-fn too_large(p: Plan) {
+fn too_large(rt: &HostRuntime, p: Plan) {
     if terms::plan_ok(p) {
-        say::refused(Refusal::WrongLength);
+        say::refused(rt, Refusal::WrongLength);
     } else {
-        say::refused(Refusal::OutsidePlan);
+        say::refused(rt, Refusal::OutsidePlan);
     }
 }
 
 // The first bytes of an area of zeros are the book.
-fn make(p: Plan, path: &[u8], text: &[u8], node: u64, bytes: u64) {
+fn make(rt: &HostRuntime, p: Plan, path: &[u8], text: &[u8], node: u64, bytes: u64) {
     if bytes > 65536 {
-        too_large(p);
+        too_large(rt, p);
         return;
     }
-    let mut area = io::large_buffer();
+    let mut area = [0u8; 65536];
     let n = bytes as usize;
-    fill(p, path, text, node, &mut area[0..n]);
+    fill(rt, p, path, text, node, &mut area[0..n]);
 }
 
-// ---- the arguments of a fresh book
+// ---- the arguments
 
-fn usage() {
-    say::line(b"usage: keeper PLAN BOOK [locked], or keeper PLAN BOOK new NODE BYTES");
+// How many arguments there are, the program's name among them.
+fn arg_count(rt: &HostRuntime) -> usize {
+    let mut one = [0u8; 1];
+    for i in 0..usize::MAX {
+        if let Err(FillError::NotPresent) = rt.arg(i, &mut one) {
+            return i;
+        }
+    }
+    usize::MAX
+}
+
+// Argument i at the start of a buffer, and its length; 0 where there is none, or it is longer.
+fn short_arg(rt: &HostRuntime, i: usize, text: &mut [u8]) -> usize
+    ensures { result ≤ length text.new }
+{
+    match rt.arg(i, text) {
+        Ok(n) => n,
+        Err(_) => 0,
+    }
+}
+
+// The system's numbers for an argument that is not to be had.
+const INVALID: i32 = 22;
+
+const NAME_TOO_LONG: i32 = 36;
+
+// What is said of an argument that is not to be had.
+fn say_arg(rt: &HostRuntime, what: &[u8], e: FillError) {
+    let number = match e {
+        FillError::TooLong => NAME_TOO_LONG,
+        FillError::NotPresent => INVALID,
+    };
+    say::failed(rt, what, io::Error::from_raw_os_error(number));
+}
+
+fn usage(rt: &HostRuntime) {
+    say::line(
+        rt,
+        b"usage: keeper PLAN BOOK [locked], or keeper PLAN BOOK new NODE BYTES",
+    );
 }
 
 // Argument i as a number.
-fn number_arg(i: usize) -> Numeral {
-    let mut text = io::buffer();
-    let n = os::arg(i, &mut text);
+fn number_arg(rt: &HostRuntime, i: usize) -> Numeral {
+    let mut text = [0u8; 4096];
+    let n = short_arg(rt, i, &mut text);
     plan_text::number_in(&text[..n], 0, n)
 }
 
 // Whether argument 3 is this word.
-fn is_word(word: &[u8]) -> bool {
-    let mut text = io::buffer();
-    let n = os::arg(3, &mut text);
+fn is_word(rt: &HostRuntime, word: &[u8]) -> bool {
+    let mut text = [0u8; 4096];
+    let n = short_arg(rt, 3, &mut text);
     if n != word.len() {
         return false;
     }
@@ -129,22 +168,22 @@ fn is_word(word: &[u8]) -> bool {
 }
 
 // The numbers of `new NODE BYTES`, and the fresh book.
-fn run_new(p: Plan, path: &[u8], text: &[u8]) {
-    if !is_word(b"new") {
-        usage();
+fn run_new(rt: &HostRuntime, p: Plan, path: &[u8], text: &[u8]) {
+    if !is_word(rt, b"new") {
+        usage(rt);
         return;
     }
-    let a = number_arg(4);
-    let b = number_arg(5);
+    let a = number_arg(rt, 4);
+    let b = number_arg(rt, 5);
     let Numeral::Is(node) = a else {
-        usage();
+        usage(rt);
         return;
     };
     let Numeral::Is(bytes) = b else {
-        usage();
+        usage(rt);
         return;
     };
-    make(p, path, text, node, bytes);
+    make(rt, p, path, text, node, bytes);
 }
 
 // ---- the requests of the input
@@ -169,6 +208,7 @@ fn number_area() -> [u8; NUMBERS]
 
 // The next run of what waits, or a read where no whole request does.
 fn turn(
+    rt: &HostRuntime,
     p: Plan,
     path: &[u8],
     locked: bool,
@@ -184,14 +224,15 @@ fn turn(
     let held = at.held;
     let cut = input::run_end(area, held, most);
     if cut == 0 {
-        return input::more(area, held, at.passed);
+        return input::more(rt, area, held, at.passed);
     }
-    let on = serve::answer(p, path, locked, &area[..cut], reply, numbers);
+    let on = serve::answer(rt, p, path, locked, &area[..cut], reply, numbers);
     input::rest(area, cut, held, at.passed, on)
 }
 
 // A proved loop has to end, and nothing says that an input does: the turns are counted down from a number that no run uses up.
 fn turns(
+    rt: &HostRuntime,
     p: Plan,
     path: &[u8],
     locked: bool,
@@ -203,98 +244,99 @@ fn turns(
     let mut at = input::start();
     let mut left = u64::MAX;
     while left > 0 && at.on {
-        at = turn(p, path, locked, most, at, area, reply, numbers);
+        at = turn(rt, p, path, locked, most, at, area, reply, numbers);
         left -= 1;
     }
 }
 
-fn serve_all(p: Plan, path: &[u8], locked: bool) {
+fn serve_all(rt: &HostRuntime, p: Plan, path: &[u8], locked: bool) {
     let mut area = frame_area();
     let mut reply = frame_area();
     let mut numbers = number_area();
-    turns(p, path, locked, &mut area, &mut reply, &mut numbers);
+    turns(rt, p, path, locked, &mut area, &mut reply, &mut numbers);
 }
 
 // ---- what the arguments ask for
 
 // The requests of the input, where the book is good.
-fn run_turns(p: Plan, path: &[u8], locked: bool) {
-    if book_ok(p, path) {
-        serve_all(p, path, locked);
+fn run_turns(rt: &HostRuntime, p: Plan, path: &[u8], locked: bool) {
+    if book_ok(rt, p, path) {
+        serve_all(rt, p, path, locked);
     }
 }
 
 // The same by who holds the lock of the book, once the book is on the disk: it stays there, since no other changes it.
-fn run_durable(p: Plan, path: &[u8]) {
-    if book_file::sync(path) {
-        run_turns(p, path, true);
+fn run_durable(rt: &HostRuntime, p: Plan, path: &[u8]) {
+    if book_file::sync(rt, path) {
+        run_turns(rt, p, path, true);
     }
 }
 
 // The requests of the input, by who holds the lock of the book.
-fn run_locked(p: Plan, path: &[u8]) {
-    if !is_word(b"locked") {
-        usage();
+fn run_locked(rt: &HostRuntime, p: Plan, path: &[u8]) {
+    if !is_word(rt, b"locked") {
+        usage(rt);
         return;
     }
-    run_durable(p, path);
+    run_durable(rt, p, path);
 }
 
 // What these arguments ask for, of a book that is there.
-fn run_served(p: Plan, path: &[u8], count: usize) {
+fn run_served(rt: &HostRuntime, p: Plan, path: &[u8], count: usize) {
     if count == 3 {
-        run_turns(p, path, false);
+        run_turns(rt, p, path, false);
     } else {
-        run_locked(p, path);
+        run_locked(rt, p, path);
     }
 }
 
 // What these arguments ask for. `text` is the plan's.
-fn run(p: Plan, plan_path: &[u8], path: &[u8], text: &[u8], count: usize) {
+fn run(rt: &HostRuntime, p: Plan, plan_path: &[u8], path: &[u8], text: &[u8], count: usize) {
     if count > 4 {
-        run_new(p, path, text);
-    } else if planned::plan_kept(p, plan_path, path) {
-        run_served(p, path, count);
+        run_new(rt, p, path, text);
+    } else if planned::plan_kept(rt, p, plan_path, path) {
+        run_served(rt, p, path, count);
     }
 }
 
 // The plan that the file PLAN says. Where it cannot be had, a line says why.
-fn run_plan(plan_path: &[u8], path: &[u8], count: usize) {
-    let mut area = io::buffer();
-    let got = book_file::load(plan_path, &mut area);
+fn run_plan(rt: &HostRuntime, plan_path: &[u8], path: &[u8], count: usize) {
+    let mut area = [0u8; 4096];
+    let got = book_file::load(rt, plan_path, &mut area);
     if !got.is {
         return;
     }
     let n = got.length;
     let r = plan_text::read_plan(&area[..n]);
     match r {
-        Reading::Wrong(line, k) => planned::say_wrong(plan_path, line, k),
-        Reading::Good(p) => run(p, plan_path, path, &area[..n], count),
+        Reading::Wrong(line, k) => planned::say_wrong(rt, plan_path, line, k),
+        Reading::Good(p) => run(rt, p, plan_path, path, &area[..n], count),
     }
 }
 
 // Argument 2, the name BOOK.
-fn run_book(plan_path: &[u8], count: usize) {
-    let mut path = io::buffer();
-    let n = os::arg(2, &mut path);
-    if os::errno() != 0 {
-        say::failed(b"BOOK");
-        return;
+fn run_book(rt: &HostRuntime, plan_path: &[u8], count: usize) {
+    let mut path = [0u8; 4096];
+    match rt.arg(2, &mut path) {
+        Ok(n) => run_plan(rt, plan_path, &path[..n], count),
+        Err(e) => say_arg(rt, b"BOOK", e),
     }
-    run_plan(plan_path, &path[..n], count);
 }
 
-fn main() {
-    let count = os::arg_count();
+// Argument 1, the name PLAN.
+fn run_args(rt: &HostRuntime, count: usize) {
+    let mut plan_path = [0u8; 4096];
+    match rt.arg(1, &mut plan_path) {
+        Ok(n) => run_book(rt, &plan_path[..n], count),
+        Err(e) => say_arg(rt, b"PLAN", e),
+    }
+}
+
+fn main(rt: HostRuntime) {
+    let count = arg_count(&rt);
     if count != 3 && count != 4 && count != 6 {
-        usage();
+        usage(&rt);
         return;
     }
-    let mut plan_path = io::buffer();
-    let n = os::arg(1, &mut plan_path);
-    if os::errno() != 0 {
-        say::failed(b"PLAN");
-        return;
-    }
-    run_book(&plan_path[..n], count);
+    run_args(&rt, count);
 }

@@ -16,33 +16,33 @@ fn letter(k: usize) -> u8 {
     }
 }
 
-fn say_letter(k: usize) {
+fn say_letter(rt: &HostRuntime, k: usize) {
     let name = [letter(k)];
-    say::text(&name);
+    say::text(rt, &name);
 }
 
-fn say_number(k: usize) {
-    say_letter(k);
-    say::text(b" and a number");
+fn say_number(rt: &HostRuntime, k: usize) {
+    say_letter(rt, k);
+    say::text(rt, b" and a number");
 }
 
 // How value k stands in a plan's text.
-fn say_form(k: usize) {
+fn say_form(rt: &HostRuntime, k: usize) {
     match k {
-        6 => say::text(b"member, and repairable or non-repair"),
-        7 => say::text(b"clients, and crash or byzantine"),
-        9 => say::text(b"nothing more"),
-        _ => say_number(k),
+        6 => say::text(rt, b"member, and repairable or non-repair"),
+        7 => say::text(rt, b"clients, and crash or byzantine"),
+        9 => say::text(rt, b"nothing more"),
+        _ => say_number(rt, k),
     }
 }
 
-pub fn say_wrong(path: &[u8], line: u64, k: usize) {
-    say::text(path);
-    say::text(b", line ");
-    say::decimal(line);
-    say::text(b": here belongs ");
-    say_form(k);
-    say::text(b"\n");
+pub fn say_wrong(rt: &HostRuntime, path: &[u8], line: u64, k: usize) {
+    say::text(rt, path);
+    say::text(rt, b", line ");
+    say::decimal(rt, line);
+    say::text(rt, b": here belongs ");
+    say_form(rt, k);
+    say::text(rt, b"\n");
 }
 
 // ---- the plan that the book was made with
@@ -101,51 +101,51 @@ fn first_edit(p: Plan, q: Plan) -> usize {
     8
 }
 
-fn say_name(k: usize) {
+fn say_name(rt: &HostRuntime, k: usize) {
     match k {
-        6 => say::text(b"member"),
-        7 => say::text(b"clients"),
-        _ => say_letter(k),
+        6 => say::text(rt, b"member"),
+        7 => say::text(rt, b"clients"),
+        _ => say_letter(rt, k),
     }
 }
 
 // PLAN: not the plan that the book was made with.
-fn say_edited(plan_path: &[u8], path: &[u8], k: usize) {
-    say::text(plan_path);
-    say::text(b": this is not the plan that the book was made with: ");
-    say_name(k);
-    say::text(b" differs from ");
-    say::text(path);
-    say::text(b".plan\n");
+fn say_edited(rt: &HostRuntime, plan_path: &[u8], path: &[u8], k: usize) {
+    say::text(rt, plan_path);
+    say::text(rt, b": this is not the plan that the book was made with: ");
+    say_name(rt, k);
+    say::text(rt, b" differs from ");
+    say::text(rt, path);
+    say::text(rt, b".plan\n");
 }
 
 // Whether two plans are the same but for W; else a line says which value is not.
-fn same_plan(p: Plan, q: Plan, plan_path: &[u8], path: &[u8]) -> bool {
+fn same_plan(rt: &HostRuntime, p: Plan, q: Plan, plan_path: &[u8], path: &[u8]) -> bool {
     let k = first_edit(p, q);
     if k < 8 {
-        say_edited(plan_path, path, k);
+        say_edited(rt, plan_path, path, k);
         return false;
     }
     true
 }
 
 // Whether the plan is the one of this text.
-fn plan_as(p: Plan, plan_path: &[u8], path: &[u8], text: &[u8]) -> bool {
+fn plan_as(rt: &HostRuntime, p: Plan, plan_path: &[u8], path: &[u8], text: &[u8]) -> bool {
     let r = plan_text::read_plan(text);
     match r {
         Reading::Wrong(line, k) => {
-            say::text(path);
-            say_wrong(b".plan", line, k);
+            say::text(rt, path);
+            say_wrong(rt, b".plan", line, k);
             false
         }
-        Reading::Good(q) => same_plan(p, q, plan_path, path),
+        Reading::Good(q) => same_plan(rt, p, q, plan_path, path),
     }
 }
 
 // Whether the plan is the one that the book was made with, or no one knows which that was; else a line says why.
-pub fn plan_kept(p: Plan, plan_path: &[u8], path: &[u8]) -> bool {
-    let mut area = io::buffer();
-    let got = book_file::load_plan(path, &mut area);
+pub fn plan_kept(rt: &HostRuntime, p: Plan, plan_path: &[u8], path: &[u8]) -> bool {
+    let mut area = [0u8; 4096];
+    let got = book_file::load_plan(rt, path, &mut area);
     if got.missing {
         return true;
     }
@@ -153,5 +153,5 @@ pub fn plan_kept(p: Plan, plan_path: &[u8], path: &[u8]) -> bool {
         return false;
     }
     let n = got.length;
-    plan_as(p, plan_path, path, &area[..n])
+    plan_as(rt, p, plan_path, path, &area[..n])
 }

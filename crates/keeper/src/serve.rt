@@ -1,65 +1,69 @@
 // A run of requests against the book in its file: served in one call, stored once where the book changed, and then answered by one write.
 ghost use Rattle.std.specs.Prelude.{◌≤◌, ◌≡◌, false, length};
-ghost use Rattle.io.specs.Counts.{IsPrefixLen};
 ghost use Rattle.keeper_step.specs.Step.{asks_to_write};
 
 use book_file::say;
 use keeper_step::{Due, Next};
-use libc::STDOUT_FILENO;
+use std::fs::File;
+use std::io::Print;
 use terms::{Plan, Refusal};
 
 // The replies, once the book is safe. False where they cannot be written.
-fn send(reply: &[u8], n: usize) -> bool
-    requires { IsPrefixLen n reply.now }
+fn send(rt: &HostRuntime, reply: &[u8], n: usize) -> bool
+    requires { n ≤ length reply.now }
 {
-    if !io::write_all(STDOUT_FILENO, &reply[..n]) {
-        say::failed(b"standard output");
-        return false;
+    match Print::write_all(&rt.stdout(), &reply[..n]) {
+        Ok(()) => true,
+        Err(e) => {
+            say::failed(rt, b"standard output", e);
+            false
+        }
     }
-    true
 }
 
 // A frame that was refused: a line, and no reply.
-fn say_number(k: u8) {
+fn say_number(rt: &HostRuntime, k: u8) {
     if k > 0 {
-        say::numbered(k as u32);
+        say::numbered(rt, k as u32);
     }
 }
 
 // The frames of a run that were refused, in order.
-fn say_refused(numbers: &[u8]) {
+fn say_refused(rt: &HostRuntime, numbers: &[u8]) {
     let mut i = 0;
     while i < numbers.len() {
-        say_number(numbers[i]);
+        say_number(rt, numbers[i]);
         i += 1;
     }
 }
 
 // What the frames of a run came to: the replies by one write, and a line for each that was refused.
-fn tell(reply: &[u8], written: usize, numbers: &[u8], frames: usize) -> bool
-    requires { IsPrefixLen written reply.now × IsPrefixLen frames numbers.now }
+fn tell(rt: &HostRuntime, reply: &[u8], written: usize, numbers: &[u8], frames: usize) -> bool
+    requires replies { written ≤ length reply.now }
+    requires frames { frames ≤ length numbers.now }
 {
-    let sent = send(reply, written);
-    say_refused(&numbers[..frames]);
+    let sent = send(rt, reply, written);
+    say_refused(rt, &numbers[..frames]);
     sent
 }
 
 // A run that is refused is a fault of the plan or the book: a line, and the end.
-fn refuse(r: Refusal) -> bool {
-    say::refused(r);
+fn refuse(rt: &HostRuntime, r: Refusal) -> bool {
+    say::refused(rt, r);
     false
 }
 
 // Whether a book that a look left is on the disk, where the replies wait for that.
-fn synced(x: Next, path: &[u8]) -> bool {
+fn synced(rt: &HostRuntime, x: Next, path: &[u8]) -> bool {
     match x {
-        Next::Sync(_, _, _) => book_file::sync(path),
+        Next::Sync(_, _, _) => book_file::sync(rt, path),
         _ => true,
     }
 }
 
 // A run that cannot change a book, and its replies, which go out over a book that is on the disk.
 fn look_at(
+    rt: &HostRuntime,
     p: Plan,
     path: &[u8],
     durable: bool,
@@ -71,17 +75,18 @@ fn look_at(
     requires { asks_to_write run.now ≡ false }
 {
     let next = keeper_step::look(p, durable, run, book, reply, numbers);
-    let safe = synced(next, path);
+    let safe = synced(rt, next, path);
     let due = keeper_step::due_after(next, safe);
     match due {
-        Due::Say(r) => refuse(r),
-        Due::Reply(n, w) => tell(reply, w, numbers, n),
+        Due::Say(r) => refuse(rt, r),
+        Due::Reply(n, w) => tell(rt, reply, w, numbers, n),
         Due::Nothing => false,
     }
 }
 
 // A run that cannot change the book: BOOK.new is not asked for, and no byte is written.
 fn answer_look(
+    rt: &HostRuntime,
     p: Plan,
     path: &[u8],
     durable: bool,
@@ -91,23 +96,23 @@ fn answer_look(
 ) -> bool
     requires { asks_to_write run.now ≡ false }
 {
-    let mut area = io::large_buffer();
-    let got = book_file::load(path, &mut area);
+    let mut area = [0u8; 65536];
+    let got = book_file::load(rt, path, &mut area);
     if !got.is {
         return false;
     }
     let n = got.length;
-    look_at(p, path, durable, run, &mut area[..n], reply, numbers)
+    look_at(rt, p, path, durable, run, &mut area[..n], reply, numbers)
 }
 
 // Stores the book that a step left, where it is to be stored, and lets BOOK.new go where not. Whether the book is on the disk, where the
 // replies wait for that.
-fn keep(x: Next, fd: i32, path: &[u8], book: &[u8]) -> bool {
+fn keep(rt: &HostRuntime, x: Next, file: File, path: &[u8], book: &[u8]) -> bool {
     match x {
-        Next::Store(_, _, _) => book_file::store(fd, path, book),
+        Next::Store(_, _, _) => book_file::store(rt, file, path, book),
         _ => {
-            book_file::let_go(fd, path);
-            synced(x, path)
+            book_file::let_go(rt, file, path);
+            synced(rt, x, path)
         }
     }
 }
@@ -115,10 +120,11 @@ fn keep(x: Next, fd: i32, path: &[u8], book: &[u8]) -> bool {
 // A run with a write request against the book as it is in its file, while BOOK.new is held: the book that the run leaves gets to the disk, and
 // then the replies go out.
 fn settle(
+    rt: &HostRuntime,
     p: Plan,
     path: &[u8],
     durable: bool,
-    fd: i32,
+    file: File,
     run: &[u8],
     book: &mut [u8],
     reply: &mut [u8],
@@ -127,38 +133,50 @@ fn settle(
     requires { length book.old ≤ 65536 }
 {
     let next = keeper_step::step(p, durable, run, book, reply, numbers);
-    let safe = keep(next, fd, path, book);
+    let safe = keep(rt, next, file, path, book);
     let due = keeper_step::due_after(next, safe);
     match due {
-        Due::Say(r) => refuse(r),
-        Due::Reply(n, w) => tell(reply, w, numbers, n),
+        Due::Say(r) => refuse(rt, r),
+        Due::Reply(n, w) => tell(rt, reply, w, numbers, n),
         Due::Nothing => false,
     }
 }
 
 // A run with a write request, once BOOK.new is held.
 fn answer_held(
+    rt: &HostRuntime,
     p: Plan,
     path: &[u8],
     durable: bool,
-    fd: i32,
+    file: File,
     run: &[u8],
     reply: &mut [u8],
     numbers: &mut [u8],
 ) -> bool {
-    let mut area = io::large_buffer();
-    let got = book_file::load(path, &mut area);
+    let mut area = [0u8; 65536];
+    let got = book_file::load(rt, path, &mut area);
     if !got.is {
-        book_file::let_go(fd, path);
+        book_file::let_go(rt, file, path);
         return false;
     }
     let n = got.length;
-    settle(p, path, durable, fd, run, &mut area[..n], reply, numbers)
+    settle(
+        rt,
+        p,
+        path,
+        durable,
+        file,
+        run,
+        &mut area[..n],
+        reply,
+        numbers,
+    )
 }
 
 // A run, and whether to go on. Who holds the lock of the book has had it on the disk at the start, and no other changes it, so that it is
 // still there; who does not knows nothing of a book that another may have changed.
 pub fn answer(
+    rt: &HostRuntime,
     p: Plan,
     path: &[u8],
     locked: bool,
@@ -167,13 +185,12 @@ pub fn answer(
     numbers: &mut [u8],
 ) -> bool {
     if !keeper_step::asks_to_write(run) {
-        return answer_look(p, path, locked, run, reply, numbers);
+        return answer_look(rt, p, path, locked, run, reply, numbers);
     }
-    let fd = book_file::hold(path, locked);
-    if fd < 0 {
+    let Some(file) = book_file::hold(rt, path, locked) else {
         return false;
-    }
-    answer_held(p, path, locked, fd, run, reply, numbers)
+    };
+    answer_held(rt, p, path, locked, file, run, reply, numbers)
 }
 
 // The most requests of a run, so that every reply of this plan has its room and every request its number.

@@ -137,7 +137,7 @@ pub fn step(
     requires { length book.old ≤ 65536 }
     ensures { Stepped p durable run.now book.old reply.old numbers.old result book.new reply.new numbers.new }
 {
-    let mut before = io::large_buffer();
+    let mut before = [0u8; 65536];
     step_with(p, durable, run, book, &mut before, reply, numbers)
 }
 

@@ -9,11 +9,11 @@
 // minus for each of the others.
 #![tactic(auto)]
 
-ghost use Rattle.std.specs.Prelude.{◌*◌, ◌≤◌, ◌<◌, ◌≡◌, length};
-ghost use Rattle.io.specs.Counts.{IsPrefixLen};
+ghost use Rattle.std.specs.Prelude.{◌*◌, ◌≤◌, ◌<◌, ◌≡◌, length, IfOk};
 
-use libc::{STDIN_FILENO, STDOUT_FILENO};
 use pasis::{client, plans, store};
+use std::io;
+use std::io::Read;
 
 // Room for all of standard input. The ensures gives only the length, which lending the array as a slice needs.
 fn room() -> [u8; 327680]
@@ -23,6 +23,21 @@ fn room() -> [u8; 327680]
 }
 
 // ---- reading
+
+// Reads until the buffer is full or the input ends, and answers how many bytes are at its start.
+fn read_full(rt: &HostRuntime, text: &mut [u8]) -> io::Result<usize>
+    ensures { IfOk result (λ n. n ≤ length text.new) }
+{
+    let mut done = 0;
+    while done < text.len() {
+        let n = rt.stdin().read(&mut text[done..])?;
+        if n == 0 {
+            break;
+        }
+        done += n;
+    }
+    Ok(done)
+}
 
 // The value of a hexadecimal digit; 16 for any other byte.
 fn digit(c: u8) -> u8 {
@@ -61,7 +76,7 @@ struct Part {
 
 // The field that starts at `at`, up to a space, a line's end or the end of the text, as bytes at the start of out.
 fn field(text: &[u8], at: usize, out: &mut [u8]) -> Part
-    ensures { IsPrefixLen result.n out.new }
+    ensures { result.n ≤ length out.new }
 {
     let mut i = at;
     let mut k = 0;
@@ -78,16 +93,15 @@ fn field(text: &[u8], at: usize, out: &mut [u8]) -> Part
 
 // ---- writing
 
-fn hex(x: u8) {
-    io::print_hex(STDOUT_FILENO, x as u64, 2);
+fn hex(rt: &HostRuntime, x: u8) -> io::Result<()> {
+    print!(rt; "{x:02x}")
 }
 
-fn write_hex(s: &[u8]) {
-    let mut i = 0;
-    while i < s.len() {
-        hex(s[i]);
-        i += 1;
+fn write_hex(rt: &HostRuntime, s: &[u8]) -> io::Result<()> {
+    for x in s {
+        hex(rt, *x)?;
     }
+    Ok(())
 }
 
 // Whether two slices have the same bytes.
@@ -100,17 +114,17 @@ fn alike(a: &[u8], b: &[u8]) -> bool {
 }
 
 // A slice after the call, or a dot where it is as the field at `at` lent it; and where the next field starts.
-fn tell(text: &[u8], at: usize, after: &[u8]) -> usize {
-    let mut old = io::buffer();
+fn tell(rt: &HostRuntime, text: &[u8], at: usize, after: &[u8]) -> io::Result<usize> {
+    let mut old = [0u8; 4096];
     let f = field(text, at, &mut old);
     let n = f.n;
-    io::write_all(STDOUT_FILENO, b" ");
+    print!(rt; " ")?;
     if alike(after, &old[..n]) {
-        io::write_all(STDOUT_FILENO, b".");
+        print!(rt; ".")?;
     } else {
-        write_hex(after);
+        write_hex(rt, after)?;
     }
-    f.next
+    Ok(f.next)
 }
 
 // ---- a call
@@ -153,6 +167,7 @@ fn make(
 
 // The line of a call that was made: its answer, and the five slices after it. Gives the start of the next line.
 fn told(
+    rt: &HostRuntime,
     answer: u32,
     text: &[u8],
     at: usize,
@@ -161,19 +176,20 @@ fn told(
     c: &[u8],
     d: &[u8],
     e: &[u8],
-) -> usize {
-    io::print_decimal(STDOUT_FILENO, answer as u64);
-    let to_b = tell(text, at, a);
-    let to_c = tell(text, to_b, b);
-    let to_d = tell(text, to_c, c);
-    let to_e = tell(text, to_d, d);
-    let end = tell(text, to_e, e);
-    io::write_all(STDOUT_FILENO, b"\n");
-    end
+) -> io::Result<usize> {
+    print!(rt; "{answer}")?;
+    let to_b = tell(rt, text, at, a)?;
+    let to_c = tell(rt, text, to_b, b)?;
+    let to_d = tell(rt, text, to_c, c)?;
+    let to_e = tell(rt, text, to_d, d)?;
+    let end = tell(rt, text, to_e, e)?;
+    print!(rt; "\n")?;
+    Ok(end)
 }
 
 // Makes the call, and writes its line.
 fn made(
+    rt: &HostRuntime,
     text: &[u8],
     start: usize,
     call: u8,
@@ -184,9 +200,9 @@ fn made(
     c: &mut [u8],
     d: &mut [u8],
     e: &mut [u8],
-) -> usize {
+) -> io::Result<usize> {
     let answer = make(call, plan, number, a, b, c, d, e);
-    told(answer, text, start, a, b, c, d, e)
+    told(rt, answer, text, start, a, b, c, d, e)
 }
 
 // A field as bytes, how many it has, and where the next field starts.
@@ -200,7 +216,7 @@ struct Lent {
 fn read(text: &[u8], at: usize) -> Lent
     ensures { (result.n ≤ length result.bytes) × (length result.bytes ≡ 4096) }
 {
-    let mut bytes = io::buffer();
+    let mut bytes = [0u8; 4096];
     let f = field(text, at, &mut bytes);
     let n = f.n;
     Lent {
@@ -211,7 +227,14 @@ fn read(text: &[u8], at: usize) -> Lent
 }
 
 // Reads the five slices of a call from the field at `start` on, makes the call, and writes its line. Gives the start of the next line.
-fn lend(text: &[u8], start: usize, call: u8, plan: &[u8], number: u64) -> usize {
+fn lend(
+    rt: &HostRuntime,
+    text: &[u8],
+    start: usize,
+    call: u8,
+    plan: &[u8],
+    number: u64,
+) -> io::Result<usize> {
     let fa = read(text, start);
     let fb = read(text, fa.next);
     let fc = read(text, fb.next);
@@ -228,6 +251,7 @@ fn lend(text: &[u8], start: usize, call: u8, plan: &[u8], number: u64) -> usize 
     let to_d = fd.n;
     let to_e = fe.n;
     made(
+        rt,
         text,
         start,
         call,
@@ -242,7 +266,7 @@ fn lend(text: &[u8], start: usize, call: u8, plan: &[u8], number: u64) -> usize 
 }
 
 // The call on the line that starts at `at`, and the start of the next line.
-fn line(text: &[u8], at: usize) -> usize {
+fn line(rt: &HostRuntime, text: &[u8], at: usize) -> io::Result<usize> {
     let call = read(text, at);
     let number = read(text, call.next);
     let plan = read(text, number.next);
@@ -250,7 +274,14 @@ fn line(text: &[u8], at: usize) -> usize {
     let x = number.bytes;
     let p = plan.bytes;
     let n = plan.n;
-    lend(text, plan.next, which[0], &p[0..n], octets::get(&x, 0, 8))
+    lend(
+        rt,
+        text,
+        plan.next,
+        which[0],
+        &p[0..n],
+        octets::get(&x, 0, 8),
+    )
 }
 
 // The place to go on at: past `at` in any case, so that the program ends.
@@ -262,16 +293,17 @@ fn later(at: usize, next: usize, end: usize) -> usize
 }
 
 // Every line of the text.
-fn lines(text: &[u8]) {
+fn lines(rt: &HostRuntime, text: &[u8]) -> io::Result<()> {
     let mut at = 0;
     while at < text.len() {
-        let next = line(text, at);
+        let next = line(rt, text, at)?;
         at = later(at, next, text.len());
     }
+    Ok(())
 }
 
-fn main() {
+fn main(rt: HostRuntime) -> io::Result<()> {
     let mut text = room();
-    let n = io::read_full(STDIN_FILENO, &mut text);
-    lines(&text[..n]);
+    let n = read_full(&rt, &mut text)?;
+    lines(&rt, &text[..n])
 }

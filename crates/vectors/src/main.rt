@@ -5,7 +5,7 @@
 ghost use Rattle.std.specs.Prelude.{◌≡◌, ◌<◌, ◌^◌, length};
 
 use lanes::{Batch, Rows};
-use libc::STDOUT_FILENO;
+use std::io;
 
 // Of thirteen hashes of p and then s side by side, a group of eight, one of four and a single one: how many are what a hash alone is, up to the first that is not.
 fn alike(p: &[u8], s: &[u8]) -> u64
@@ -39,22 +39,18 @@ fn alike(p: &[u8], s: &[u8]) -> u64
 }
 
 // A line: the name, the hash in hexadecimal, and how many side by side came to the same.
-fn hash(name: &[u8], p: &[u8], s: &[u8])
+fn hash(rt: &HostRuntime, name: &str, p: &[u8], s: &[u8]) -> io::Result<()>
     requires p_len_bound { length p.now < 2 ^ 60 }
     requires s_len_bound { length s.now < 2 ^ 60 }
 {
     let same = alike(p, s);
     let d = sha256::digest_after(p, s);
-    io::write_all(STDOUT_FILENO, b"SHA-256 ");
-    io::write_all(STDOUT_FILENO, name);
-    io::write_all(STDOUT_FILENO, b" ");
-    io::print_hex(STDOUT_FILENO, octets::get(&d, 0, 8), 16);
-    io::print_hex(STDOUT_FILENO, octets::get(&d, 8, 8), 16);
-    io::print_hex(STDOUT_FILENO, octets::get(&d, 16, 8), 16);
-    io::print_hex(STDOUT_FILENO, octets::get(&d, 24, 8), 16);
-    io::write_all(STDOUT_FILENO, b" side by side ");
-    io::print_decimal(STDOUT_FILENO, same);
-    io::write_all(STDOUT_FILENO, b"\n");
+    print!(rt; "SHA-256 {name} ")?;
+    print!(rt; "{:016x}", octets::get(&d, 0, 8))?;
+    print!(rt; "{:016x}", octets::get(&d, 8, 8))?;
+    print!(rt; "{:016x}", octets::get(&d, 16, 8))?;
+    print!(rt; "{:016x}", octets::get(&d, 24, 8))?;
+    println!(rt; " side by side {same}")
 }
 
 // A million times the byte 'a'. The ensures gives only the length, which lending the array as a slice needs.
@@ -64,26 +60,26 @@ fn million() -> [u8; 1000000]
     [97u8; 1000000]
 }
 
-fn hex(x: u8) {
-    io::print_hex(STDOUT_FILENO, x as u64, 2);
+fn hex(rt: &HostRuntime, x: u8) -> io::Result<()> {
+    print!(rt; "{x:02x}")
 }
 
 // A line: two bytes, the sign of an operation between them, and its result.
-fn equation(a: u8, sign: &[u8], b: u8, c: u8) {
-    hex(a);
-    io::write_all(STDOUT_FILENO, sign);
-    hex(b);
-    io::write_all(STDOUT_FILENO, b" = ");
-    hex(c);
-    io::write_all(STDOUT_FILENO, b"\n");
+fn equation(rt: &HostRuntime, a: u8, sign: &str, b: u8, c: u8) -> io::Result<()> {
+    hex(rt, a)?;
+    print!(rt; "{sign}")?;
+    hex(rt, b)?;
+    print!(rt; " = ")?;
+    hex(rt, c)?;
+    print!(rt; "\n")
 }
 
-fn product(a: u8, b: u8) {
-    equation(a, b" * ", b, field::product(a, b));
+fn product(rt: &HostRuntime, a: u8, b: u8) -> io::Result<()> {
+    equation(rt, a, " * ", b, field::product(a, b))
 }
 
 // A line: the fragments 0 to 4 of the column a b, then the column as decoded from fragments 3 and 4.
-fn column(a: u8, b: u8) {
+fn column(rt: &HostRuntime, a: u8, b: u8) -> io::Result<()> {
     let item = [a, b];
     let mut desk = [0u8; 5];
     let mut back = [0u8; 2];
@@ -91,37 +87,44 @@ fn column(a: u8, b: u8) {
     let slots = terms::runs_of(5, 1);
     fragments::encode(&item, 2, &mut desk, slots);
     fragments::decode(&desk, slots, &sources, 2, &mut back);
-    io::write_all(STDOUT_FILENO, b"column ");
-    io::print_hex(STDOUT_FILENO, octets::get(&desk, 0, 5), 10);
-    io::write_all(STDOUT_FILENO, b" back ");
-    io::print_hex(STDOUT_FILENO, octets::get(&back, 0, 2), 4);
-    io::write_all(STDOUT_FILENO, b"\n");
+    print!(rt; "column {:010x}", octets::get(&desk, 0, 5))?;
+    println!(rt; " back {:04x}", octets::get(&back, 0, 2))
 }
 
-fn main() {
-    hash(b"empty", b"", b"");
-    hash(b"abc", b"", b"abc");
-    hash(b"abc-after-ab", b"ab", b"c");
+fn hashes(rt: &HostRuntime) -> io::Result<()> {
+    hash(rt, "empty", b"", b"")?;
+    hash(rt, "abc", b"", b"abc")?;
+    hash(rt, "abc-after-ab", b"ab", b"c")?;
     hash(
-        b"448-bits",
+        rt,
+        "448-bits",
         b"",
         b"abcdbcdecdefdefgefghfghighijhijkijkljklmklmnlmnomnopnopq",
-    );
+    )?;
     hash(
-        b"896-bits",
+        rt,
+        "896-bits",
         b"",
         b"abcdefghbcdefghicdefghijdefghijkefghijklfghijklmghijklmnhijklmnoijklmnopjklmnopqklmnopqrlmnopqrsmnopqrstnopqrstu",
-    );
+    )?;
     let long = million();
-    hash(b"million-a", b"", &long);
-    hash(b"55-a-from-the-middle", b"", &long[3..58]);
-    equation(0x57, b" + ", 0x83, 0x57 ^ 0x83);
-    product(0x57, 0x83);
-    product(0x57, 0x02);
-    product(0x57, 0x04);
-    product(0x57, 0x08);
-    product(0x57, 0x10);
-    product(0x57, 0x13);
-    column(0x00, 0x80);
-    column(0x57, 0x57);
+    hash(rt, "million-a", b"", &long)?;
+    hash(rt, "55-a-from-the-middle", b"", &long[3..58])
+}
+
+fn products(rt: &HostRuntime) -> io::Result<()> {
+    equation(rt, 0x57, " + ", 0x83, 0x57 ^ 0x83)?;
+    product(rt, 0x57, 0x83)?;
+    product(rt, 0x57, 0x02)?;
+    product(rt, 0x57, 0x04)?;
+    product(rt, 0x57, 0x08)?;
+    product(rt, 0x57, 0x10)?;
+    product(rt, 0x57, 0x13)
+}
+
+fn main(rt: HostRuntime) -> io::Result<()> {
+    hashes(&rt)?;
+    products(&rt)?;
+    column(&rt, 0x00, 0x80)?;
+    column(&rt, 0x57, 0x57)
 }

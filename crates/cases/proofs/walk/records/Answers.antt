@@ -1,0 +1,22 @@
+-- What fits the desk is a plan, and has 16 nodes at most.
+use Rattle.std.proofs.Common.{arith}
+use Rattle.terms.proofs.Plans.{plan_is}
+use Rattle.cases.proofs.walk.records.Goals as goal
+
+pub cross-requires : goal.cross-requires
+cross-requires c =
+    let q = c.desk_fits.ensures c.if-not-desk_fits.false in
+    let h = (plan_is _ q.0).n_high in
+    (q.0, q.1, omega arith)
+
+pub stamp_of-t-requires : goal.stamp_of-t-requires
+stamp_of-t-requires c =
+    let q = c.desk_fits.ensures c.if-not-desk_fits.false in
+    let h = (plan_is _ q.0).n_high in
+    (q.0, omega arith)
+
+pub fill-requires : goal.fill-requires
+fill-requires c =
+    let q = c.desk_fits.ensures c.if-not-desk_fits.false in
+    let h = (plan_is _ q.0).n_high in
+    (q.0, q.1, omega arith)

@@ -5,7 +5,7 @@ ghost use Rattle.std.specs.Prelude.{◌≡◌, ◌<◌, ◌≤◌, length};
 use crate::lines::{filling, say, text};
 use crate::places::{number_at, part, put};
 use crate::walk::{BLANK, records};
-use pasis::store;
+use pasis::storage;
 use std::io;
 use terms::Ask;
 
@@ -122,7 +122,7 @@ pub fn serve(
     numbers: &mut [u8],
 ) -> io::Result<()> {
     let mut what = [0u8; 24];
-    let a = store::pasis_run(plan, run, book, replies, numbers, &mut what);
+    let a = storage::pasis_run(plan, run, book, replies, numbers, &mut what);
     text(rt, name)?;
     if a > 0 {
         say(rt, b": refused ", a as u64)?;
@@ -138,7 +138,7 @@ fn small(rt: &HostRuntime, name: &[u8], run: &[u8]) -> io::Result<()> {
     let mut book = [BLANK; 1030];
     let mut replies = [BLANK; 1314];
     let mut numbers = [BLANK; 6];
-    store::pasis_fresh_book(&plan, 3, &mut book);
+    storage::pasis_fresh_book(&plan, 3, &mut book);
     serve(rt, name, &plan, run, &mut book, &mut replies, &mut numbers)
 }
 
@@ -221,7 +221,7 @@ fn hundreds(
 ) -> io::Result<()> {
     let plan = five();
     lay_all(run);
-    store::pasis_fresh_book(&plan, 3, book);
+    storage::pasis_fresh_book(&plan, 3, book);
     serve(rt, b"run of 300 writes", &plan, run, book, replies, numbers)
 }
 
@@ -258,7 +258,7 @@ fn at_fresh(
 ) -> io::Result<()> {
     let plan = five();
     let mut book = [BLANK; 1030];
-    store::pasis_fresh_book(&plan, 3, &mut book);
+    storage::pasis_fresh_book(&plan, 3, &mut book);
     two(rt, name, &mut book, replies, numbers)
 }
 

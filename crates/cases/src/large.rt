@@ -5,7 +5,7 @@ use crate::frame_runs;
 use crate::lines::{end, fields, filling, say, text, told};
 use crate::places::{alike, put, used};
 use crate::walk::{BLANK, records};
-use pasis::store;
+use pasis::storage;
 use std::io;
 use terms::Ask;
 
@@ -51,7 +51,7 @@ fn serve(from: [u8; 65536], time: u8) -> Served {
     let asked = request(time);
     let mut book = from;
     let mut reply = [BLANK; 1591];
-    let a = store::pasis_node(&plan, &asked, &mut book, &mut reply);
+    let a = storage::pasis_node(&plan, &asked, &mut book, &mut reply);
     Served {
         book: book,
         reply: reply,
@@ -64,7 +64,7 @@ fn fresh() -> [u8; 65536]
 {
     let plan = sixteen();
     let mut book = [BLANK; 65536];
-    store::pasis_fresh_book(&plan, 3, &mut book);
+    storage::pasis_fresh_book(&plan, 3, &mut book);
     book
 }
 

@@ -6,7 +6,7 @@ ghost use Rattle.terms.specs.Terms.{plan_ok, record_length};
 
 use crate::lines::text;
 use crate::places::{number_at, part, put, take, used};
-use pasis::{client, store};
+use pasis::{client, storage};
 use std::io;
 use terms::{Ask, Hash, Plan, Time, Timestamp};
 
@@ -231,7 +231,7 @@ pub fn fresh(w: World, i: u64, node: u64) -> World {
     let s: &[u8] = &w;
     let mut book = [0u8; 1030];
     take(s, at, &mut book);
-    let a = store::pasis_fresh_book(part(s, PLAN, 11), node, &mut book);
+    let a = storage::pasis_fresh_book(part(s, PLAN, 11), node, &mut book);
     says(laid(w, at, &book), a)
 }
 
@@ -243,7 +243,7 @@ pub fn serve(w: World, i: u64) -> World {
     let mut reply = [0u8; 219];
     take(s, at, &mut book);
     take(s, REPLY, &mut reply);
-    let a = store::pasis_node(
+    let a = storage::pasis_node(
         part(s, PLAN, 11),
         frame_at(s, REQUEST),
         &mut book,
@@ -263,7 +263,7 @@ fn still_blank(rt: &HostRuntime, s: &[u8]) -> io::Result<()> {
 // A fresh book of 10 bytes.
 pub fn short_fresh(rt: &HostRuntime, w: World) -> io::Result<World> {
     let mut book = [BLANK; 10];
-    let a = store::pasis_fresh_book(part(&w, PLAN, 11), 3, &mut book);
+    let a = storage::pasis_fresh_book(part(&w, PLAN, 11), 3, &mut book);
     still_blank(rt, &book)?;
     Ok(says(w, a))
 }
@@ -273,7 +273,7 @@ pub fn short_serve(rt: &HostRuntime, w: World) -> io::Result<World> {
     let s: &[u8] = &w;
     let mut book = [BLANK; 10];
     let mut reply = [BLANK; 219];
-    let a = store::pasis_node(
+    let a = storage::pasis_node(
         part(s, PLAN, 11),
         frame_at(s, REQUEST),
         &mut book,

@@ -5,16 +5,19 @@
 --   told              the comparison with a copy of the book tells whether the book changed
 --   answer_of_lem         what a step answers has the run's answer in it
 --   looks_refused looks_as                the contract of `look`, by the case of the run's answer
---   steps_as                              the contract of `step`, where the run was served
+--   refuses_as steps_as                   the contract of `step`
 --   counted_due       what is due counts bytes of the replies and of the numbers
+--   tells_none tells_some waits_as   what replies wait for, by the cases
+--   due_as synced_as  what is due, by the case of a step and of what was done since
 -- Assumes nothing.
 use mathlib.Core.Path.{◌≡◌, refl, sym, ap, ◌∙◌, subst}
-use mathlib.Core.Bool.{Bool, true, false}
+use mathlib.Core.Bool.{Bool, true, false, cond}
 use mathlib.Core.List.{List, [], ◌∷◌}
 use Prim.Native.Nat.{ℕ, ◌-◌, ◌≤◌, ◌<◌}
 use native.Mathlib.Omega.{arith}
+use borrow.Author.Tests.{eq-eqb, ne_eqb}
 use lib.ListN.{length, take, drop}
-use Rattle.octets.specs.Bytes.{part, put, alike}
+use Rattle.octets.specs.Bytes.{part, put, over, alike}
 use Rattle.octets.proofs.Laws.{length_part, part_all, part_put_same}
 use Rattle.terms.specs.Ladder.{◌or◌}
 use Rattle.terms.specs.declared.Plan.{Plan}
@@ -60,6 +63,9 @@ module _ {s : List ℕ} {at e : ℕ} (k : Seeking s at e) (h : at < e) where
   pub seek_within : e ≤ length s
   seek_within = far.high
 
+  pub seek_low : at ≤ e
+  seek_low = let l = far.low in omega arith
+
   pub seek_head : head_bytes 1 ≤ length (take (e - at) (drop at s))
   unfolding part
   seek_head =
@@ -73,6 +79,12 @@ module _ {s : List ℕ} {at e : ℕ} (k : Seeking s at e) (h : at < e) where
 
   pub seek_turn : {w : Bool} {e₂ : ℕ} → w ≡ writes (header_in (take (e - at) (drop at s))) → w ≡ false → e₂ ≡ next_place s e → Seeking s e e₂
   seek_turn g t n = record { left = ap (λ (x : Bool). x or some_writes (cuts.cut_after s e).frames) (sym t ∙ g) ∙ first_left; next = n }
+
+  pub seek_less : length s - e < length s - at
+  seek_less =
+      let l = far.low in
+      let g = far.high in
+      omega arith
 
 pub seek_done : {s : List ℕ} {at e : ℕ} → Seeking s at e → e ≤ at → false ≡ asks_to_write s
 unfolding some_writes
@@ -165,6 +177,9 @@ pub looks_as : (p : Plan) (d : Bool) (f b y z : List ℕ) (a : Ran) (n k at : �
     → Looked p d f b y z x b₂ y₂ z₂
 looks_as p d f b y z a n k at x b₂ y₂ z₂ w e u c = looks p d f b y z a x b₂ y₂ z₂ w c (u ∙ sym (ap (λ (r : Ran). next_of r true d) e))
 
+pub refuses_as : (p : Plan) (d : Bool) (f b y z : List ℕ) (a : Ran) (r : Refusal) (b₂ y₂ z₂ : List ℕ) → a ≡ Refused r → RunCall p f b y z a b₂ y₂ z₂ → Stepped p d f b y z (next.Refused r) b₂ y₂ z₂
+refuses_as p d f b y z a r b₂ y₂ z₂ e c = steps p d f b y z a (next.Refused r) b₂ y₂ z₂ c (sym (ap (λ (x : Ran). next_of x (alike b₂ b) d) e))
+
 pub steps_as : (p : Plan) (d : Bool) (f b y z : List ℕ) (a : Ran) (n k at : ℕ) (t : Bool) (x : Next) (b₂ y₂ z₂ : List ℕ) → a ≡ Did n k at → x ≡ next_of (Did n k at) t d → RunCall p f b y z a b₂ y₂ z₂ → t ≡ alike b₂ b
     → Stepped p d f b y z x b₂ y₂ z₂
 steps_as p d f b y z a n k at t x b₂ y₂ z₂ e u c q =
@@ -194,3 +209,24 @@ counted_due x s d n k y z e f h g = go x s (sym f ∙ e) h g
     go (next.Sync i j at) false e h g = absurd (reply_not_nothing n k e)
     go (next.Store i j at) true e h g = both i j e h g
     go (next.Store i j at) false e h g = absurd (reply_not_nothing n k e)
+
+-- ---- what is due
+pub due_as : (x : Next) (s : Bool) (y : Next) (t : Bool) (d : Due) → x ≡ y → s ≡ t → d ≡ due_after y t → d ≡ due_after x s
+due_as x s y t d e f h = h ∙ sym (ap (λ (z : Next). due_after z s) e ∙ ap (due_after y) f)
+
+-- replies over a book that has to get to the disk wait like those over a book that is to be stored
+pub synced_as : (x : Next) (n k at : ℕ) (s : Bool) (d : Due) → x ≡ next.Sync n k at → d ≡ due_after (next.Store n k at) s → d ≡ due_after x s
+synced_as x n k at true d e h = h ∙ sym (ap (λ (z : Next). due_after z true) e)
+synced_as x n k at false d e h = h ∙ sym (ap (λ (z : Next). due_after z false) e)
+
+-- whether replies may go out over a book that is as it came, by whether there are any
+pub tells_none : (w : ℕ) (d : Bool) → w ≡ 0 → true ≡ may_tell w d
+tells_none w d e = sym (ap (λ (t : Bool). cond t true d) (eq-eqb w 0 e))
+
+pub tells_some : (w : ℕ) (d : Bool) → ¬ (w ≡ 0) → d ≡ may_tell w d
+tells_some w d e = sym (ap (λ (t : Bool). cond t true d) (ne_eqb w 0 e))
+
+-- what replies wait for, by what is known
+pub waits_as : (n w at : ℕ) (d e g t u : Bool) (x : Next) → g ≡ may_tell w d → e ≡ t → g ≡ u → x ≡ waiting n w at t u → x ≡ next_of (Did n w at) e d
+waits_as n w at d e g t u x m p q h =
+    h ∙ sym (ap (λ (z : Bool). waiting n w at z (may_tell w d)) p ∙ ap (λ (z : Bool). waiting n w at t z) (sym m ∙ q))

@@ -1,11 +1,11 @@
 // The host interface: each public call on numbers and byte slices only, with no `requires`. A slice is a pointer and its length. Each call
 // answers 0 where it was served, opened, or accepted and the operation is open; 1 to 31 where it is refused, and then changes nothing; 101 to
-// 105 at an ending. store.rt has the calls of a storage-node, client.rt those of a client, plans.rt the plan for a wish. host/pasis.h is the manual.
+// 105 at an ending. storage.rt has the calls of a storage-node, client.rt those of a client, plans.rt the plan for a wish. host/pasis.h is the manual.
 #![tactic(auto)]
 
 pub mod client;
 pub mod plans;
-pub mod store;
+pub mod storage;
 
 ghost use Rattle.std.specs.Prelude.{◌≡◌};
 ghost use Rattle.packing.specs.SessionBytes.{session_length};

@@ -11,7 +11,7 @@
 
 ghost use Rattle.std.specs.Prelude.{◌*◌, ◌≤◌, ◌<◌, ◌≡◌, length, IfOk};
 
-use pasis::{client, plans, store};
+use pasis::{client, plans, storage};
 use std::io;
 use std::io::Read;
 
@@ -152,15 +152,15 @@ fn make(
     e: &mut [u8],
 ) -> u32 {
     match call {
-        1 => store::pasis_fresh_book(plan, number, a),
-        2 => store::pasis_node(plan, a, b, c),
+        1 => storage::pasis_fresh_book(plan, number, a),
+        2 => storage::pasis_node(plan, a, b, c),
         3 => client::pasis_open_write(plan, number, a),
         4 => client::pasis_open_read(plan, number, a),
         5 => client::pasis_owed(plan, a, number, b, c),
         6 => client::pasis_write_reply(plan, a, b, c, d, e),
         7 => client::pasis_read_reply(plan, a, b, c, d, e),
         8 => smallest(plan, a),
-        9 => store::pasis_run(plan, a, b, c, d, e),
+        9 => storage::pasis_run(plan, a, b, c, d, e),
         _ => 0,
     }
 }

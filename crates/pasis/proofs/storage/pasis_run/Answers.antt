@@ -2,7 +2,7 @@ use lib.Dec.{eqb}
 use lib.ListN.{length}
 use borrow.Author.Tests.{eqb-true}
 use Rattle.pasis.proofs.Laws as laws
-use Rattle.pasis.proofs.store.pasis_run.Goals as goal
+use Rattle.pasis.proofs.storage.pasis_run.Goals as goal
 
 pub returns-then-k-ne0 : goal.returns-then-k-ne0
 returns-then-k-ne0 c =

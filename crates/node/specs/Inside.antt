@@ -3,7 +3,7 @@
 --   Fitting Admitted   a request that may go on, and everything that is known with it
 --   finished           the last two refusals, and the answer
 use Rattle.std.specs.Prelude.{ℕ, ◌≤◌, ◌<◌, ◌≡◌, true, List, length}
-use Rattle.terms.specs.Ladder.{first, since, ◌or◌}
+use Rattle.terms.specs.Ladder.{first, since}
 use Rattle.terms.specs.Terms.{plan_ok}
 use Rattle.terms.specs.declared.Plan.{Plan}
 use Rattle.frame.specs.declared.Header.{Header}

@@ -17,6 +17,27 @@ use fragments::Basis;
 use rounds::Close;
 use terms::{Clients, Plan, Slots, Time, Timestamp};
 
+// Validation, each fragment computed into scratch and hashed once: its hash is its entry of the cross checksum in slot a.
+fn valid(p: Plan, desk: &[u8], b: Basis, a: usize, scratch: &mut [u8]) -> bool
+    requires { (plan_ok p ≡ true) × (Sources desk.now (slots_of p) (points_of b)) × (length scratch.old ≡ p.f)
+        × (slot_at (slots_of p) a + (slots_of p).head ≤ length desk.now) × (Ready b) }
+    ensures { result ≡ validates p desk.now (points_of b) a }
+{
+    let slots = terms::slots_of(p);
+    let n = slots.n;
+    let size = slots.size;
+    let at = a * size + 40;
+    let mut i: usize = 0;
+    while i < n {
+        fragments::regenerate(desk, slots, b, i as u8, scratch);
+        if !record::entry_ok(p, i, scratch, desk, at + 32 * i) {
+            return false;
+        }
+        i += 1;
+    }
+    true
+}
+
 // Slot k gets the head of slot a, and a fragment.
 fn write_slot(desk: &mut [u8], slots: Slots, a: usize, k: usize, fragment: &[u8])
     requires { (length fragment.now ≡ slots.fragment) × (slots.size ≡ slots.head + slots.fragment)
@@ -73,14 +94,15 @@ fn refill(desk: &mut [u8], slots: Slots, b: Basis, a: usize, scratch: &mut [u8])
     }
 }
 
-// Whether the set of slot a validates: the cross checksum there is that of the fragments regenerated from the points qs.
+// Whether the set of slot a validates, with room of its own for one fragment.
 fn validated(p: Plan, desk: &[u8], qs: &[u8], a: usize) -> bool
     requires { (plan_ok p ≡ true) × (Sources desk.now (slots_of p) qs.now) × (slot_at (slots_of p) a + (slots_of p).head ≤ length desk.now) × (length qs.now ≤ 16) }
     ensures { result ≡ validates p desk.now qs.now a }
 {
-    let slots = terms::slots_of(p);
+    let f = p.f as usize;
     let b = fragments::basis_of(qs);
-    crosscheck::agrees(p, desk, b, a * slots.size + 40)
+    let mut scratch = [0u8; 1024];
+    valid(p, desk, b, a, &mut scratch[..f])
 }
 
 // The desk filled with all records of the set of slot a, with room of its own for one fragment.

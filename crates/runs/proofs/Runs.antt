@@ -1,22 +1,22 @@
 -- Laws of a run of frames. Assumes nothing.
 use mathlib.Core.Path.{◌≡◌, refl, sym, ap, ◌∙◌, subst}
-use mathlib.Core.Bool.{Bool, true, false, cond, not}
+use mathlib.Core.Bool.{Bool, true, false}
 use mathlib.Core.List.{List, [], ◌∷◌, ◌++◌}
-use Prim.Native.Nat.{ℕ, zero, suc, ◌+◌, ◌-◌, ◌*◌, ◌/◌, ◌≤◌, ◌<◌}
+use Prim.Native.Nat.{ℕ, suc, ◌+◌, ◌-◌, ◌*◌, ◌/◌, ◌≤◌, ◌<◌}
 use native.Mathlib.Nat.{div-lt_iff_lt-mul, le-div_iff_mul-le, add-mul}
 use native.Mathlib.Omega.{arith}
-use borrow.Author.Tests.{lt-leb, le-leb, leb-true, not-false}
+use borrow.Author.Tests.{lt-leb, le-leb, leb-true}
 use lib.Dec.{leb}
 use lib.ListN.{length, take, drop, set}
 use lib.Seq.{drop-drop}
-use Rattle.octets.specs.Bytes.{part, put, over}
+use Rattle.octets.specs.Bytes.{part, put}
 use Rattle.octets.proofs.Laws.{put_nil, put_cons, length_part}
 use Rattle.terms.specs.Terms.{plan_ok}
 use Rattle.terms.specs.declared.Plan.{Plan}
 use Rattle.terms.proofs.Rungs.{both}
 use Rattle.frame.specs.Frame.{longest}
 use Rattle.book.specs.declared.Book.{Book}
-use Rattle.book.specs.Book.{book_in, good_book, Itself, book_lent, Sound}
+use Rattle.book.specs.Book.{book_in, book_lent, Sound}
 use Rattle.book.proofs.Laws as books
 use Rattle.node.specs.declared.Answer.{Answer}
 use Rattle.node.specs.Node.{NodeCall, said_served, ServedOutcome, served_outcome, served, book_reply_ok}

@@ -3,10 +3,10 @@
 --   Alike served_alike     two rooms of R+15 bytes or more: the same answer, book and reply
 --   served_over            the buffer is the reply, over what it was
 use Prim.{tt}
-use Prim.Native.Nat.{ℕ, ◌+◌, ◌≤◌}
+use Prim.Native.Nat.{ℕ, ◌≤◌}
 use mathlib.Core.Path.{◌≡◌, refl, sym, ap, ◌∙◌, subst}
 use mathlib.Core.Bool.{Bool, true, false, cond, not}
-use mathlib.Core.List.{List, [], ◌∷◌, ◌++◌}
+use mathlib.Core.List.{List, [], ◌∷◌}
 use native.Mathlib.Omega.{arith}
 use lib.ListN.{length, length-take, take, drop}
 use lib.Seq.{take_at}
@@ -24,7 +24,6 @@ use Rattle.terms.proofs.Ladders as ladders
 use Rattle.frame.specs.declared.Header.{Header}
 use Rattle.frame.specs.Frame.{time_request_kind, time_reply_kind, write_request_kind, write_reply_kind, read_latest_kind, read_previous_kind, read_reply_kind, longest, framed, header_in, body_of, frame_of, replying, good_request}
 use Rattle.frame.proofs.Built.{length_frame}
-use Rattle.record.specs.Record.{stamp_of}
 use Rattle.book.specs.Records.{last_of, last_below, those}
 use Rattle.book.specs.Book.{records_of, count_of, book_head, book_lent, good_book, node_of}
 use Rattle.book.proofs.Laid as laid

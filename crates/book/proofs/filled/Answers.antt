@@ -1,7 +1,5 @@
-use mathlib.Core.Bool.{not}
 use mathlib.Core.Path.{sym, ap, ◌∙◌}
 use native.Mathlib.Omega.{arith}
-use borrow.Author.Tests.{not-true, not-false}
 use Rattle.terms.proofs.Rungs.{clash}
 use Rattle.book.specs.Records.{timed, rising}
 use Rattle.book.proofs.Turns as turns

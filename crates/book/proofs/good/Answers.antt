@@ -1,8 +1,5 @@
-use mathlib.Core.Bool.{not}
-use mathlib.Core.Path.{ap}
 use mathlib.Core.Path.{sym, ◌∙◌}
 use native.Mathlib.Omega.{arith}
-use borrow.Author.Tests.{not-true}
 use Rattle.book.proofs.Laws as laws
 use Rattle.book.proofs.good.Goals as goal
 

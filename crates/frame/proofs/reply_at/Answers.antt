@@ -1,7 +1,4 @@
-use mathlib.Core.Bool.{not}
-use mathlib.Core.Path.{ap}
 use mathlib.Core.Path.{sym, ◌∙◌}
-use borrow.Author.Tests.{not-true, not-false}
 use Rattle.frame.specs.declared.Party.TheVariants.{Client}
 use Rattle.frame.proofs.Frames as laws
 use Rattle.frame.proofs.reply_at.Goals as goal

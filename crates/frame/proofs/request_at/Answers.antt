@@ -1,7 +1,4 @@
-use mathlib.Core.Bool.{not}
-use mathlib.Core.Path.{ap}
 use mathlib.Core.Path.{sym, ◌∙◌}
-use borrow.Author.Tests.{not-true, not-false}
 use Rattle.frame.specs.declared.Party.TheVariants.{Node}
 use Rattle.frame.proofs.Frames as laws
 use Rattle.frame.proofs.request_at.Goals as goal

@@ -1,7 +1,5 @@
-use mathlib.Core.Bool.{not}
 use mathlib.Core.Path.{sym, ap, ◌∙◌}
 use Prim.Native.Nat.{ℕ, ◌-◌}
-use borrow.Author.Tests.{not-true, not-false}
 use Rattle.frame.specs.Frame.{body_fits}
 use Rattle.frame.proofs.Frames as laws
 use Rattle.frame.proofs.suits.Goals as goal

@@ -1,7 +1,4 @@
-use mathlib.Core.Bool.{not}
-use mathlib.Core.Path.{ap}
 use mathlib.Core.Path.{sym, ◌∙◌}
-use borrow.Author.Tests.{not-true, not-false}
 use Rattle.node.proofs.Laws as laws
 use Rattle.node.proofs.lengths_ok.Goals as goal
 

@@ -1,8 +1,5 @@
-use mathlib.Core.Bool.{not}
-use mathlib.Core.Path.{ap}
 use mathlib.Core.Path.{sym, ◌∙◌}
 use native.Mathlib.Omega.{arith}
-use borrow.Author.Tests.{not-false}
 use Rattle.node.proofs.Laws as laws
 use Rattle.node.proofs.write.Goals as goal
 

@@ -1,8 +1,5 @@
 -- `plan_text::before_blanks` stops after the last byte that is not blank, or at the start. Assumes nothing.
-use mathlib.Core.Bool.{not}
-use mathlib.Core.Path.{ap}
 use mathlib.Core.Path.{refl, sym, ◌∙◌}
-use borrow.Author.Tests.{not-true, not-false}
 use native.Mathlib.Omega.{arith}
 use Rattle.plan_text.proofs.Words as words
 use Rattle.plan_text.proofs.before_blanks.Goals as goal

@@ -1,8 +1,5 @@
 -- `plan_text::past_blanks` stops at the first byte that is not blank, or at the end. Assumes nothing.
-use mathlib.Core.Bool.{not}
-use mathlib.Core.Path.{ap}
 use mathlib.Core.Path.{refl, sym, ◌∙◌}
-use borrow.Author.Tests.{not-true, not-false}
 use native.Mathlib.Omega.{arith}
 use Rattle.plan_text.proofs.Words as words
 use Rattle.plan_text.proofs.past_blanks.Goals as goal

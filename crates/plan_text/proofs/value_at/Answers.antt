@@ -1,9 +1,6 @@
 -- `plan_text::value_at` finds what follows a name and blanks, if the words start so. Assumes nothing.
-use mathlib.Core.Bool.{not}
-use mathlib.Core.Path.{ap}
 use mathlib.Core.Path.{sym, ◌∙◌}
 use native.Mathlib.Omega.{arith}
-use borrow.Author.Tests.{not-true, not-false}
 use Rattle.plan_text.proofs.Values as laws
 use Rattle.plan_text.proofs.value_at.Goals as goal
 

@@ -1,7 +1,7 @@
 use mathlib.Core.Path.{◌≡◌, refl, ap, ◌∙◌}
 use Prim.Native.Nat.{◌+◌, ◌≤◌}
 use native.Mathlib.Omega.{arith}
-use lib.ListN.{length, set}
+use lib.ListN.{length}
 use Rattle.rounds.proofs.Laws as laws
 use Rattle.rounds.specs.Rounds.{set_of}
 use Rattle.rounds.specs.declared.Set.{Set}

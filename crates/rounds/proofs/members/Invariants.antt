@@ -1,6 +1,6 @@
 use mathlib.Core.Path.{◌≡◌}
 use Prim.Native.Nat.{◌-◌, ◌≤◌}
-use lib.ListN.{length, set}
+use lib.ListN.{length}
 use Rattle.rounds.specs.Rounds.{set_of, listed}
 use Rattle.rounds.proofs.members.Given as goal
 

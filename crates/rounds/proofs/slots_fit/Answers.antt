@@ -1,4 +1,3 @@
-use mathlib.Core.Bool.{true}
 use native.Mathlib.Omega.{arith}
 use Rattle.rounds.proofs.Laws as laws
 use Rattle.rounds.proofs.slots_fit.Goals as goal

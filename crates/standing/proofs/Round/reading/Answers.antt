@@ -1,9 +1,5 @@
-use mathlib.Core.Bool.{not}
-use mathlib.Core.Path.{ap}
 use mathlib.Core.Path.{sym, ◌∙◌}
-use borrow.Author.Tests.{not-true, not-false}
 use Rattle.standing.proofs.Rules as rules
-use borrow.Author.Rules.{rules}
 use Rattle.standing.proofs.Round.reading.Goals as goal
 
 pub returns-then-not-reads : goal.returns-then-not-reads

@@ -3,7 +3,6 @@ use mathlib.Core.Bool.{not}
 use native.Mathlib.Omega.{arith}
 use Rattle.terms.proofs.Plans.{plan_is}
 use Rattle.standing.proofs.Rules as rules
-use borrow.Author.Rules.{rules}
 use Rattle.standing.proofs.Round.slots_ok.Goals as goal
 
 pub returns-then-not-reading : goal.returns-then-not-reading

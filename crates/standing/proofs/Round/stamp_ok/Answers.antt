@@ -1,7 +1,6 @@
 use mathlib.Core.Path.{refl, sym, ap, ◌∙◌}
 use mathlib.Core.Bool.{not}
 use Rattle.standing.proofs.Rules as rules
-use borrow.Author.Rules.{rules}
 use Rattle.standing.proofs.Round.stamp_ok.Goals as goal
 
 pub returns-then-not-storing : goal.returns-then-not-storing

@@ -1,10 +1,7 @@
-use mathlib.Core.Bool.{not}
-use mathlib.Core.Path.{ap}
 use mathlib.Core.Path.{sym, ◌∙◌}
-use borrow.Author.Tests.{le-leb, lt-leb, not-true, not-false}
+use borrow.Author.Tests.{le-leb, lt-leb}
 use Rattle.standing.specs.Standing.{round_rules}
 use Rattle.standing.proofs.Rules as rules
-use borrow.Author.Rules.{rules}
 use Rattle.standing.proofs.Round.stands.Goals as goal
 
 pub returns-then-number-lt1 : goal.returns-then-number-lt1

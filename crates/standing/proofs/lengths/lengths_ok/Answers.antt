@@ -4,7 +4,6 @@ use Rattle.terms.proofs.Plans.{plan_is}
 use Rattle.terms.proofs.Facts.{facts}
 use Rattle.standing.specs.Standing.{lengths_ok}
 use Rattle.standing.proofs.Rules as rules
-use borrow.Author.Rules.{rules}
 use Rattle.standing.proofs.lengths.lengths_ok.Goals as goal
 
 pub overflow_mul-p : goal.overflow_mul-p

@@ -3,7 +3,6 @@ use borrow.Author.Tests.{ne_eqb}
 use Rattle.terms.proofs.Plans.{plan_is}
 use Rattle.standing.specs.Standing.{room_ok}
 use Rattle.standing.proofs.Rules as rules
-use borrow.Author.Rules.{rules}
 use Rattle.standing.proofs.lengths.room_ok.Goals as goal
 
 pub overflow_mul-p : goal.overflow_mul-p

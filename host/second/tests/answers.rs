@@ -18,15 +18,15 @@ fn list(text: &str, words: &str) -> BTreeSet<u32> {
 fn numbers_of_the_theorems() {
     let text = fs::read_to_string(THEOREMS).expect("the theorems");
     for (kind, words) in [
-        (Kind::FreshBook, "host-fresh-numbers : oneOf r ("),
-        (Kind::Node, "host-node-numbers : oneOf r ("),
-        (Kind::OpenWrite, "host-open-numbers : oneOf r ("),
-        (Kind::OpenRead, "host-open-numbers : oneOf r ("),
-        (Kind::Owed, "host-owed-numbers : oneOf r ("),
-        (Kind::WriteReply, "writeSet = "),
-        (Kind::ReadReply, "readSet = "),
-        (Kind::SmallestPlan, "host-wish-numbers : oneOf r ("),
-        (Kind::Run, "host-run-numbers : oneOf r ("),
+        (Kind::FreshBook, "host_fresh_numbers : one_of r ("),
+        (Kind::Node, "host_node_numbers : one_of r ("),
+        (Kind::OpenWrite, "host_open_numbers : one_of r ("),
+        (Kind::OpenRead, "host_open_numbers : one_of r ("),
+        (Kind::Owed, "host_owed_numbers : one_of r ("),
+        (Kind::WriteReply, "write_set = "),
+        (Kind::ReadReply, "read_set = "),
+        (Kind::SmallestPlan, "host_wish_numbers : one_of r ("),
+        (Kind::Run, "host_run_numbers : one_of r ("),
     ] {
         let table: BTreeSet<u32> = kind.answers().iter().copied().collect();
         assert_eq!(table, list(&text, words), "{}", kind.name());

@@ -51,7 +51,7 @@ pub record Held (p : Plan) (ts : List Turn) (k : ℕ) (rec : List ℕ) : Type 0 
   pub passed : Passed p k rec
   pub came : SomeTurn (Gave p k rec) ts
 
--- from an accepted opening on; the last of the calls answers done with the timestamp t and leaves the item. The desk is any: that it is N-as-R bytes is
+-- from an accepted opening on; the last of the calls answers done with the timestamp t and leaves the item. The desk is any: that it is N·R bytes is
 -- part of a reply's being accepted (2)
 pub record ReadDone (p : Plan) (t : Timestamp) (item : List ℕ) : Type 0 where
   pub ask : Ask

@@ -1,4 +1,4 @@
--- The time replies as nodes are heard: one more for each (heard_one), as many as are heard (heard-all), none in a round that opens (heard_none).
+-- The time replies as nodes are heard: one more for each (heard_one), as many as are heard (heard_all), none in a round that opens (heard_none).
 -- Assumes nothing.
 use Prim.Native.Nat.{ℕ, zero, suc, ◌+◌, ◌<◌}
 use mathlib.Core.Path.{◌≡◌, refl, ap}

@@ -124,7 +124,7 @@ owed_ends p s n d q r q₂ c =
     (λ m h. accepts m (ap (λ (o : Dues). o.due) h, ap (λ (o : Dues). o.request) h))
     c.is
 
--- ---- a reply to a writer: order 1, 2, 9, 14, 4, 10, 11; open, done or clock spent (write_open, write-done and clock_spent_lem of client)
+-- ---- a reply to a writer: order 1, 2, 9, 14, 4, 10, 11; open, done or clock spent (write_open, write_done and clock_spent_lem of client)
 pub write_ends : (p : Plan) (s : Session) (f d i : List ℕ) (t : Took) (d₂ : List ℕ) → WriteReplyCall p s f d i t d₂
     → Ends (write_ladder p s f d (length i)) (λ (k : ℕ). (said_of t.answer ≡ session.refused k) × (t.session ≡ s) × (d₂ ≡ d))
     (leaves (said_of t.answer) t.session d₂ ≡ accepted_write p s f d i)
@@ -150,7 +150,7 @@ write_taken p s f d i =
     Taken : Leaves → Type 0
     Taken o = is_refused o.said ≡ false
 
--- ---- a reply to a reader: order 1, 2, 9, 14, 4, 10, 11, 5, 6, 12; open, or one of a read's endings (read_open, read-done, never_written_lem,
+-- ---- a reply to a reader: order 1, 2, 9, 14, 4, 10, 11, 5, 6, 12; open, or one of a read's endings (read_open, read_done, never_written_lem,
 -- is_aborted and rounds_spent_lem of client), and no refusal
 pub accepted_taken : (p : Plan) (s : Session) (f d i : List ℕ) → is_refused (accepted p s f d i).said ≡ false
 unfolding accepted stored

@@ -266,7 +266,7 @@ unfolding desk_of
 slot_is p s c fragment k ls lc lf h =
     part_row (λ j. s ++ (c ++ fragment j)) (record_length p) k p.n (λ j y. let l = lf j y in simp length-append (omega (arith, record_length_lem p))) h
 
--- N records have N-as-R bytes
+-- N records have N·R bytes
 pub length_desk : (p : Plan) (s c : List ℕ) (fragment : ℕ → List ℕ) → length s ≡ 40 → length c ≡ 32 * p.n
     → ((j : ℕ) → j < p.n → length (fragment j) ≡ p.f) → length (desk_of s c fragment p.n) ≡ p.n * record_length p
 unfolding desk_of

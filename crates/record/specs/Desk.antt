@@ -1,4 +1,4 @@
--- A desk of N slots, and the N records of an item. Document 01, "The client": records lie in a lent desk of exactly N-as-R bytes, node i in
+-- A desk of N slots, and the N records of an item. Document 01, "The client": records lie in a lent desk of exactly N·R bytes, node i in
 -- slot i. "Fragments": the cross checksum is the N hashes of the fragments, in node order. "Writing" and "Reading": the desk is filled with
 -- all N records, of one timestamp, one cross checksum and N fragments; writing takes the cross checksum that it made, repair the set's.
 --   slot_of             slot k of a desk

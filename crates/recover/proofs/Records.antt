@@ -53,7 +53,7 @@ module _ (p : Plan) (t : ℕ) (i : List ℕ) (l : length i ≡ p.m * p.f) where
   length_stamp : length (stamp_made t (cross_for p i)) ≡ 40
   length_stamp = simp (length-append, length_be, sha256_length)
 
-  -- N-as-R bytes together
+  -- N·R bytes together
   pub length_records : length (records_for p t i) ≡ p.n * record_length p
   unfolding records_for cross_for
   length_records =

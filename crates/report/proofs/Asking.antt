@@ -8,8 +8,8 @@ use mathlib.Core.Logic.{inl, inr}
 use native.Mathlib.Omega.{arith}
 use borrow.Author.Tests.{ltb-true, ltb-false, leb-true, leb-false, eqb-true}
 use lib.Dec.{ltb, leb, eqb}
-use lib.ListN.{length, set}
-use Rattle.terms.specs.Stamp.{stamp, stamp_number}
+use lib.ListN.{length}
+use Rattle.terms.specs.Stamp.{stamp_number}
 use Rattle.terms.specs.Terms.{plan_ok}
 use Rattle.terms.specs.declared.Plan.{Plan}
 use Rattle.rounds.specs.Rounds.{heard_count, unheards, rest_unheard}
@@ -18,10 +18,10 @@ use Rattle.standing.specs.declared.Stage.{Stage}
 use Rattle.standing.specs.declared.Stage.TheVariants.{Asking}
 use Rattle.standing.specs.Standing.{replies}
 use Rattle.session.specs.Session.{still_open}
-use Rattle.session.specs.Reader.{Outcome, outcome, acted, closed, settled, heard, stored}
+use Rattle.session.specs.Reader.{Outcome, outcome, acted, closed, settled}
 use Rattle.session.proofs.Made.{few_unheards}
 use Rattle.report.specs.Triple.{Message}
-use Rattle.report.specs.Figure2.{enough, acknowledged}
+use Rattle.report.specs.Figure2.{acknowledged}
 use Rattle.report.specs.Figure3.{Command, read_latest, read_previous, Decision, returned, repaired, abort, reading, do_read, loop, read, goes_on, gathered, response_set}
 use Rattle.report.specs.Ours.{family, responses, command_of}
 use Rattle.report.specs.Decides.{Decides}

@@ -1,5 +1,5 @@
 -- The erasure code of the figures is ours: what is generated from a candidate set is what is regenerated from the slots (generated_is), what
--- is decoded is what is laid into the item (laid_is, decode-is), and N fragments decode to the first m (requests_decode). Assumes nothing.
+-- is decoded is what is laid into the item (laid_is, decode_is), and N fragments decode to the first m (requests_decode). Assumes nothing.
 use Prim.Native.Nat.{ℕ, zero, suc, ◌+◌, ◌*◌, ◌≤◌, ◌<◌}
 use mathlib.Core.Path.{◌≡◌, refl, sym, ap, ◌∙◌}
 use mathlib.Core.Bool.{Bool, true, false, cond}

@@ -7,7 +7,6 @@ use mathlib.Core.Bool.{Bool, true, false}
 use mathlib.Core.List.{List, [], ◌∷◌}
 use lib.ListN.{length}
 use Rattle.octets.specs.Bytes.{alike}
-use Rattle.terms.specs.Terms.{complete_at, incomplete_at}
 use Rattle.report.specs.Triple.{Triple, Message, null, such_that, each, max, up_to, strung, Family}
 use Rattle.report.specs.Figure1 as node
 use Rattle.report.specs.Figure1.{initial, receive_time_request, receive_write_request, Latest, receive_read_latest, pre_history, receive_read_previous}

@@ -35,14 +35,14 @@ use Rattle.standing.specs.Standing.{is_read, is_asking, is_storing, is_ended, re
 use Rattle.session.specs.Session.{ask_now, awaits_kind, marked_of, refused}
 use Rattle.session.specs.Ranges.{in_range}
 use Rattle.session.specs.Reply.{bears, awaited, is_heard, read_ladder}
-use Rattle.session.specs.Reader.{Outcome, outcome, closed, settled, heard, stored, accepted, read_reply}
+use Rattle.session.specs.Reader.{Outcome, outcome, settled, heard, stored, accepted, read_reply}
 use Rattle.session.proofs.Made.{OpenIs, in_range_facts, rest_set}
 use Rattle.standing.proofs.Rules.{Lengths, lengths_are}
 use Rattle.session.proofs.Rules.{StandingIs}
 use Rattle.session.proofs.Slots.{long_body}
 use Rattle.report.specs.Triple.{Message}
 use Rattle.report.specs.Figure2.{enough}
-use Rattle.report.specs.Figure3.{validate, in_time, with_it, receives, do_read, loop, read, response_set}
+use Rattle.report.specs.Figure3.{validate, in_time, with_it, receives, do_read, response_set}
 use Rattle.report.specs.Ours.{family, responses, command_of}
 use Rattle.report.specs.Run.{Polled, message_of, is_message, rolled, polls, AllFull, AllApart}
 use Rattle.report.proofs.Hears.{puts, heard_hears, hash_hears, late_hears, said_by, said_first, valid_record, valid_first, in_time_is, first_in_time, unheard_has, heard_has, record_after, first_after}

@@ -7,10 +7,9 @@ use mathlib.Core.List.{List, []}
 use native.Mathlib.Omega.{arith}
 use borrow.Author.Tests.{eqb-false}
 use lib.Dec.{eqb}
-use lib.ListN.{length, set}
+use lib.ListN.{length}
 use Rattle.octets.specs.Bytes.{Octets}
-use Rattle.terms.specs.Ladder.{◌and◌}
-use Rattle.terms.specs.Stamp.{stamp, stamp_number}
+use Rattle.terms.specs.Stamp.{stamp_number}
 use Rattle.terms.specs.Terms.{record_length}
 use Rattle.terms.specs.declared.Plan.{Plan}
 use Rattle.record.specs.Desk.{fragment_in}
@@ -18,7 +17,7 @@ use Rattle.session.specs.declared.Session.{Session}
 use Rattle.standing.specs.declared.Stage.{Stage}
 use Rattle.standing.specs.declared.Stage.TheVariants.{Asking, Storing, Ended}
 use Rattle.standing.specs.Standing.{is_read}
-use Rattle.session.specs.Reader.{Outcome, stored}
+use Rattle.session.specs.Reader.{Outcome}
 use Rattle.report.specs.Triple.{Message, strung}
 use Rattle.report.specs.Figure2.{acknowledged}
 use Rattle.report.specs.Figure3.{repaired, reading, do_read, read}

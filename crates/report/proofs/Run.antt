@@ -5,14 +5,12 @@ use Prim.{tt}
 use Prim.Native.Nat.{ℕ, ◌*◌}
 use mathlib.Core.Path.{◌≡◌, refl, sym, ap, ◌∙◌, subst}
 use mathlib.Core.List.{List, [], ◌∷◌}
-use lib.ListN.{length, set}
+use lib.ListN.{length}
 use Rattle.octets.specs.Bytes.{Octets}
-use Rattle.terms.specs.Ladder.{◌and◌}
-use Rattle.terms.specs.Stamp.{stamp, stamp_number}
+use Rattle.terms.specs.Stamp.{stamp_number}
 use Rattle.terms.specs.Terms.{record_length}
 use Rattle.terms.specs.declared.Plan.{Plan}
 use Rattle.terms.specs.declared.Ask.{Ask}
-use Rattle.fragments.specs.Fragments.{from}
 use Rattle.rounds.specs.declared.Bound.TheVariants.{Free}
 use Rattle.rounds.specs.Rounds.{unheards}
 use Rattle.session.specs.declared.Session.{Session}
@@ -20,13 +18,13 @@ use Rattle.standing.specs.declared.Stage.{Stage}
 use Rattle.standing.specs.declared.Stage.TheVariants.{Storing}
 use Rattle.standing.specs.declared.Operation.TheVariants.{Read}
 use Rattle.session.specs.Session.{said_of}
-use Rattle.session.specs.Reader.{Outcome, outcome, closed}
+use Rattle.session.specs.Reader.{Outcome, outcome}
 use Rattle.session.proofs.Openings.{accepted_session}
 use Rattle.session.specs.declared.opening.Opened.{Opened}
 use Rattle.session.specs.declared.opening.Opening.TheVariants.{Accepted}
 use Rattle.session.specs.Opening.{OpenCall, fresh_of}
 use Rattle.report.specs.Triple.{Message}
-use Rattle.report.specs.Figure3.{returned, repaired, do_read, read}
+use Rattle.report.specs.Figure3.{repaired, do_read, read}
 use Rattle.client.specs.Turns as turns
 use Rattle.report.specs.Run.{Polled, unpolled, polls, polled_over, Repairing, EachTells, AllFull, AllApart}
 use Rattle.report.proofs.Marks.{none_heard}

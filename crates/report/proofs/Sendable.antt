@@ -15,7 +15,7 @@ use Rattle.octets.proofs.Laws.{length_be, part_part, part_left, slot_room}
 use Rattle.octets.proofs.Meaning.{be_part, octets_drop, octets_put, alike_is, is_alike}
 use Rattle.sha256.specs.Sha256.{sha256}
 use Rattle.sha256.proofs.Laws.{sha256_length}
-use Rattle.terms.specs.Ladder.{None, ◌and◌}
+use Rattle.terms.specs.Ladder.{None}
 use Rattle.terms.specs.Stamp.{stamp, time, stamp_at, stamp_number, top}
 use Rattle.terms.specs.Terms.{record_length, slots_of, slot_at}
 use Rattle.terms.specs.declared.Ask.{Ask}

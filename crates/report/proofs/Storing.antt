@@ -10,7 +10,7 @@ use borrow.Author.Tests.{ltb-true, ltb-false, lt-ltb}
 use lib.Dec.{ltb}
 use lib.ListN.{length, set, length-set}
 use Rattle.octets.proofs.Laws.{slot_fits}
-use Rattle.terms.specs.Stamp.{stamp, stamp_number}
+use Rattle.terms.specs.Stamp.{stamp_number}
 use Rattle.terms.specs.Terms.{plan_ok, record_length, slots_of}
 use Rattle.terms.specs.declared.Plan.{Plan}
 use Rattle.terms.proofs.Facts.{facts}
@@ -30,7 +30,7 @@ use Rattle.standing.specs.Standing.{replies}
 use Rattle.session.specs.Session.{marked_of, ended_of, still_open, done}
 use Rattle.session.specs.Reply.{is_heard}
 use Rattle.recover.specs.Recover.{collected}
-use Rattle.session.specs.Reader.{outcome, heard, stored}
+use Rattle.session.specs.Reader.{outcome, stored}
 use Rattle.report.specs.Triple.{strung}
 use Rattle.report.specs.Figure2.{acknowledged}
 use Rattle.report.specs.Figure3.{repaired}

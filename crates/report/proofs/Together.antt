@@ -24,7 +24,6 @@ use Rattle.node.specs.Node.{NodeCall}
 use Rattle.standing.specs.Standing.{ask_in, awaits_in}
 use Rattle.session.specs.declared.Session.{Session}
 use Rattle.session.specs.declared.Took.{Took}
-use Rattle.session.specs.declared.Answer.{Answer}
 use Rattle.session.specs.declared.Answer.TheVariants.{Refused}
 use Rattle.standing.specs.declared.Operation.TheVariants.{Write, Read}
 use Rattle.session.specs.Session.{session_with, said_of}

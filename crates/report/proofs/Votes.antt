@@ -2,7 +2,7 @@
 -- more replies are v or more than nodes lie, one that does not lie is among them (some_honest); and where Q nodes executed a write and N-t replied,
 -- Q-t replies are of its time or more (enough_reach). Assumes nothing.
 use Prim.{Unit}
-use Prim.Native.Nat.{ℕ, ◌+◌, ◌-◌, ◌≤◌, ◌<◌}
+use Prim.Native.Nat.{ℕ, ◌+◌, ◌≤◌, ◌<◌}
 use mathlib.Core.Path.{◌≡◌, refl, sym, ap, ◌∙◌}
 use mathlib.Core.Bool.{Bool, true, false, cond}
 use mathlib.Core.List.{List, [], ◌∷◌}

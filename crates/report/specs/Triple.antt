@@ -1,6 +1,6 @@
 -- Triples, sets and what the figures leave open. CMU-PDL-03-105, sections 3 and 4. No bytes, no ask numbers, no slots, no marks: a data
 -- value, a cross checksum and a hash are strings of numbers, a set is a list of its members, and storage-nodes are numbered from 0.
--- The figures' names are kept, with a hyphen where they have a low line, which is a place for an argument here.
+-- The figures' names are kept, in small letters with low lines; some have `_of` or `_at` at the end.
 --   Triple, null          ⟨logical time, data value, cross checksum⟩; the null value, ⊥
 --   Message               ⟨S, Response⟩: a triple from a storage-node, or to it
 --   such_that each max        {X : test, X ∈ set}; {f X : X ∈ set}; the greatest

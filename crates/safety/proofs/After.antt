@@ -4,7 +4,7 @@
 --   later_read_same_bytes     at the same timestamp it has the same bytes, where the item was validated
 --   later_read_as_written     or where it is that of a write
 use Prim.{tt}
-use Prim.Native.Nat.{ℕ, ◌+◌, ◌*◌, ◌^◌, ◌≤◌, ◌<◌}
+use Prim.Native.Nat.{ℕ, ◌*◌, ◌^◌, ◌≤◌, ◌<◌}
 use mathlib.Core.Path.{◌≡◌, refl, sym, ap, ◌∙◌, subst}
 use mathlib.Core.Bool.{true}
 use mathlib.Core.List.{List, [], ◌∷◌, ◌++◌}
@@ -15,7 +15,7 @@ use Rattle.octets.specs.Bytes.{part, alike, Octets}
 use Rattle.octets.proofs.Laws.{part_part}
 use Rattle.octets.proofs.Meaning.{alike_is, octets_drop}
 use Rattle.sha256.specs.Sha256.{sha256}
-use Rattle.terms.specs.Stamp.{stamp, stamp_number, time}
+use Rattle.terms.specs.Stamp.{stamp, stamp_number}
 use Rattle.terms.specs.declared.Plan.{Plan}
 use Rattle.terms.specs.declared.Timestamp.{Timestamp}
 use Rattle.terms.specs.declared.Clients.{Clients}

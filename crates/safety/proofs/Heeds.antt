@@ -10,7 +10,7 @@ use native.Mathlib.Omega.{arith}
 use borrow.Author.Tests.{not-false, eqb-true}
 use lib.ListN.{length, take}
 use Rattle.octets.specs.Bytes.{be}
-use Rattle.terms.specs.Ladder.{None, ◌and◌}
+use Rattle.terms.specs.Ladder.{None}
 use Rattle.terms.specs.Stamp.{stamp, stamp_number}
 use Rattle.terms.specs.declared.Plan.{Plan}
 use Rattle.terms.proofs.Down.{clear}

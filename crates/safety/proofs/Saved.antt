@@ -1,7 +1,7 @@
 -- A WRITE OF OURS THAT IS DONE WAS EXECUTED, record by record, by N-t-b or more honest nodes (saved_is_written): each reply that it took in its write round was
 -- written for a request of that round, which bears the node's record from the desk, and the desk holds the N records of the item. Assumes nothing.
 use Prim.{tt}
-use Prim.Native.Nat.{ℕ, ◌-◌, ◌^◌, ◌<◌}
+use Prim.Native.Nat.{ℕ, ◌^◌, ◌<◌}
 use mathlib.Core.Path.{◌≡◌, refl, sym, ap, ◌∙◌, subst}
 use mathlib.Core.Bool.{Bool, true, false, not, cond}
 use mathlib.Core.List.{List, [], ◌∷◌, ◌++◌, append_assoc}

@@ -59,7 +59,7 @@ module _ (p : Plan) (N : Nodes) (part : ℕ → List Call) where
     pub honest : (i : ℕ) → i < p.n → executed i ≡ true → N.honest i ≡ true
     pub each : (i : ℕ) → i < p.n → executed i ≡ true → ExecutedAt x (part i)
 
--- every call was lent this item, of bytes, and a desk of N-as-R bytes
+-- every call was lent this item, of bytes, and a desk of N·R bytes
 pub record Saved {p : Plan} (save : Ours Write p) (item : List ℕ) (v : Timestamp) : Type 0 where
   pub bytes : Octets item
   pub long : length save.desk ≡ p.n * record_length p

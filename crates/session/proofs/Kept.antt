@@ -41,7 +41,7 @@ use Rattle.recover.proofs.Records.{length_records}
 use Rattle.session.proofs.Known.{Known, known_reply, same, item_is, reply}
 use Rattle.session.proofs.Rules.{StandingIs}
 
--- a session in its ranges with its desk, which is N-as-R bytes; its times have 8 bytes each
+-- a session in its ranges with its desk, which is N·R bytes; its times have 8 bytes each
 pub record Kept (p : Plan) (s : Session) (d : List ℕ) : Type 0 where
   pub range : in_range p s d ≡ true
   pub desk_is : length d ≡ p.n * record_length p

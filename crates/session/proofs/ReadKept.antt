@@ -1,5 +1,5 @@
 -- Every session that a reply to a reader leaves is in its ranges with the desk handed back, where the one before was (read_kept): so, with
--- opened_kept and write-kept of Kept.antt, is every session that the library makes, and no round is above W (round_kept). Assumes nothing.
+-- opened_kept and write_kept of Kept.antt, is every session that the library makes, and no round is above W (round_kept). Assumes nothing.
 use Prim.Native.Nat.{ℕ, ◌+◌, ◌*◌, ◌≤◌, ◌<◌}
 use mathlib.Core.Path.{◌≡◌, refl, sym, ◌∙◌, subst}
 use mathlib.Core.Bool.{Bool, true, false, cond}

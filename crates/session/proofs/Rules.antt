@@ -7,7 +7,7 @@ use native.Mathlib.Omega.{arith}
 use borrow.Author.Tests.{leb-true, le-leb, eqb-true, ltb-true, ltb-false, lt-ltb, le-ltb}
 use lib.ListN.{length}
 use lib.Dec.{eqb}
-use Rattle.terms.specs.Ladder.{all, ◌and◌, ◌or◌}
+use Rattle.terms.specs.Ladder.{all, ◌or◌}
 use Rattle.terms.specs.declared.Plan.{Plan}
 use Rattle.terms.specs.declared.Timestamp.{Timestamp}
 use Rattle.terms.specs.Stamp.{stamp, stamp_number, stamp_at, top}

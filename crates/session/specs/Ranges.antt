@@ -2,7 +2,7 @@
 -- session meets too stand apart.
 --   standing_rules      round, bound, opening ask, marks from N on: for every session
 --   open_rules          timestamp, first triple marks, heard count, slots: for an open session
---   inRange            all of them
+--   in_range           all of them
 -- Assumes nothing.
 use Rattle.std.specs.Prelude.{ℕ, Bool, not, List, [], ◌∷◌, leb}
 use Rattle.terms.specs.Ladder.{all, ◌and◌, ◌or◌}

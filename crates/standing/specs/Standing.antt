@@ -86,7 +86,7 @@ bound_ok (Under u) round = ltb 1 round and leb 1 u.time.0
 unfoldable pub round_rules : ℕ → Operation → Round → Bool
 round_rules w o r = all (leb 1 r.number ∷ leb r.number w ∷ (is_read o or eqb r.number 1) ∷ bound_ok r.bound r.number ∷ [])
 
--- ---- refusal 2: the desk is exactly N-as-R bytes; the item exactly m·F, the request buffer at least R+15
+-- ---- refusal 2: the desk is exactly N·R bytes; the item exactly m·F, the request buffer at least R+15
 unfoldable pub lengths_ok : Plan → ℕ → ℕ → Bool
 lengths_ok p desk item = eqb desk (p.n * record_length p) and eqb item (p.m * p.f)
 

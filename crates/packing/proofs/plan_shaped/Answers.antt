@@ -4,7 +4,6 @@ use Rattle.standing.proofs.Rules as rules
 use Rattle.packing.specs.PlanBytes.{plan_shaped}
 use borrow.Author.Tests.{le-leb, lt-leb, eq-eqb, ne_eqb}
 use lib.Dec.{leb}
-use borrow.Author.Rules.{rules}
 use Rattle.packing.proofs.plan_shaped.Goals as goal
 
 pub returns-then-x-ne11 : goal.returns-then-x-ne11

@@ -4,7 +4,6 @@ use Rattle.packing.specs.SessionBytes.{session_shaped}
 use borrow.Author.Tests.{le-leb, lt-leb, eq-eqb, ne_eqb}
 use mathlib.Core.Path.{sym, ◌∙◌, subst}
 use Prim.Native.Nat.{ℕ, ◌≤◌, ◌<◌}
-use borrow.Author.Rules.{rules}
 use Rattle.packing.proofs.session_shaped.Goals as goal
 
 pub returns-then-x-ne-SESSION : goal.returns-then-x-ne-SESSION

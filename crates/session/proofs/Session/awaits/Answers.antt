@@ -1,6 +1,5 @@
 use native.Mathlib.Omega.{arith}
 use Rattle.session.proofs.Rules as rules
-use borrow.Author.Rules.{rules}
 use Rattle.session.proofs.Session.awaits.Goals as goal
 
 pub asked-ask-requires : goal.asked-ask-requires

@@ -3,7 +3,7 @@ use mathlib.Core.Path.{refl, sym, ap, ◌∙◌}
 use mathlib.Core.Bool.{not}
 use mathlib.Core.List.{List}
 use native.Mathlib.Omega.{arith}
-use borrow.Author.Tests.{not-true, not-false}
+use borrow.Author.Tests.{not-false}
 use Rattle.terms.specs.Ladder.{Rung}
 use Rattle.terms.proofs.Plans.{plan_is}
 use Rattle.frame.specs.declared.Header.{Header}
@@ -14,7 +14,6 @@ use Rattle.session.specs.Reply.{reply_ladder}
 use Rattle.standing.proofs.Rules as rules
 use Rattle.session.proofs.Rules as here
 use Rattle.terms.proofs.Down.{Down, top, next, left, stop, goes_on}
-use borrow.Author.Rules.{rules}
 use Rattle.session.proofs.Session.check.Goals as goal
 
 pub returns-then-not-plan_ok : goal.returns-then-not-plan_ok

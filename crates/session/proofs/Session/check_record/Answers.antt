@@ -4,7 +4,6 @@ use mathlib.Core.Bool.{true, not}
 use mathlib.Core.List.{List}
 use lib.ListN.{length}
 use native.Mathlib.Omega.{arith}
-use borrow.Author.Tests.{not-true, not-false}
 use Rattle.terms.specs.Ladder.{Rung, ◌and◌}
 use Rattle.terms.proofs.Down.{Down, top, next, stop, end}
 use Rattle.frame.specs.declared.Header.{Header}
@@ -14,7 +13,6 @@ use Rattle.record.specs.Record.{hashes_ok, time_zero}
 use Rattle.session.specs.Reply.{bears, record_ladder}
 use Rattle.standing.proofs.Rules as rules
 use Rattle.session.proofs.Readers as laws
-use borrow.Author.Rules.{rules}
 use Rattle.session.proofs.Session.check_record.Goals as goal
 
 pub bears_record-requires : goal.bears_record-requires

@@ -1,9 +1,7 @@
-use mathlib.Core.Bool.{not}
 use Prim.Native.Nat.{◌<◌, ◌+◌, ◌*◌, ◌≤◌}
 use mathlib.Core.Path.{◌≡◌, ap, ◌∙◌}
 use native.Mathlib.Omega.{arith}
 use lib.ListN.{length}
-use borrow.Author.Tests.{not-false}
 use Rattle.terms.proofs.Plans.{plan_is}
 use Rattle.frame.specs.declared.Header.{Header}
 use Rattle.frame.specs.Frame.{frame_node, head_bytes, version_of}

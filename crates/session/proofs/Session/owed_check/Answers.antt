@@ -8,7 +8,6 @@ use Rattle.terms.proofs.Down.{Down, top, next, left, stop, end}
 use Rattle.terms.proofs.Plans.{plan_is}
 use Rattle.session.specs.Owed.{owed_ladder}
 use Rattle.standing.proofs.Rules as rules
-use borrow.Author.Rules.{rules}
 use Rattle.session.proofs.Session.owed_check.Goals as goal
 
 pub returns-then-not-plan_ok : goal.returns-then-not-plan_ok

@@ -1,10 +1,6 @@
-use mathlib.Core.Bool.{not}
-use mathlib.Core.Path.{ap}
 use mathlib.Core.Path.{sym, ◌∙◌}
-use borrow.Author.Tests.{not-true, not-false}
 use Rattle.session.specs.Ranges.{in_range}
 use Rattle.standing.proofs.Rules as rules
-use borrow.Author.Rules.{rules}
 use Rattle.session.proofs.Session.ranges_ok.Goals as goal
 
 pub returns-then-not-stands : goal.returns-then-not-stands

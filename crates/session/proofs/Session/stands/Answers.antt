@@ -1,11 +1,7 @@
-use mathlib.Core.Bool.{not}
-use mathlib.Core.Path.{ap}
 use mathlib.Core.Path.{sym, ◌∙◌}
-use borrow.Author.Tests.{not-true, not-false}
 use Rattle.terms.proofs.Plans.{plan_is}
 use Rattle.standing.proofs.Rules as rules
 use Rattle.session.specs.Ranges.{standing_rules}
-use borrow.Author.Rules.{rules}
 use Rattle.session.proofs.Session.stands.Goals as goal
 
 pub returns-then-not-stands : goal.returns-then-not-stands

@@ -14,7 +14,6 @@ use Rattle.session.specs.Owed.{owed_ladder}
 use Rattle.session.proofs.Known.{Known, known_owed}
 use Rattle.session.proofs.Oweds as laws
 use Rattle.session.proofs.Rules as here
-use borrow.Author.Rules.{rules}
 use Rattle.session.proofs.Session.write_request.Goals as goal
 
 pub asked-ask-requires : goal.asked-ask-requires

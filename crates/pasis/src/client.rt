@@ -53,30 +53,21 @@ fn open_into(op: Operation, plan: &[u8], ask: u64, session: &mut [u8]) -> u32
 }
 
 // Opens a write.
-#[unsafe(no_mangle)]
-pub extern "C" fn pasis_open_write(plan: &[u8], ask: u64, session: &mut [u8]) -> u32
+pub fn pasis_open_write(plan: &[u8], ask: u64, session: &mut [u8]) -> u32
     ensures { OpenServes Write plan.now ask session.old result session.new }
 {
     open_into(Operation::Write, plan, ask, session)
 }
 
 // Opens a read.
-#[unsafe(no_mangle)]
-pub extern "C" fn pasis_open_read(plan: &[u8], ask: u64, session: &mut [u8]) -> u32
+pub fn pasis_open_read(plan: &[u8], ask: u64, session: &mut [u8]) -> u32
     ensures { OpenServes Read plan.now ask session.old result session.new }
 {
     open_into(Operation::Read, plan, ask, session)
 }
 
 // The request frame owed to a node, into the request buffer.
-#[unsafe(no_mangle)]
-pub extern "C" fn pasis_owed(
-    plan: &[u8],
-    session: &[u8],
-    node: u64,
-    desk: &[u8],
-    request: &mut [u8],
-) -> u32
+pub fn pasis_owed(plan: &[u8], session: &[u8], node: u64, desk: &[u8], request: &mut [u8]) -> u32
     ensures { OwedServes
         plan.now
         session.now
@@ -108,8 +99,7 @@ fn keep_session(a: Answer, s: Session, session: &mut [u8])
 }
 
 // A reply to a writer. The item is the one to be written; it is read at the reply that ends the time round.
-#[unsafe(no_mangle)]
-pub extern "C" fn pasis_write_reply(
+pub fn pasis_write_reply(
     plan: &[u8],
     session: &mut [u8],
     reply: &[u8],
@@ -143,8 +133,7 @@ pub extern "C" fn pasis_write_reply(
 }
 
 // A reply to a reader. The item buffer is written at "done" only.
-#[unsafe(no_mangle)]
-pub extern "C" fn pasis_read_reply(
+pub fn pasis_read_reply(
     plan: &[u8],
     session: &mut [u8],
     reply: &[u8],

@@ -11,30 +11,26 @@ ghost use Rattle.std.specs.Prelude.{◌≡◌};
 ghost use Rattle.packing.specs.SessionBytes.{session_length};
 
 // The number of this interface: its layouts, calls and answers. Each of document 02's requests that changes them raises it.
-#[unsafe(no_mangle)]
-pub extern "C" fn pasis_interface() -> u32
+pub fn pasis_interface() -> u32
     ensures { result ≡ 4 }
 {
     4
 }
 
 // The bytes of a plan, of a session and of an ending.
-#[unsafe(no_mangle)]
-pub extern "C" fn pasis_plan_size() -> usize
+pub fn pasis_plan_size() -> usize
     ensures { result ≡ 11 }
 {
     11
 }
 
-#[unsafe(no_mangle)]
-pub extern "C" fn pasis_session_size() -> usize
+pub fn pasis_session_size() -> usize
     ensures { result ≡ session_length }
 {
     packing::SESSION
 }
 
-#[unsafe(no_mangle)]
-pub extern "C" fn pasis_ending_size() -> usize
+pub fn pasis_ending_size() -> usize
     ensures { result ≡ 42 }
 {
     42

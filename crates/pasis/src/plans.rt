@@ -2,8 +2,7 @@
 ghost use Rattle.pasis.specs.Plans.{SmallestServes};
 
 // The smallest N, and with it the smallest Q, that document 01 accepts for t, b, m and a member: one byte each. Order 1, 2, 20.
-#[unsafe(no_mangle)]
-pub extern "C" fn pasis_smallest_plan(member: u8, t: u64, b: u64, m: u64, counts: &mut [u8]) -> u32
+pub fn pasis_smallest_plan(member: u8, t: u64, b: u64, m: u64, counts: &mut [u8]) -> u32
     ensures { SmallestServes member t b m counts.old result counts.new }
 {
     let w = packing::wish_of(member, t, b, m);

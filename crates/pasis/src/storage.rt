@@ -2,8 +2,7 @@
 ghost use Rattle.pasis.specs.Store.{FreshBook, NodeServes, RunServes};
 
 // Makes a fresh book of a node: its first 11 bytes.
-#[unsafe(no_mangle)]
-pub extern "C" fn pasis_fresh_book(plan: &[u8], node: u64, book: &mut [u8]) -> u32
+pub fn pasis_fresh_book(plan: &[u8], node: u64, book: &mut [u8]) -> u32
     ensures { FreshBook plan.now node book.old result book.new }
 {
     let p = packing::plan_of(plan);
@@ -12,8 +11,7 @@ pub extern "C" fn pasis_fresh_book(plan: &[u8], node: u64, book: &mut [u8]) -> u
 }
 
 // Serves one request frame against one book, the reply frame into the reply buffer.
-#[unsafe(no_mangle)]
-pub extern "C" fn pasis_node(plan: &[u8], request: &[u8], book: &mut [u8], reply: &mut [u8]) -> u32
+pub fn pasis_node(plan: &[u8], request: &[u8], book: &mut [u8], reply: &mut [u8]) -> u32
     ensures { NodeServes
         plan.now
         request.now
@@ -29,8 +27,7 @@ pub extern "C" fn pasis_node(plan: &[u8], request: &[u8], book: &mut [u8], reply
 }
 
 // Serves a run of request frames against one book: the reply frames end to end, a number a frame, and what the run tells into 24 bytes.
-#[unsafe(no_mangle)]
-pub extern "C" fn pasis_run(
+pub fn pasis_run(
     plan: &[u8],
     run: &[u8],
     book: &mut [u8],

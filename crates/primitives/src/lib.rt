@@ -26,8 +26,7 @@ fn hash_fits(p: usize, s: usize, out: usize) -> bool
 }
 
 // The hash of p and then s into out: FIPS 180-4.
-#[unsafe(no_mangle)]
-pub extern "C" fn primitives_sha256(p: &[u8], s: &[u8], out: &mut [u8]) -> u32
+pub fn primitives_sha256(p: &[u8], s: &[u8], out: &mut [u8]) -> u32
     ensures { Told
         (hash_fits (length p.now) (length s.now) (length out.old))
         (sha256 (p.now ++ s.now))
@@ -78,8 +77,7 @@ fn hashes_fit(count: usize, h: usize, f: usize, heads: usize, s: usize, out: usi
 }
 
 // The hashes of `count` messages side by side, each h bytes of heads and then f bytes of s, one after another into out.
-#[unsafe(no_mangle)]
-pub extern "C" fn primitives_hashes(
+pub fn primitives_hashes(
     heads: &[u8],
     h: usize,
     s: &[u8],
@@ -128,14 +126,7 @@ fn encode_fits(n: usize, m: usize, f: usize, item: usize, desk: usize) -> bool
 }
 
 // All n fragments of an item of m runs of f bytes, one after another, into desk.
-#[unsafe(no_mangle)]
-pub extern "C" fn primitives_encode(
-    item: &[u8],
-    n: usize,
-    m: usize,
-    f: usize,
-    desk: &mut [u8],
-) -> u32
+pub fn primitives_encode(item: &[u8], n: usize, m: usize, f: usize, desk: &mut [u8]) -> u32
     ensures { Told
         (encode_fits n m f (length item.now) (length desk.old))
         (encoded m item.now (runs_of n f) n desk.old)
@@ -196,14 +187,7 @@ fn decode_fits(m: usize, f: usize, nodes: &[u8], desk: usize, item: usize) -> bo
 }
 
 // The item, from the fragments of the m nodes named, that of node p in desk at p * f.
-#[unsafe(no_mangle)]
-pub extern "C" fn primitives_decode(
-    desk: &[u8],
-    nodes: &[u8],
-    m: usize,
-    f: usize,
-    item: &mut [u8],
-) -> u32
+pub fn primitives_decode(desk: &[u8], nodes: &[u8], m: usize, f: usize, item: &mut [u8]) -> u32
     ensures { Told
         (decode_fits m f nodes.now (length desk.now) (length item.old))
         (laid desk.now (runs_of 16 f) nodes.now (runs_of m f) m item.old)

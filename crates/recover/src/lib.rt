@@ -105,7 +105,9 @@ fn validated(p: Plan, desk: &[u8], qs: &[u8], a: usize) -> bool
     valid(p, desk, b, a, &mut scratch[..f])
 }
 
-// The desk filled with all records of the set of slot a, with room of its own for one fragment.
+// The desk filled with all records of the set of slot a, with room of its own for one fragment. Never inlined: put into its caller, that room would lie
+// under validation too, which comes before it and is the deepest there is (docs/HOSTS.md, "Stack").
+#[inline(never)]
 fn mend(desk: &mut [u8], slots: Slots, qs: &[u8], a: usize)
     requires { (Sources desk.old slots qs.now) × (slots.fragment ≤ 1024) × (slots.size ≡ slots.head + slots.fragment) × (slots.n ≤ 16)
         × (slots.n * slots.size ≤ length desk.old) × (a < slots.n) × (length qs.now ≤ 16) }

@@ -44,7 +44,7 @@ pub extern "C" fn pasis_ending_size() -> usize
 pub extern "C" fn pasis_fresh_book(plan: &[u8], node: u64, book: &mut [u8]) -> u32
     ensures { FreshBook plan.now node book.old result book.new }
 {
-    pasis::store::pasis_fresh_book(plan, node, book)
+    pasis::storage::pasis_fresh_book(plan, node, book)
 }
 
 // Serves one request frame against one book, the reply frame into the reply buffer.
@@ -59,7 +59,7 @@ pub extern "C" fn pasis_node(plan: &[u8], request: &[u8], book: &mut [u8], reply
         book.new
         reply.new }
 {
-    pasis::store::pasis_node(plan, request, book, reply)
+    pasis::storage::pasis_node(plan, request, book, reply)
 }
 
 // Serves a run of request frames against one book: the reply frames end to end, a number a frame, and what the run tells into 24 bytes.
@@ -85,7 +85,7 @@ pub extern "C" fn pasis_run(
         numbers.new
         told.new }
 {
-    pasis::store::pasis_run(plan, run, book, reply, numbers, told)
+    pasis::storage::pasis_run(plan, run, book, reply, numbers, told)
 }
 
 // Opens a write.

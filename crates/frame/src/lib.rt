@@ -60,6 +60,7 @@ pub enum Cut {
 }
 
 // Where the frame that starts at `at` ends: by its length field alone.
+#[tactic(auto, using(crate::proofs::Frames::cut_short, crate::proofs::Frames::cut_low, crate::proofs::Frames::cut_high, crate::proofs::Frames::cut_ends))]
 pub fn cut_at(s: &[u8], at: usize) -> Cut
     ensures { result ≡ cut_at s.now at }
 {
@@ -169,6 +170,7 @@ fn suits(party: Party, p: Plan, h: Header, n: usize) -> bool
 }
 
 // Refusal 4 at a node: the header of a request, and for this node.
+#[tactic(auto, using(crate::proofs::Frames::request_door, crate::proofs::Frames::request_elsewhere, crate::proofs::Frames::frame_read))]
 pub fn request_at(p: Plan, node: u64, f: &[u8]) -> Door
     requires { plan_ok p ≡ true }
     ensures { result ≡ request_in p node f.now }

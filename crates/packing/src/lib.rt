@@ -58,6 +58,7 @@ pub fn wish_of(member: u8, t: u64, b: u64, m: u64) -> Wish
 }
 
 // Whether some bytes code a plan.
+#[tactic(auto, using(crate::proofs::Members::no_member))]
 fn plan_shaped(x: &[u8]) -> bool
     ensures { result ≡ plan_shaped x.now }
 {

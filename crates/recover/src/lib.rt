@@ -60,6 +60,7 @@ pub struct Led {
 }
 
 // Slot k gets its record of a set; the slot of a source stays.
+#[tactic(auto, using(crate::proofs::Laws::filled_stays, crate::proofs::Laws::filled_writes))]
 fn fill_slot(desk: &mut [u8], set: Led, b: Basis, k: usize, scratch: &mut [u8])
     requires { (Sources desk.old set.slots (points_of b)) × (length scratch.old ≡ set.slots.fragment)
         × (set.slots.size ≡ set.slots.head + set.slots.fragment) × (k < 16)

@@ -22,14 +22,6 @@ returns-then-not-suits c = let s = c.shaped in
     (sym (laws.frame_read Node _ _ _ (sym s.ensures ∙ c.if-not-shaped.false) c.header_of-h.ensures.0 t.ensures)
     ∙ c.if-not-suits.true)
 
-pub returns-then-here-node : goal.returns-then-here-node
-returns-then-here-node c = let s = c.shaped in
-    let t = c.suits in
-    let h = c.header_of-h.ensures.0 in
-    laws.request_door _ _ _ _
-    (sym (laws.frame_read Node _ _ _ (sym s.ensures ∙ c.if-not-shaped.false) h t.ensures) ∙ c.if-not-suits.false)
-    h c.if-here-node.true
-
 pub returns : goal.returns
 returns c = let s = c.shaped in
     let t = c.suits in

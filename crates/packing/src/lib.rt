@@ -58,14 +58,14 @@ pub fn wish_of(member: u8, t: u64, b: u64, m: u64) -> Wish
 }
 
 // Whether some bytes code a plan.
-#[tactic(auto, using(crate::proofs::Members::no_member))]
 fn plan_shaped(x: &[u8]) -> bool
     ensures { result ≡ plan_shaped x.now }
 {
     if x.len() != 11 {
         return false;
     }
-    if octets::get(x, 7, 1) > 1 {
+    let no_member = octets::get(x, 7, 1) > 1;
+    if no_member {
         return false;
     }
     octets::get(x, 8, 1) <= 1

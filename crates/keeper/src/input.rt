@@ -156,8 +156,7 @@ fn further(passed: u64, n: usize) -> u64 {
 
 // After a run: the rest is moved to the front.
 pub fn rest(area: &mut [u8], cut: usize, held: usize, passed: u64, on: bool) -> Stand
-    requires in_held { cut ≤ held }
-    requires in_area { held ≤ length area.old }
+    requires { (cut ≤ held) × (held ≤ length area.old) }
     ensures { result.held ≤ length area.new }
 {
     octets::down(area, 0, held - cut, cut);

@@ -39,8 +39,7 @@ fn say_refused(rt: &HostRuntime, numbers: &[u8]) {
 
 // What the frames of a run came to: the replies by one write, and a line for each that was refused.
 fn tell(rt: &HostRuntime, reply: &[u8], written: usize, numbers: &[u8], frames: usize) -> bool
-    requires replies { written ≤ length reply.now }
-    requires frames { frames ≤ length numbers.now }
+    requires { (written ≤ length reply.now) × (frames ≤ length numbers.now) }
 {
     let sent = send(rt, reply, written);
     say_refused(rt, &numbers[..frames]);

@@ -11,6 +11,7 @@
 pub mod say;
 
 ghost use Rattle.std.specs.Prelude.{◌≤◌, ◌≡◌, length};
+ghost use Rattle.io.specs.Counts.{IsPrefixLen};
 
 use std::fs::{File, OpenOptions};
 use std::io::{ErrorKind, Read, Write};
@@ -121,7 +122,7 @@ fn read_full(file: &mut File, area: &mut [u8]) -> usize
 
 // An open file at the start of an area, and closed again.
 fn load_open(rt: &HostRuntime, mut file: File, path: &[u8], area: &mut [u8]) -> Loaded
-    ensures { result.length ≤ length area.new }
+    ensures { IsPrefixLen result.length area.new }
 {
     let n = read_full(&mut file, area);
     let full = n == area.len();
@@ -135,7 +136,7 @@ fn load_open(rt: &HostRuntime, mut file: File, path: &[u8], area: &mut [u8]) -> 
 
 // A whole file at the start of an area. Where it cannot be had, a line says why.
 pub fn load(rt: &HostRuntime, path: &[u8], area: &mut [u8]) -> Loaded
-    ensures { result.length ≤ length area.new }
+    ensures { IsPrefixLen result.length area.new }
 {
     match open_read(rt, path) {
         Ok(file) => load_open(rt, file, path, area),
@@ -150,7 +151,7 @@ pub fn load(rt: &HostRuntime, path: &[u8], area: &mut [u8]) -> Loaded
 
 // The name of a file beside BOOK. 0 where it does not fit.
 fn beside(path: &[u8], ending: &[u8], name: &mut [u8]) -> usize
-    ensures { result ≤ length name.new }
+    ensures { IsPrefixLen result name.new }
 {
     let n = path.len();
     let e = ending.len();
@@ -167,7 +168,7 @@ fn beside(path: &[u8], ending: &[u8], name: &mut [u8]) -> usize
 
 // The length of a path up to its last slash, with it; 0 where it has none.
 fn folder_length(path: &[u8]) -> usize
-    ensures { result ≤ length path.now }
+    ensures { IsPrefixLen result path.now }
 {
     for k in (0..path.len()).rev() {
         if path[k] == b'/' {
@@ -391,7 +392,7 @@ fn not_opened(rt: &HostRuntime, name: &[u8], e: io::Error) -> Loaded
 }
 
 fn load_named(rt: &HostRuntime, name: &[u8], area: &mut [u8]) -> Loaded
-    ensures { result.length ≤ length area.new }
+    ensures { IsPrefixLen result.length area.new }
 {
     match open_read(rt, name) {
         Ok(file) => load_open(rt, file, name, area),
@@ -401,7 +402,7 @@ fn load_named(rt: &HostRuntime, name: &[u8], area: &mut [u8]) -> Loaded
 
 // BOOK.plan, the text of the plan that the book was made with, at the start of an area. Where it cannot be had, or is missing, a line says so.
 pub fn load_plan(rt: &HostRuntime, path: &[u8], area: &mut [u8]) -> Loaded
-    ensures { result.length ≤ length area.new }
+    ensures { IsPrefixLen result.length area.new }
 {
     let mut name = [0u8; NAME];
     let n = beside(path, b".plan", &mut name);

@@ -1,6 +1,7 @@
 // What waits on standard input. It is read into an area by one call for all that is there, and taken out as runs of whole requests; the bytes
 // of a request that is not whole yet stay. No read is made while the area holds a whole one.
 ghost use Rattle.std.specs.Prelude.{◌≤◌, ◌≡◌, length};
+ghost use Rattle.io.specs.Counts.{IsPrefixLen};
 
 use book_file::say;
 use std::io::Read;
@@ -54,7 +55,7 @@ fn request_end(s: &[u8], at: usize) -> usize
 
 // Where the run of whole requests at the start of what waits ends, with at most so many of them.
 fn whole(waits: &[u8], most: usize) -> usize
-    ensures { result ≤ length waits.now }
+    ensures { IsPrefixLen result waits.now }
 {
     let mut at = 0;
     let mut left = most;
@@ -69,9 +70,8 @@ fn whole(waits: &[u8], most: usize) -> usize
 
 // The same of an area with so many bytes that wait.
 pub fn run_end(area: &[u8], held: usize, most: usize) -> usize
-    requires { held ≤ length area.now }
-    ensures in_area { result ≤ length area.now }
-    ensures in_held { result ≤ held }
+    requires { IsPrefixLen held area.now }
+    ensures { IsPrefixLen result area.now × (result ≤ held) }
 {
     whole(&area[..held], most)
 }

@@ -13,10 +13,11 @@
 use mathlib.Core.Path.{◌≡◌, refl, sym, ap, ◌∙◌, subst}
 use mathlib.Core.Bool.{Bool, true, false, cond}
 use mathlib.Core.List.{List, [], ◌∷◌}
-use Prim.Native.Nat.{ℕ, ◌-◌, ◌≤◌, ◌<◌}
+use Prim.Native.Nat.{ℕ, suc, ◌+◌, ◌-◌, ◌≤◌, ◌<◌}
 use native.Mathlib.Omega.{arith}
 use borrow.Author.Tests.{eq-eqb, ne_eqb}
-use lib.ListN.{length, take, drop}
+use lib.ListN.{length, length-append, take, drop}
+use lib.Dec.{eqb}
 use Rattle.octets.specs.Bytes.{part, put, over, alike}
 use Rattle.octets.proofs.Laws.{length_part, part_all, part_put_same}
 use Rattle.terms.specs.Ladder.{◌or◌}
@@ -28,11 +29,13 @@ use Rattle.node.specs.Node.{writes, answered, served, node_ladder}
 use Rattle.node.proofs.Laws as nodes
 use Rattle.store.proofs.One as one
 use Rattle.runs.specs.Cuts.{next_place, Cutting, cut_run}
-use Rattle.runs.specs.Runs.{singly, run_ladder, refused, RunOutcome, run_outcome, run_of, ran_over, RunCall}
+use Rattle.runs.specs.Runs.{singly, run_ladder, SaidRan, said_ran, refused, did, RunOutcome, run_outcome, run_of, ran_over, RunCall}
 use Rattle.runs.specs.declared.Ran.{Ran}
 use Rattle.runs.specs.declared.Ran.TheVariants.{Refused, Did}
-use Rattle.runs.proofs.Bounds as bounds
 use Rattle.runs.proofs.Cuts as cuts
+use Rattle.runs.proofs.Unique as unique
+use Rattle.io.specs.Counts.{IsPrefixLen}
+use Rattle.io.proofs.Counting.{prefix_len_of_le}
 use Rattle.keeper_step.specs.declared.Next.{Next}
 use Rattle.keeper_step.specs.declared.Next.TheVariants as next
 use Rattle.keeper_step.specs.declared.Due.{Due}
@@ -117,13 +120,41 @@ look_stays p s b y z a b₂ y₂ z₂ w c =
     (λ k g. refl) (λ n. all_stay p (cut_run s).frames b y w)
 
 -- ---- the replies and the numbers lie within their buffers
+over_long : (new old : List ℕ) → length new ≤ length (over new old)
+unfolding over
+over_long new old = let e = length-append new (drop (length new) old) in omega (arith, e)
+
+as_many : (p : Plan) (fs : List (List ℕ)) (b y : List ℕ) → length (singly p fs b y).numbers ≡ length fs
+unfolding singly
+as_many p [] b y = refl
+as_many p (f ∷ fs) b y = ap suc (as_many p fs (served p f b y).book y)
+
 pub record Within (a : Ran) (y z : List ℕ) : Type 0 where
   pub fits : written_of a ≤ length y
   pub numbered : frames_of a ≤ length z
 
+did_within : (p : Plan) (s b y z : List ℕ) (n w e : ℕ) (b₂ y₂ z₂ : List ℕ) → run_outcome (did n w e) b₂ y₂ z₂ ≡ run_of p s b y z → Within (Did n w e) y₂ z₂
+did_within p s b y z n w e b₂ y₂ z₂ q =
+    let l = singly p (cut_run s).frames b y in
+    let g : did n w e ≡ did (length (cut_run s).frames) (length l.replies) (cut_run s).ended = ap (λ (o : RunOutcome). o.answer) q in
+    let i : n ≡ length (cut_run s).frames = cc in
+    let j : w ≡ length l.replies = cc in
+    let u : y₂ ≡ over l.replies y = ap (λ (o : RunOutcome). o.reply) q in
+    let v : z₂ ≡ over l.numbers z = ap (λ (o : RunOutcome). o.numbers) q in
+    let m = as_many p (cut_run s).frames b y in
+    record {
+      fits = subst (λ (x : List ℕ). w ≤ length x) (sym u) (omega (arith, over_long l.replies y, j));
+      numbered = subst (λ (x : List ℕ). n ≤ length x) (sym v) (omega (arith, over_long l.numbers z, m, i));
+    }
+
 pub within : (p : Plan) (s b y z : List ℕ) (a : Ran) (b₂ y₂ z₂ : List ℕ) → RunCall p s b y z a b₂ y₂ z₂ → Within a y₂ z₂
+unfolding ran_over
 within p s b y z (Refused r) b₂ y₂ z₂ c = record { fits = omega arith; numbered = omega arith }
-within p s b y z (Did n w e) b₂ y₂ z₂ c = record { fits = bounds.written_fits p s b y z n w e b₂ y₂ z₂ c; numbered = bounds.frames_fit p s b y z n w e b₂ y₂ z₂ c }
+within p s b y z (Did n w e) b₂ y₂ z₂ c =
+    ladders.by_ladder (λ (o : RunOutcome). run_outcome (did n w e) b₂ y₂ z₂ ≡ o → Within (Did n w e) y₂ z₂) (run_ladder p s b y z) (λ (k : ℕ). run_outcome (refused k) b y z) (run_of p s b y z)
+    (λ k g h. absurd (unique.not_did k n w e (sym (ap (λ (o : RunOutcome). o.answer) h))))
+    (λ g h. did_within p s b y z n w e b₂ y₂ z₂ h)
+    c.is
 
 -- ---- the comparison
 pub told : (b b₂ d d₂ : List ℕ) (n : ℕ) (t : Bool) → d₂ ≡ put d 0 (part b 0 n) → t ≡ alike (part b₂ 0 n) (part d₂ 0 n)
@@ -193,16 +224,16 @@ reply_not_nothing : (n k : ℕ) → due.Reply n k ≡ due.Nothing → ⊥
 reply_not_nothing n k e = let z : ◌≡◌ {A = ℕ} 0 1 = cc in omega arith
 
 pub counted_due : (x : Next) (s : Bool) (d : Due) (n k : ℕ) (y z : List ℕ) → d ≡ due_after x s → d ≡ due.Reply n k → written_of (answer_of x) ≤ length y → frames_of (answer_of x) ≤ length z
-    → (k ≤ length y) × (n ≤ length z)
+    → IsPrefixLen k y × IsPrefixLen n z
 counted_due x s d n k y z e f h g = go x s (sym f ∙ e) h g
   where
-    both : (i j : ℕ) → due.Reply n k ≡ due.Reply i j → j ≤ length y → i ≤ length z → (k ≤ length y) × (n ≤ length z)
+    both : (i j : ℕ) → due.Reply n k ≡ due.Reply i j → j ≤ length y → i ≤ length z → IsPrefixLen k y × IsPrefixLen n z
     both i j e h g =
         let a : n ≡ i = cc in
         let b : k ≡ j = cc in
-        (omega arith, omega arith)
+        (prefix_len_of_le k y (omega arith), prefix_len_of_le n z (omega arith))
 
-    go : (x : Next) (s : Bool) → due.Reply n k ≡ due_after x s → written_of (answer_of x) ≤ length y → frames_of (answer_of x) ≤ length z → (k ≤ length y) × (n ≤ length z)
+    go : (x : Next) (s : Bool) → due.Reply n k ≡ due_after x s → written_of (answer_of x) ≤ length y → frames_of (answer_of x) ≤ length z → IsPrefixLen k y × IsPrefixLen n z
     go (next.Refused r) s e h g = absurd (reply_not_said n k r e)
     go (next.Send i j at) s e h g = both i j e h g
     go (next.Sync i j at) true e h g = both i j e h g

@@ -10,6 +10,7 @@
 #![tactic(auto)]
 
 ghost use Rattle.std.specs.Prelude.{◌*◌, ◌≤◌, ◌<◌, ◌≡◌, length, IfOk};
+ghost use Rattle.io.specs.Counts.{IsPrefixLen};
 
 use pasis::{client, plans, storage};
 use std::io;
@@ -76,7 +77,7 @@ struct Part {
 
 // The field that starts at `at`, up to a space, a line's end or the end of the text, as bytes at the start of out.
 fn field(text: &[u8], at: usize, out: &mut [u8]) -> Part
-    ensures { result.n ≤ length out.new }
+    ensures { IsPrefixLen result.n out.new }
 {
     let mut i = at;
     let mut k = 0;

@@ -1,6 +1,7 @@
 -- What a call answers, as a host is told it. Each call answers a number: 0 where it was served, opened, written, or accepted and the
 -- operation is open; 1 to 31 the refusals of the documents, "Refusal numbers" (15 to 19 and 22 to 31 are kept free); 101 done, 102 never written, 103 aborted, 104 rounds spent, 105
 -- clock spent. An ending is 42 bytes: timestamp 40, rounds 2.
+--   number_of               the number of any answer that is served or refused
 --   made_number served_number due_number answer_number   an answer as a number
 --   smallest_number counts_bytes counts_after   the answer of a wish; N and Q in a byte each, written where it is not refused
 --   ran_number told_bytes told_after   the answer of a run; what it tells, in 8 bytes each, written where it is not refused
@@ -8,18 +9,19 @@
 --   ending_of answer_of         the answer that a number and ending bytes are
 --   both_fit lent_ladder        1 and 2 of the lengths, before the call's own order
 -- Assumes nothing.
-use Rattle.std.specs.Prelude.{ℕ, Bool, cond, not, List, [], ◌∷◌, ◌++◌, leb, eqb}
+use Rattle.terms.specs.declared.Refusal.{Refusal}
+use Rattle.std.specs.Prelude.{ℕ, Bool, cond, not, List, [], ◌∷◌, ◌++◌, leb, eqb, Result, Ok, Err}
 use Rattle.octets.specs.Bytes.{part, num, be}
 use Rattle.terms.specs.Ladder.{Rung, on, ◌and◌}
 use Rattle.terms.specs.Stamp.{stamp_number, stamp_at}
-use Rattle.terms.specs.Terms.{plan_ok, refusal_at}
+use Rattle.terms.specs.Terms.{plan_ok, refusal_number, refusal_at}
 use Rattle.terms.specs.declared.Plan.{Plan}
 use Rattle.terms.specs.declared.Timestamp.{Timestamp}
 use Rattle.node.specs.Fresh as fresh
 use Rattle.node.specs.Fresh.{SaidMade}
 use Rattle.node.specs.Node as node
 use Rattle.session.specs.declared.Answer.{Answer}
-use Rattle.session.specs.declared.Answer.TheVariants.{Refused, Open, Done, NeverWritten, Aborted, RoundsSpent, ClockSpent}
+use Rattle.session.specs.declared.Answer.TheVariants.{Open, Done, NeverWritten, Aborted, RoundsSpent, ClockSpent}
 use Rattle.session.specs.Session.{Said, refused, still_open, done, never_written, aborted, rounds_spent, clock_spent}
 use Rattle.session.specs.Owed as owed
 use Rattle.packing.specs.SessionBytes.{session_length}
@@ -30,6 +32,11 @@ use Rattle.runs.specs.Runs as runs
 use Rattle.runs.specs.Runs.{SaidRan}
 
 -- ---- answers
+-- of any answer that is told as served or refused; the next ones say the same of each, in the paper's terms
+abbrev pub number_of : {T : Type 0} → Result T Refusal → ℕ
+number_of (Ok x) = 0
+number_of (Err r) = refusal_number r
+
 abbrev pub made_number : SaidMade → ℕ
 made_number (fresh.refused k) = k
 made_number fresh.made = 0
@@ -89,11 +96,11 @@ ending_after (rounds_spent n) old = ending_bytes 0 n
 ending_after clock_spent old = ending_bytes 0 0
 
 -- ---- read back
-abbrev pub ending_of : ℕ → Timestamp → ℕ → Answer
-ending_of k t n = cond (eqb k 101) (Done t n) (cond (eqb k 102) (NeverWritten n) (cond (eqb k 103) (Aborted n) (cond (eqb k 104) (RoundsSpent n) ClockSpent)))
+abbrev pub ending_of : ℕ → Timestamp → ℕ → Result Answer Refusal
+ending_of k t n = cond (eqb k 101) (Ok (Done t n)) (cond (eqb k 102) (Ok (NeverWritten n)) (cond (eqb k 103) (Ok (Aborted n)) (cond (eqb k 104) (Ok (RoundsSpent n)) (Ok ClockSpent))))
 
-unfoldable pub answer_of : ℕ → List ℕ → Answer
-answer_of k e = cond (eqb k 0) Open (cond (leb k 100) (Refused (refusal_at k)) (ending_of k (stamp_at e 0) (num (part e 40 2))))
+unfoldable pub answer_of : ℕ → List ℕ → Result Answer Refusal
+answer_of k e = cond (eqb k 0) (Ok Open) (cond (leb k 100) (Err (refusal_at k)) (ending_of k (stamp_at e 0) (num (part e 40 2))))
 
 -- ---- lengths
 -- a session or an ending of a wrong length is 2

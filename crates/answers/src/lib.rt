@@ -2,71 +2,41 @@
 // open; 1 to 31 the documents' refusals, of which 15 to 19 and 22 to 31 are kept free; 101 to 105 the endings. Before the call come 1 and 2 of what a host lends.
 #![tactic(auto)]
 
-ghost use Rattle.std.specs.Prelude.{◌≡◌, length};
+ghost use Rattle.std.specs.Prelude.{◌≡◌, Ok, length};
 ghost use Rattle.terms.specs.Ladder.{first};
 ghost use Rattle.terms.specs.Stamp.{stamp_number};
-ghost use Rattle.node.specs.Node.{said_served};
-ghost use Rattle.node.specs.Fresh.{said_made};
-ghost use Rattle.session.specs.Session.{said_of, is_refused};
-ghost use Rattle.session.specs.Owed.{due_of};
+ghost use Rattle.session.specs.Session.{said_of};
 ghost use Rattle.wish.specs.Wish.{said_smallest};
 ghost use Rattle.runs.specs.Runs.{said_ran};
-ghost use Rattle.answers.specs.Answers.{both_fit, lent_ladder, made_number, served_number, due_number, answer_number, smallest_number, counts_bytes, counts_after, ran_number, told_bytes, told_after, ending_bytes, ending_after};
+ghost use Rattle.answers.specs.Answers.{both_fit, lent_ladder, number_of, answer_number, counts_bytes, counts_after, told_bytes, told_after, ending_bytes, ending_after};
 
-use node::Made;
 use runs::Ran;
 use session::Answer;
-use session::owed::Owed;
-use terms::{Plan, Timestamp};
-use wish::Smallest;
+use terms::{Plan, Refusal, Timestamp};
+use wish::Counts;
 
-pub fn made_number(m: Made) -> u32
-    ensures { result ≡ made_number (said_made m) }
-{
-    match m {
-        Made::Refused(r) => r.number(),
-        Made::Fresh => 0,
-    }
-}
-
-pub fn served_number(a: node::Answer) -> u32
-    ensures { result ≡ served_number (said_served a) }
+// The number of an answer that a host is told as served or refused: 0, or the refusal's. Fresh books, requests served and owed, plans and runs.
+pub fn number<T: Copy>(a: Result<T, Refusal>) -> u32
+    ensures { result ≡ number_of a }
 {
     match a {
-        node::Answer::Refused(r) => r.number(),
-        node::Answer::Replied(_) => 0,
+        Ok(_) => 0,
+        Err(r) => r.number(),
     }
 }
 
-pub fn due_number(o: Owed) -> u32
-    ensures { result ≡ due_number (due_of o) }
-{
-    match o {
-        Owed::Refused(r) => r.number(),
-        Owed::Request(_) => 0,
-    }
-}
-
-pub fn answer_number(a: Answer) -> u32
+// The number of an answer to a reply, where an ending has one of its own.
+pub fn answer_number(a: Result<Answer, Refusal>) -> u32
     ensures { result ≡ answer_number (said_of a) }
 {
     match a {
-        Answer::Refused(r) => r.number(),
-        Answer::Open => 0,
-        Answer::Done(_, _) => 101,
-        Answer::NeverWritten(_) => 102,
-        Answer::Aborted(_) => 103,
-        Answer::RoundsSpent(_) => 104,
-        Answer::ClockSpent => 105,
-    }
-}
-
-pub fn smallest_number(a: Smallest) -> u32
-    ensures { result ≡ smallest_number (said_smallest a) }
-{
-    match a {
-        Smallest::Refused(r) => r.number(),
-        Smallest::Counts(_, _) => 0,
+        Err(r) => r.number(),
+        Ok(Answer::Open) => 0,
+        Ok(Answer::Done(_, _)) => 101,
+        Ok(Answer::NeverWritten(_)) => 102,
+        Ok(Answer::Aborted(_)) => 103,
+        Ok(Answer::RoundsSpent(_)) => 104,
+        Ok(Answer::ClockSpent) => 105,
     }
 }
 
@@ -80,22 +50,13 @@ fn write_counts(n: u64, q: u64, counts: &mut [u8])
 }
 
 // Writes the counts that an answer tells, if it tells any.
-pub fn put_counts(a: Smallest, counts: &mut [u8])
+pub fn put_counts(a: Result<Counts, Refusal>, counts: &mut [u8])
     requires { length counts.old ≡ 2 }
     ensures { counts.new ≡ counts_after (said_smallest a) counts.old }
 {
     match a {
-        Smallest::Refused(_) => {}
-        Smallest::Counts(n, q) => write_counts(n, q, counts),
-    }
-}
-
-pub fn ran_number(a: Ran) -> u32
-    ensures { result ≡ ran_number (said_ran a) }
-{
-    match a {
-        Ran::Refused(r) => r.number(),
-        Ran::Did(_, _, _) => 0,
+        Err(_) => {}
+        Ok(c) => write_counts(c.n, c.q, counts),
     }
 }
 
@@ -110,27 +71,13 @@ fn write_told(frames: usize, written: usize, ended: usize, told: &mut [u8])
 }
 
 // Writes what a run tells, if it was not refused.
-pub fn put_told(a: Ran, told: &mut [u8])
+pub fn put_told(a: Result<Ran, Refusal>, told: &mut [u8])
     requires { length told.old ≡ 24 }
     ensures { told.new ≡ told_after (said_ran a) told.old }
 {
     match a {
-        Ran::Refused(_) => {}
-        Ran::Did(frames, written, ended) => write_told(frames, written, ended, told),
-    }
-}
-
-pub fn is_refused(a: Answer) -> bool
-    ensures { result ≡ is_refused (said_of a) }
-{
-    match a {
-        Answer::Refused(_) => true,
-        Answer::Open => false,
-        Answer::Done(_, _) => false,
-        Answer::NeverWritten(_) => false,
-        Answer::Aborted(_) => false,
-        Answer::RoundsSpent(_) => false,
-        Answer::ClockSpent => false,
+        Err(_) => {}
+        Ok(x) => write_told(x.frames, x.written, x.ended, told),
     }
 }
 
@@ -143,14 +90,13 @@ fn write_ending(t: Timestamp, rounds: u64, ending: &mut [u8])
     octets::put_num(ending, 40, 2, rounds);
 }
 
-// Writes the ending that an answer tells, if it tells one.
-pub fn put_ending(a: Answer, ending: &mut [u8])
+// Writes the ending that an accepted reply tells, if it tells one.
+fn put_told_ending(a: Answer, ending: &mut [u8])
     requires { length ending.old ≡ 42 }
-    ensures { ending.new ≡ ending_after (said_of a) ending.old }
+    ensures { ending.new ≡ ending_after (said_of (Ok a)) ending.old }
 {
     let none = terms::zero_stamp();
     match a {
-        Answer::Refused(_) => {}
         Answer::Open => {}
         Answer::Done(t, n) => write_ending(t, n, ending),
         Answer::NeverWritten(n) => write_ending(none, n, ending),
@@ -160,17 +106,28 @@ pub fn put_ending(a: Answer, ending: &mut [u8])
     }
 }
 
-// 1 and 2 of what every client's call is lent: 0 where neither applies.
-pub fn lent(p: Plan, fits: bool) -> u32
-    ensures { result ≡ first (lent_ladder p fits) (λ k. k) 0 }
+// Writes the ending that an answer tells, if it tells one.
+pub fn put_ending(a: Result<Answer, Refusal>, ending: &mut [u8])
+    requires { length ending.old ≡ 42 }
+    ensures { ending.new ≡ ending_after (said_of a) ending.old }
+{
+    match a {
+        Err(_) => {}
+        Ok(x) => put_told_ending(x, ending),
+    }
+}
+
+// 1 and 2 of what every client's call is lent.
+pub fn lent(p: Plan, fits: bool) -> Result<(), Refusal>
+    ensures { number_of result ≡ first (lent_ladder p fits) (λ k. k) 0 }
 {
     if !terms::plan_ok(p) {
-        return 1;
+        return Err(Refusal::OutsidePlan);
     }
     if !fits {
-        return 2;
+        return Err(Refusal::WrongLength);
     }
-    0
+    Ok(())
 }
 
 // Whether a session and an ending have their lengths.

@@ -1,4 +1,5 @@
 -- What the book's functions ensure, each need a law. Assumes nothing.
+use Rattle.std.specs.Prelude.{Option, Some, None}
 use mathlib.Core.Path.{◌≡◌, refl, sym, ap, ◌∙◌, subst}
 use mathlib.Core.Bool.{Bool, true, false, cond}
 use mathlib.Core.List.{List, [], ◌++◌, append-nil, append_assoc}
@@ -24,8 +25,6 @@ use Rattle.book.specs.declared.Fate.TheVariants.{Held, Other, Free}
 use Rattle.book.specs.declared.Span.{Span}
 use Rattle.book.specs.Records.{timed, rising, below, last_of, last_below, fate_of}
 use Rattle.book.specs.declared.Book.{Book}
-use Rattle.book.specs.declared.Shape.{Shape}
-use Rattle.book.specs.declared.Shape.TheVariants.{Bad, Good}
 use Rattle.book.specs.Inside.{inserted, fate_by, Lies, Placed, Grows}
 use Rattle.book.specs.Book.{fixed, blank, book_head, book_lent, book_in, records_from, records_in, records_past, records_of, headed, filled, good_book, header, joined, laid_as, laid_out, version_in, node_of, count_of, used_in, used_of, Checked, Holds, Sound, Itself, grown}
 use Rattle.book.proofs.Lists as lists
@@ -106,46 +105,46 @@ module _ (p : Plan) (b : List ℕ) (k : Book) (o : Octets b) (e : k ≡ book_in 
   laid_if : good_book p b ≡ true → Itself p b
   laid_if g = good_laid p b o (good_is p b g)
 
-  bad : good_book p b ≡ false → Checked p b Bad
+  bad : good_book p b ≡ false → Checked p b None
   bad g = record { is = rw g; laid = laid_if; small = small }
 
-  pub bad_head : headed 1 (book_head 1) p b ≡ false → Checked p b Bad
+  pub bad_head : headed 1 (book_head 1) p b ≡ false → Checked p b None
   unfolding good_book
   bad_head g = bad (rw g)
 
-  pub bad_fill : {h f : Bool} → h ≡ headed 1 (book_head 1) p b → h ≡ true → f ≡ filled (book_head 1) p b → f ≡ false → Checked p b Bad
+  pub bad_fill : {h f : Bool} → h ≡ headed 1 (book_head 1) p b → h ≡ true → f ≡ filled (book_head 1) p b → f ≡ false → Checked p b None
   bad_fill eh h ef f = bad (sym (good_from p b eh h ef) ∙ f)
 
-  pub all_good : {h f : Bool} → h ≡ headed 1 (book_head 1) p b → h ≡ true → f ≡ filled (book_head 1) p b → f ≡ true → Checked p b (Good k)
-  all_good eh h ef f = record { is = rw (sym (good_from p b eh h ef) ∙ f) (ap Good e); laid = laid_if; small = small }
+  pub all_good : {h f : Bool} → h ≡ headed 1 (book_head 1) p b → h ≡ true → f ≡ filled (book_head 1) p b → f ≡ true → Checked p b (Some k)
+  all_good eh h ef f = record { is = rw (sym (good_from p b eh h ef) ∙ f) (ap Some e); laid = laid_if; small = small }
 
-pub checked_as : (p : Plan) (b : List ℕ) (s t : Shape) → s ≡ t → Checked p b s → Checked p b t
+pub checked_as : (p : Plan) (b : List ℕ) (s t : Option Book) → s ≡ t → Checked p b s → Checked p b t
 checked_as p b s t e c = record { is = sym e ∙ c.is; laid = c.laid; small = c.small }
 
 -- what it said
-book_or : Book → Shape → Book
-book_or k Bad = k
-book_or k (Good x) = x
+book_or : Book → Option Book → Book
+book_or k None = k
+book_or k (Some x) = x
 
-is_good : Shape → Bool
-is_good Bad = false
-is_good (Good k) = true
+is_good : Option Book → Bool
+is_good None = false
+is_good (Some k) = true
 
-pub was_good : (p : Plan) (b : List ℕ) (k : Book) → Checked p b (Good k) → Sound p k b
+pub was_good : (p : Plan) (b : List ℕ) (k : Book) → Checked p b (Some k) → Sound p k b
 unfolding book_or is_good
 was_good p b k c = go (good_book p b) refl c.is
   where
-    go : (g : Bool) → good_book p b ≡ g → Good k ≡ cond g (Good (book_in p b)) Bad → Sound p k b
+    go : (g : Bool) → good_book p b ≡ g → Some k ≡ cond g (Some (book_in p b)) None → Sound p k b
     go true g e =
         let i : k ≡ book_in p b = ap (book_or k) e in
         record { is = i; good = g; laid = c.laid g; small = subst (λ (x : Book). x.count < 65536) (sym i) c.small }
     go false g e = absurd (clash (ap is_good e))
 
-pub was_bad : (p : Plan) (b : List ℕ) → Checked p b Bad → good_book p b ≡ false
+pub was_bad : (p : Plan) (b : List ℕ) → Checked p b None → good_book p b ≡ false
 unfolding is_good
 was_bad p b c = go (good_book p b) refl c.is
   where
-    go : (g : Bool) → good_book p b ≡ g → Bad ≡ cond g (Good (book_in p b)) Bad → good_book p b ≡ false
+    go : (g : Bool) → good_book p b ≡ g → None ≡ cond g (Some (book_in p b)) None → good_book p b ≡ false
     go true g e = absurd (clash (sym (ap is_good e)))
     go false g e = g
 

@@ -1,30 +1,21 @@
 -- The turns of the book's loops, and the sizes that its functions meet. Assumes nothing.
-use mathlib.Core.Path.{◌≡◌, sym, ap, ◌∙◌}
+use mathlib.Core.Path.{◌≡◌, refl, sym, ap, subst, ◌∙◌}
 use mathlib.Core.Bool.{Bool, true, false}
 use Prim.Native.Nat.{ℕ, zero, suc, ◌+◌, ◌-◌, ◌*◌, ◌≤◌, ◌<◌}
-use mathlib.Core.List.{List}
+use mathlib.Core.List.{List, [], ◌∷◌}
 use native.Mathlib.Nat.{add-zero, zero-add, sub-zero, suc-mul, zero-mul, mul-le-mul}
 use native.Mathlib.Omega.{arith}
 use borrow.Author.Tests.{le-leb, lt-leb}
-use lib.Dec.{ltb}
+use lib.Dec.{ltb, leb}
+use mathlib.Core.Bool.{cond}
+use Rattle.terms.specs.Ladder.{◌and◌}
+use Rattle.terms.specs.Stamp.{stamp, time}
 use Rattle.octets.specs.Bytes.{part, num}
 use Rattle.octets.proofs.Laws.{part_part}
 use Rattle.book.specs.Records.{timed, rising, above, below}
 use Rattle.book.specs.Book.{records_from}
 
 -- ---- sizes
-pub room : (at m r e : ℕ) → 0 < m → at + m * r ≤ e → (at + r ≤ e) × (at + r + (m - 1) * r ≤ e)
-room at zero r e h k = absurd (omega arith)
-room at (suc m) r e h k =
-    let q : suc m - 1 ≡ m = omega arith in
-    let s : m * r + r ≡ suc m * r = sym (suc-mul m r) in
-    (omega arith, rw q (omega arith))
-
-pub room2 : (at m r e : ℕ) → 1 < m → at + m * r ≤ e → at + r + r ≤ e
-room2 at zero r e h k = absurd (omega arith)
-room2 at (suc zero) r e h k = absurd (omega arith)
-room2 at (suc (suc m)) r e h k = omega (arith, suc-mul (suc m) r, suc-mul m r)
-
 pub next : (j r : ℕ) → (j + 1) * r ≡ j * r + r
 next j r = let q : j + 1 ≡ suc j = omega arith in rw q (suc-mul j r)
 
@@ -38,65 +29,83 @@ times p q = λ k. p k * q k
 pub start : (b : List ℕ) (at r n : ℕ) → n ≤ r → part (part b at r) 0 n ≡ part b at n
 start b at r n h = part_part b at r 0 n (omega arith) ∙ rw add-zero
 
--- ---- loops
-module _ (b : List ℕ) (r : ℕ) (k : 40 ≤ r) (a : Bool) where
-  pub timed_on : (m at : ℕ) → 0 < m → 1 ≤ num (part b at 8) → a ≡ timed (records_from b r m at) → a ≡ timed (records_from b r (m - 1) (at + r))
-  unfolding timed records_from
-  timed_on zero at h t e = absurd (omega arith)
-  timed_on (suc m) at h t e =
-      let q : suc m - 1 ≡ m = omega arith in
-      rw q (e ∙ rw (start b at r 8 (omega arith), le-leb 1 (num (part b at 8)) t))
+-- ---- loops: m records of r bytes from h on, of which those from record k on are left
+abbrev pub left : List ℕ → ℕ → ℕ → ℕ → ℕ → List (List ℕ)
+left b r h m k = records_from b r (m - k) (h + k * r)
 
-  pub timed_stop : (m at : ℕ) → 0 < m → num (part b at 8) < 1 → a ≡ timed (records_from b r m at) → false ≡ a
-  unfolding timed records_from
-  timed_stop zero at h t e = absurd (omega arith)
-  timed_stop (suc m) at h t e = sym (e ∙ rw (start b at r 8 (omega arith), lt-leb 1 (num (part b at 8)) t))
+pub left_all : (b : List ℕ) (r h m : ℕ) → records_from b r m h ≡ left b r h m 0
+left_all b r h m = rw (sub-zero, zero-mul, add-zero)
 
-  pub timed_end : (m at : ℕ) → m ≤ 0 → a ≡ timed (records_from b r m at) → true ≡ a
-  unfolding timed records_from
-  timed_end zero at h e = sym e
-  timed_end (suc m) at h e = absurd (omega arith)
+module _ (b : List ℕ) (r h m : ℕ) (l : 40 ≤ r) where
+  -- the next of them, and the rest
+  pub left_next : (k : ℕ) → k < m → left b r h m k ≡ part b (h + k * r) r ∷ left b r h m (k + 1)
+  unfolding records_from
+  left_next k lt =
+      let q : m - k ≡ suc (m - (k + 1)) = omega arith in
+      let p : h + (k + 1) * r ≡ h + k * r + r = omega (arith, next k r) in
+      rw (q, p)
 
-  pub rising_on : (m at : ℕ) → 1 < m → ltb (num (part b at 40)) (num (part b (at + r) 40)) ≡ true → a ≡ rising (records_from b r m at)
-      → a ≡ rising (records_from b r (m - 1) (at + r))
-  unfolding rising above records_from
-  rising_on zero at h t e = absurd (omega arith)
-  rising_on (suc zero) at h t e = absurd (omega arith)
-  rising_on (suc (suc m)) at h t e =
-      let q : suc (suc m) - 1 ≡ suc m = omega arith in
-      rw q (e ∙ rw (start b at r 40 k, start b (at + r) r 40 k, t))
+  left_none : (k : ℕ) → m ≤ k → left b r h m k ≡ []
+  unfolding records_from
+  left_none k le = let q : m - k ≡ 0 = omega arith in rw q
 
-  pub rising_stop : (m at : ℕ) → 1 < m → ltb (num (part b at 40)) (num (part b (at + r) 40)) ≡ false → a ≡ rising (records_from b r m at) → false ≡ a
-  unfolding rising above records_from
-  rising_stop zero at h t e = absurd (omega arith)
-  rising_stop (suc zero) at h t e = absurd (omega arith)
-  rising_stop (suc (suc m)) at h t e = sym (e ∙ rw (start b at r 40 k, start b (at + r) r 40 k, t))
+  first_stamp : (k : ℕ) → stamp (part b (h + k * r) r) ≡ num (part b (h + k * r) 40)
+  first_stamp k = ap num (start b (h + k * r) r 40 l)
 
-  pub rising_end : (m at : ℕ) → m ≤ 1 → a ≡ rising (records_from b r m at) → true ≡ a
-  unfolding rising above records_from
-  rising_end zero at h e = sym e
-  rising_end (suc zero) at h e = sym e
-  rising_end (suc (suc m)) at h e = absurd (omega arith)
+  module _ (a : Bool) (k : ℕ) where
+    abbrev here : ℕ
+    here = h + k * r
 
--- k records passed, m in all, the next at `at`; a is the number that is looked for
-module _ (b : List ℕ) (r : ℕ) (l : 40 ≤ r) (s a : ℕ) where
-  more : (k m at : ℕ) → k < m → records_from b r (m - k) at ≡ records_from b r (suc (m - (k + 1))) at
-  more k m at h = let q : m - k ≡ suc (m - (k + 1)) = omega arith in rw q
+    timed_at : k < m → timed (left b r h m k) ≡ leb 1 (num (part b here 8)) and timed (left b r h m (k + 1))
+    unfolding timed
+    timed_at lt = ap timed (left_next k lt) ∙ rw (start b here r 8 (omega arith))
 
-  pub place_start : (m at : ℕ) → (at ≡ at + 0 * r) × (below s (records_from b r m at) ≡ 0 + below s (records_from b r (m - 0) at))
-  place_start m at = (rw (zero-mul, add-zero), rw (sub-zero, zero-add))
+    pub timed_on : k < m → 1 ≤ num (part b here 8) → a ≡ timed (left b r h m k) → a ≡ timed (left b r h m (k + 1))
+    timed_on lt t e = e ∙ timed_at lt ∙ rw (le-leb 1 (num (part b here 8)) t)
 
-  pub place_on : (k m at : ℕ) → k < m → ltb (num (part b at 40)) s ≡ true → a ≡ k + below s (records_from b r (m - k) at)
-      → a ≡ k + 1 + below s (records_from b r (m - (k + 1)) (at + r))
-  unfolding below records_from
-  place_on k m at h t e = e ∙ ap (λ (rs : List (List ℕ)). k + below s rs) (more k m at h) ∙ rw (start b at r 40 l, t) (omega arith)
+    pub timed_stop : k < m → num (part b here 8) < 1 → a ≡ timed (left b r h m k) → false ≡ a
+    timed_stop lt t e = sym (e ∙ timed_at lt ∙ rw (lt-leb 1 (num (part b here 8)) t))
 
-  pub place_stop : (k m at : ℕ) → k < m → ltb (num (part b at 40)) s ≡ false → a ≡ k + below s (records_from b r (m - k) at) → k ≡ a
-  unfolding below records_from
-  place_stop k m at h t e = sym (e ∙ ap (λ (rs : List (List ℕ)). k + below s rs) (more k m at h) ∙ rw (start b at r 40 l, t) (omega arith))
+    pub timed_end : m ≤ k → a ≡ timed (left b r h m k) → true ≡ a
+    unfolding timed
+    timed_end le e = sym (e ∙ ap timed (left_none k le))
 
-  pub place_end : (k m at : ℕ) → m ≤ k → a ≡ k + below s (records_from b r (m - k) at) → k ≡ a
-  unfolding below records_from
-  place_end k m at h e =
-      let q : m - k ≡ 0 = omega arith in
-      sym (e ∙ ap (λ (n : ℕ). k + below s (records_from b r n at)) q ∙ omega arith)
+    rising_at : k + 1 < m → rising (left b r h m k) ≡ ltb (num (part b here 40)) (num (part b (here + r) 40)) and rising (left b r h m (k + 1))
+    unfolding rising above
+    rising_at lt =
+        let p : h + (k + 1) * r ≡ here + r = omega (arith, next k r) in
+        ap rising (left_next k (omega arith) ∙ ap (λ (x : List (List ℕ)). part b here r ∷ x) (left_next (k + 1) lt))
+        ∙ rw (first_stamp k, first_stamp (k + 1), left_next (k + 1) lt, first_stamp (k + 1), p)
+
+    -- k + 1 is the next one's number, i
+    module _ (i : ℕ) (n : k + 1 ≡ i) where
+      pub rising_on : i < m → ltb (num (part b here 40)) (num (part b (here + r) 40)) ≡ true → a ≡ rising (left b r h m k) → a ≡ rising (left b r h m i)
+      rising_on lt t e = subst (λ (x : ℕ). a ≡ rising (left b r h m x)) n (e ∙ rising_at (omega arith) ∙ rw t)
+
+      pub rising_stop : i < m → ltb (num (part b here 40)) (num (part b (here + r) 40)) ≡ false → a ≡ rising (left b r h m k) → false ≡ a
+      rising_stop lt t e = sym (e ∙ rising_at (omega arith) ∙ rw t)
+
+    pub rising_end : m ≤ k + 1 → a ≡ rising (left b r h m k) → true ≡ a
+    unfolding rising above records_from
+    rising_end le e = sym (e ∙ short (m - k) (omega arith))
+      where
+        short : (n : ℕ) → n ≤ 1 → rising (records_from b r n here) ≡ true
+        short zero z = refl
+        short (suc zero) z = refl
+        short (suc (suc n)) z = absurd (omega arith)
+
+  -- a is the number that is looked for
+  module _ (s a : ℕ) (k : ℕ) where
+    below_at : k < m → below s (left b r h m k) ≡ cond (ltb (num (part b (h + k * r) 40)) s) (suc (below s (left b r h m (k + 1)))) 0
+    unfolding below
+    below_at lt = ap (below s) (left_next k lt) ∙ rw (first_stamp k)
+
+    pub place_on : k < m → ltb (num (part b (h + k * r) 40)) s ≡ true → a ≡ k + below s (left b r h m k) → a ≡ k + 1 + below s (left b r h m (k + 1))
+    place_on lt t e = e ∙ ap (λ (x : ℕ). k + x) (below_at lt) ∙ rw t (omega arith)
+
+    pub place_stop : k < m → ltb (num (part b (h + k * r) 40)) s ≡ false → a ≡ k + below s (left b r h m k) → k ≡ a
+    place_stop lt t e = sym (e ∙ ap (λ (x : ℕ). k + x) (below_at lt) ∙ rw t (omega arith))
+
+    pub place_end : m ≤ k → a ≡ k + below s (left b r h m k) → k ≡ a
+    unfolding below
+    place_end le e = sym (e ∙ ap (λ (x : List (List ℕ)). k + below s x) (left_none k le) ∙ omega arith)

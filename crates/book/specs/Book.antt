@@ -13,14 +13,12 @@
 --   shape_in                          what a book is found to be: the header of a good one
 --   used_of, grown                    the bytes in use of a version 1 book; the book with one record more
 -- Assumes nothing.
-use Rattle.std.specs.Prelude.{ℕ, zero, suc, ◌+◌, ◌-◌, ◌*◌, ◌≤◌, ◌<◌, ◌≡◌, Bool, true, cond, List, [], ◌∷◌, ◌++◌, length, ltb, leb, eqb}
+use Rattle.std.specs.Prelude.{ℕ, zero, suc, ◌+◌, ◌-◌, ◌*◌, ◌≤◌, ◌<◌, ◌≡◌, Bool, true, cond, List, [], ◌∷◌, ◌++◌, length, ltb, leb, eqb, Option, Some, None}
 use Rattle.octets.specs.Bytes.{part, num, be, over}
 use Rattle.terms.specs.Ladder.{all, ◌and◌}
 use Rattle.terms.specs.Terms.{record_length}
 use Rattle.terms.specs.declared.Plan.{Plan}
 use Rattle.book.specs.declared.Book.{Book}
-use Rattle.book.specs.declared.Shape.{Shape}
-use Rattle.book.specs.declared.Shape.TheVariants.{Bad, Good}
 use Rattle.book.specs.Records.{timed, rising, insert_record}
 
 abbrev pub fixed : ℕ
@@ -116,11 +114,11 @@ abbrev pub Itself : Plan → List ℕ → Type 0
 Itself p b = b ≡ over (laid_out p (node_of b) (records_of p b)) b
 
 -- a good book's header
-abbrev pub shape_in : Plan → List ℕ → Shape
-shape_in p b = cond (good_book p b) (Good (book_in p b)) Bad
+abbrev pub shape_in : Plan → List ℕ → Option Book
+shape_in p b = cond (good_book p b) (Some (book_in p b)) None
 
 -- the verdict on a book's shape
-pub record Checked (p : Plan) (b : List ℕ) (s : Shape) : Type 0 where
+pub record Checked (p : Plan) (b : List ℕ) (s : Option Book) : Type 0 where
   pub is : s ≡ shape_in p b
   pub laid : good_book p b ≡ true → Itself p b
   pub small : count_of b < 65536

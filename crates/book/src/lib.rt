@@ -10,13 +10,13 @@ ghost use Rattle.book.specs.Records.{timed, rising, below, last_of, last_below, 
 ghost use Rattle.book.specs.Inside.{fate_by, Lies, Placed, Grows};
 ghost use Rattle.book.specs.Book.{book_head, book_lent, book_in, records_in, used_in, headed, filled, laid_out, Checked, Holds};
 
-use terms::{Plan, Time};
+use terms::{Accepted, Plan, Time};
 
 // The bytes of the header of version 1: up to the count, which every version has, and no more.
 const HEAD: usize = 11;
 
 // What was read of a book, once: its version, the bytes of its header, its node number, its count, and the bytes of each record.
-#[derive(Clone, Copy)]
+#[derive(Clone, Copy, PartialEq, Eq)]
 pub struct Book {
     pub version: u64,
     pub head: usize,
@@ -25,15 +25,8 @@ pub struct Book {
     pub each: usize,
 }
 
-// What a book is found to be (refusal 3).
-#[derive(Clone, Copy)]
-pub enum Shape {
-    Bad,
-    Good(Book),
-}
-
 // Where some bytes of a book lie: a record, or no byte for the first triple.
-#[derive(Clone, Copy)]
+#[derive(Clone, Copy, PartialEq, Eq)]
 pub struct Span {
     pub at: usize,
     pub len: usize,
@@ -41,7 +34,7 @@ pub struct Span {
 
 // What becomes of a record that is to be written: it is held; its timestamp is held with other bytes; or it is free to go to a place
 // among the records.
-#[derive(Clone, Copy)]
+#[derive(Clone, Copy, PartialEq, Eq)]
 pub enum Fate {
     Held,
     Other,
@@ -59,9 +52,9 @@ pub fn lent(n: usize) -> bool
 }
 
 // The header as a value: version 1 has no more than the fixed bytes.
-pub fn header_of(p: Plan, book: &[u8]) -> Book
-    requires { (plan_ok p ≡ true) × (book_head 1 ≤ length book.now) }
-    ensures { (result ≡ book_in p book.now) × (result.count < 65536) × (result.each ≤ 1576) × (73 ≤ result.each) }
+pub fn header_of(p: Accepted, book: &[u8]) -> Book
+    requires { book_head 1 ≤ length book.now }
+    ensures { (result ≡ book_in p.plan book.now) × (result.count < 65536) × (result.each ≤ 1576) × (73 ≤ result.each) }
 {
     let version = octets::get(book, 4, 1);
     let node = octets::get(book, 6, 1);
@@ -81,15 +74,10 @@ fn timed(k: Book, book: &[u8]) -> bool
     requires { (used_in k ≤ length book.now) × (40 ≤ k.each) }
     ensures { result ≡ timed (records_in k book.now) }
 {
-    let r = k.each;
-    let mut p = k.head;
-    let mut m = k.count;
-    while m > 0 {
-        if octets::get(book, p, 8) < 1 {
+    for i in 0..k.count {
+        if octets::get(book, k.head + i * k.each, 8) < 1 {
             return false;
         }
-        p += r;
-        m -= 1;
     }
     true
 }
@@ -99,15 +87,11 @@ fn rising(k: Book, book: &[u8]) -> bool
     requires { (used_in k ≤ length book.now) × (40 ≤ k.each) }
     ensures { result ≡ rising (records_in k book.now) }
 {
-    let r = k.each;
-    let mut p = k.head;
-    let mut m = k.count;
-    while m > 1 {
-        if !octets::less(book, p, book, p + r, 40) {
+    for i in 1..k.count {
+        let before = k.head + (i - 1) * k.each;
+        if !octets::less(book, before, book, before + k.each, 40) {
             return false;
         }
-        p += r;
-        m -= 1;
     }
     true
 }
@@ -147,19 +131,19 @@ fn filled(p: Plan, k: Book, book: &[u8]) -> bool
     timed(k, book)
 }
 
-// The shape of a book of this plan (refusal 3). The second fact is for those who write it.
-pub fn good(p: Plan, book: &[u8]) -> Shape
-    requires { (plan_ok p ≡ true) × (book_head 1 ≤ length book.now) }
-    ensures { Checked p book.now result }
+// The header of a book of this plan; none where the book is not of its shape (refusal 3). The second fact is for those who write it.
+pub fn good(p: Accepted, book: &[u8]) -> Option<Book>
+    requires { book_head 1 ≤ length book.now }
+    ensures { Checked p.plan book.now result }
 {
     let k = header_of(p, book);
-    if !headed(p, k, book) {
-        return Shape::Bad;
+    if !headed(p.plan, k, book) {
+        return None;
     }
-    if filled(p, k, book) {
-        return Shape::Good(k);
+    if filled(p.plan, k, book) {
+        return Some(k);
     }
-    Shape::Bad
+    None
 }
 
 // Whether the record at `at` is strictly below the timestamp at `s` of src.
@@ -175,18 +159,13 @@ fn place(k: Book, book: &[u8], src: &[u8], s: usize) -> usize
     requires { (used_in k ≤ length book.now) × (40 ≤ k.each) × (s + 40 ≤ length src.now) }
     ensures { result ≡ below (num (part src.now s 40)) (records_in k book.now) }
 {
-    let r = k.each;
     let m = k.count;
-    let mut p = k.head;
-    let mut i: usize = 0;
-    while i < m {
-        if !is_below(book, p, src, s) {
+    for i in 0..m {
+        if !is_below(book, k.head + i * k.each, src, s) {
             return i;
         }
-        p += r;
-        i += 1;
     }
-    i
+    m
 }
 
 // Where the last of the first i records lies.

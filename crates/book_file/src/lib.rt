@@ -5,14 +5,16 @@
 // comes that is told that it holds the lock of the book (docs/DECISIONS.md, "keeper").
 //
 // A name is bytes here, as the system has it, and is said as it stands. std opens names of UTF-8 only: any other is refused as the system
-// refuses a name that it cannot read.
+// refuses a name that it cannot read. What cannot be had is an `Err` once a line has said why.
 #![tactic(auto)]
 
 pub mod say;
 
-ghost use Rattle.std.specs.Prelude.{◌≤◌, ◌≡◌, length};
+ghost use Rattle.std.specs.Prelude.{◌≤◌, ◌≡◌, IfOk, IfSome, length};
 ghost use Rattle.io.specs.Counts.{IsPrefixLen};
 
+use say::Said;
+use std::fmt::Display;
 use std::fs::{File, OpenOptions};
 use std::io::{ErrorKind, Read, Write};
 use std::time::Clock;
@@ -27,86 +29,117 @@ const NAME: usize = 4096;
 // The system's number for text that is none, of a name that is not UTF-8.
 const NOT_TEXT: i32 = 84;
 
-// What a file was read as: whether whole, whether there is none, and how many bytes.
-#[derive(Clone, Copy)]
-pub struct Loaded {
-    pub is: bool,
-    pub missing: bool,
-    pub length: usize,
-}
-
-fn not_loaded(missing: bool) -> Loaded
-    ensures { result.length ≡ 0 }
-{
-    Loaded {
-        is: false,
-        missing: missing,
-        length: 0,
-    }
-}
-
 // ---- files by their names
 
-fn name_text(name: &[u8]) -> io::Result<&str> {
-    match std::str::from_utf8(name) {
-        Ok(text) => Ok(text),
-        Err(_) => Err(io::Error::from_raw_os_error(NOT_TEXT)),
-    }
+// A file by its name, and the runtime that reaches it.
+#[derive(Clone, Copy)]
+pub struct Named<'a> {
+    pub rt: &'a HostRuntime,
+    pub name: &'a [u8],
 }
 
-fn open_read(rt: &HostRuntime, path: &[u8]) -> io::Result<File> {
-    File::open(rt, name_text(path)?)
-}
-
-// Makes a file of a name that nothing has.
-fn create(rt: &HostRuntime, path: &[u8]) -> io::Result<File> {
-    OpenOptions::new()
-        .write(true)
-        .create_new(true)
-        .open(rt, name_text(path)?)
-}
-
-fn rename(rt: &HostRuntime, from: &[u8], to: &[u8]) -> io::Result<()> {
-    fs::rename(rt, name_text(from)?, name_text(to)?)
-}
-
-fn remove_name(rt: &HostRuntime, path: &[u8]) -> io::Result<()> {
-    fs::remove_file(rt, name_text(path)?)
-}
-
-// Takes a file away, if it is there.
-fn unlink(rt: &HostRuntime, path: &[u8]) {
-    let _ = remove_name(rt, path);
-}
-
-// ---- a file, read whole
-
-// What is said of a file that has bytes left: the area was full, or a read failed before it was.
-fn left_over(rt: &HostRuntime, path: &[u8], full: bool) {
-    if full {
-        say::about(rt, path, b"longer than it may be");
-    } else {
-        say::about(rt, path, b"a read of it failed");
-    }
-}
-
-// Whether a file that was read has no byte left.
-fn at_end(rt: &HostRuntime, file: &mut File, path: &[u8], full: bool) -> bool {
-    let mut more = [0u8; 1];
-    match file.read(&mut more) {
-        Ok(0) => true,
-        Ok(_) => {
-            left_over(rt, path, full);
-            false
-        }
-        Err(e) => {
-            say::failed(rt, path, e);
-            false
+impl<'a> Named<'a> {
+    fn text(self) -> io::Result<&'a str> {
+        match std::str::from_utf8(self.name) {
+            Ok(text) => Ok(text),
+            Err(_) => Err(io::Error::from_raw_os_error(NOT_TEXT)),
         }
     }
+
+    fn open(self) -> io::Result<File> {
+        File::open(self.rt, self.text()?)
+    }
+
+    // Makes a file of a name that nothing has.
+    fn create(self) -> io::Result<File> {
+        OpenOptions::new()
+            .write(true)
+            .create_new(true)
+            .open(self.rt, self.text()?)
+    }
+
+    fn rename_to(self, to: Named) -> io::Result<()> {
+        fs::rename(self.rt, self.text()?, to.text()?)
+    }
+
+    fn remove(self) -> io::Result<()> {
+        fs::remove_file(self.rt, self.text()?)
+    }
+
+    // Takes a file away, if it is there.
+    fn unlink(self) {
+        let _ = self.remove();
+    }
+
+    // Waits until the bytes of a file, or the names in a folder, are on the disk.
+    fn sync_all(self) -> io::Result<()> {
+        let file = self.open()?;
+        file.sync_all()
+    }
+
+    fn about(self, what: impl Display + Drop) -> Said {
+        say::about(self.rt, self.name, what)
+    }
+
+    fn failed(self, e: io::Error) -> Said {
+        say::failed(self.rt, self.name, e)
+    }
+
+    // What is said of a file that has bytes left: the area was full, or a read failed before it was.
+    fn left_over(self, full: bool) -> Said {
+        if full {
+            self.about("longer than it may be")
+        } else {
+            self.about("a read of it failed")
+        }
+    }
+
+    // Sees that a file that was read has no byte left.
+    fn at_end(self, file: &mut File, full: bool) -> Result<(), Said> {
+        let mut more = [0u8; 1];
+        match file.read(&mut more) {
+            Ok(0) => Ok(()),
+            Ok(_) => Err(self.left_over(full)),
+            Err(e) => Err(self.failed(e)),
+        }
+    }
+
+    // The open file at the start of an area, and closed again.
+    fn load_open(self, mut file: File, area: &mut [u8]) -> Result<usize, Said>
+        ensures { IfOk result (λ n. IsPrefixLen n area.new) }
+    {
+        let length = read_full(&mut file, area);
+        self.at_end(&mut file, length == area.len())?;
+        Ok(length)
+    }
+
+    // The whole file at the start of an area, and how many bytes it has.
+    pub fn load(self, area: &mut [u8]) -> Result<usize, Said>
+        ensures { IfOk result (λ n. IsPrefixLen n area.new) }
+    {
+        let file = self.open().map_err(|e| self.failed(e))?;
+        self.load_open(file, area)
+    }
+
+    // Waits until a book that was read is on the disk, its bytes and its name, whoever wrote it. Where another has taken its name since, that one
+    // is waited for: it was on the disk before it took the name, and holds all that the one before it held.
+    pub fn sync(self) -> Result<(), Said> {
+        self.sync_all().map_err(|e| self.failed(e))?;
+        self.sync_name()
+    }
+
+    // Waits until the name of a file is on the disk.
+    fn sync_name(self) -> Result<(), Said> {
+        let folder = Named {
+            rt: self.rt,
+            name: folder_of(self.name),
+        };
+        folder.sync_all().map_err(|e| folder.failed(e))
+    }
 }
 
-// Reads until the area is full, the file ends or a read fails, and answers how many bytes are at its start.
+// Reads until the area is full, the file ends or a read fails, and answers how many bytes are at its start. A read moves the place by as many bytes
+// as it gives, which no `for` counts.
 fn read_full(file: &mut File, area: &mut [u8]) -> usize
     ensures { result ≤ length area.new }
 {
@@ -120,367 +153,225 @@ fn read_full(file: &mut File, area: &mut [u8]) -> usize
     done
 }
 
-// An open file at the start of an area, and closed again.
-fn load_open(rt: &HostRuntime, mut file: File, path: &[u8], area: &mut [u8]) -> Loaded
-    ensures { IsPrefixLen result.length area.new }
-{
-    let n = read_full(&mut file, area);
-    let full = n == area.len();
-    let whole = at_end(rt, &mut file, path, full);
-    Loaded {
-        is: whole,
-        missing: false,
-        length: n,
-    }
-}
-
-// A whole file at the start of an area. Where it cannot be had, a line says why.
-pub fn load(rt: &HostRuntime, path: &[u8], area: &mut [u8]) -> Loaded
-    ensures { IsPrefixLen result.length area.new }
-{
-    match open_read(rt, path) {
-        Ok(file) => load_open(rt, file, path, area),
-        Err(e) => {
-            say::failed(rt, path, e);
-            not_loaded(false)
-        }
+// The path up to its last slash, with it; the folder of the program where it has none.
+fn folder_of(path: &[u8]) -> &[u8] {
+    match path.iter().rposition(|c| *c == b'/') {
+        Some(k) => &path[..k + 1],
+        None => b".",
     }
 }
 
 // ---- names beside BOOK
 
-// The name of a file beside BOOK. 0 where it does not fit.
-fn beside(path: &[u8], ending: &[u8], name: &mut [u8]) -> usize
-    ensures { IsPrefixLen result name.new }
-{
-    let n = path.len();
-    let e = ending.len();
-    if name.len() < e {
-        return 0;
-    }
-    if name.len() - e < n {
-        return 0;
-    }
-    name[..n].copy_from_slice(path);
-    name[n..n + e].copy_from_slice(ending);
-    n + e
+// The name of a file beside BOOK; empty, which no file is called, where it does not fit.
+#[derive(Drop)]
+struct Name {
+    bytes: [u8; NAME],
+    len: usize,
+    ghost within: { len ≤ 4096 },
 }
 
-// The length of a path up to its last slash, with it; 0 where it has none.
-fn folder_length(path: &[u8]) -> usize
-    ensures { IsPrefixLen result path.now }
-{
-    for k in (0..path.len()).rev() {
-        if path[k] == b'/' {
-            return k + 1;
+impl Name {
+    fn beside(path: &[u8], ending: &[u8]) -> Name {
+        let mut bytes = [0u8; NAME];
+        let n = path.len();
+        let len = n + ending.len();
+        if len > NAME {
+            return Name { bytes, len: 0 };
+        }
+        bytes[..n].copy_from_slice(path);
+        bytes[n..len].copy_from_slice(ending);
+        Name { bytes, len }
+    }
+
+    fn named<'a>(&'a self, rt: &'a HostRuntime) -> Named<'a> {
+        Named {
+            rt,
+            name: &self.bytes[..self.len],
         }
     }
-    0
-}
-
-// ---- what is on the disk
-
-// Waits until the bytes of a file, or the names in a folder, are on the disk.
-fn sync_file(rt: &HostRuntime, path: &[u8]) -> io::Result<()> {
-    let file = open_read(rt, path)?;
-    file.sync_all()
-}
-
-// The same. Where it answers false a line has said why.
-fn sync_one(rt: &HostRuntime, path: &[u8]) -> bool {
-    match sync_file(rt, path) {
-        Ok(()) => true,
-        Err(e) => {
-            say::failed(rt, path, e);
-            false
-        }
-    }
-}
-
-// Waits until the name of a file is on the disk.
-fn sync_name(rt: &HostRuntime, path: &[u8]) -> bool {
-    let n = folder_length(path);
-    if n == 0 {
-        return sync_one(rt, b".");
-    }
-    sync_one(rt, &path[..n])
-}
-
-// Waits until a book that was read is on the disk, its bytes and its name, whoever wrote it. Where another has taken its name since, that one
-// is waited for: it was on the disk before it took the name, and holds all that the one before it held. Where it answers false a line has said why.
-pub fn sync(rt: &HostRuntime, path: &[u8]) -> bool {
-    if !sync_one(rt, path) {
-        return false;
-    }
-    sync_name(rt, path)
 }
 
 // ---- BOOK.new
 
 // The clock's seconds; 0 where it shows none.
 fn clock(rt: &HostRuntime) -> u64 {
-    match rt.since_1970() {
-        Ok(t) => t.as_secs(),
-        Err(_) => 0,
-    }
+    rt.since_1970().map_or(0, |t| t.as_secs())
 }
 
-// The seconds from one look at the clock to the next, as far as they are seen: 1 where it shows another.
-fn ticked(last: u64, t: u64) -> u64
-    ensures { result ≤ 1 }
-{
-    if t == last { 0 } else { 1 }
-}
-
-// What came of making BOOK.new: the file, to write to; one that is there already; or neither, and a line has said why.
-#[derive(Drop)]
-enum Attempt {
-    Made(File),
-    Busy,
-    Failed,
-}
-
-// Makes BOOK.new.
-fn try_hold(rt: &HostRuntime, spare: &[u8]) -> Attempt {
-    match create(rt, spare) {
-        Ok(file) => Attempt::Made(file),
-        Err(e) if e.kind() == ErrorKind::AlreadyExists => Attempt::Busy,
-        Err(e) => {
-            say::failed(rt, spare, e);
-            Attempt::Failed
+impl<'a> Named<'a> {
+    // Makes BOOK.new under its name; none where it is there already.
+    fn try_hold(self) -> Result<Option<File>, Said> {
+        match self.create() {
+            Ok(file) => Ok(Some(file)),
+            Err(e) if e.kind() == ErrorKind::AlreadyExists => Ok(None),
+            Err(e) => Err(self.failed(e)),
         }
     }
-}
 
-// What an operator is told of a BOOK.new that is not let go: no keeper can know that its maker is gone.
-fn still_held(rt: &HostRuntime, spare: &[u8]) {
-    say::about(
-        rt,
-        spare,
-        b"a keeper is writing, or was cut off: if no keeper of this book runs, remove this file",
-    );
-}
-
-// Makes BOOK.new under its name, or waits for it.
-fn wait_for(rt: &HostRuntime, spare: &[u8]) -> Option<File> {
-    let mut last = clock(rt);
-    let mut waited: u64 = 0;
-    for _ in 0..u64::MAX {
-        if waited >= PATIENCE {
-            break;
+    // Makes BOOK.new under its name, or waits for it. What an operator is told of one that is not let go: no keeper can know that its maker is gone.
+    fn wait_for(self) -> Result<File, Said> {
+        let mut last = clock(self.rt);
+        let mut waited = 0;
+        for _ in 0..u64::MAX {
+            if waited >= PATIENCE {
+                break;
+            }
+            if let Some(file) = self.try_hold()? {
+                return Ok(file);
+            }
+            thread::yield_now();
+            let t = clock(self.rt);
+            if t != last {
+                waited += 1;
+            }
+            last = t;
         }
-        match try_hold(rt, spare) {
-            Attempt::Made(file) => return Some(file),
-            Attempt::Failed => return None,
-            Attempt::Busy => thread::yield_now(),
+        Err(self.about(
+            "a keeper is writing, or was cut off: if no keeper of this book runs, remove this file",
+        ))
+    }
+
+    // Makes a file beside BOOK that no one else has, as BOOK.new for who holds the lock of the book. What is there was left by a crash, and is taken
+    // away first and not emptied: a crash within `rename` may have left it as a second name of the book itself.
+    fn make_anew(self) -> Result<File, Said> {
+        self.unlink();
+        self.create().map_err(|e| self.failed(e))
+    }
+
+    // Makes BOOK.new, which no one else then has. Where another has it this waits, and at last says so; `locked` says that no one else can have it.
+    pub fn hold(self, locked: bool) -> Result<Held<'a>, Said> {
+        let spare = Name::beside(self.name, b".new");
+        if spare.len == 0 {
+            return Err(self.about("the name is too long"));
         }
-        let t = clock(rt);
-        waited += ticked(last, t);
-        last = t;
+        let named = spare.named(self.rt);
+        let file = if locked {
+            named.make_anew()?
+        } else {
+            named.wait_for()?
+        };
+        Ok(Held {
+            book: self,
+            spare,
+            file,
+        })
     }
-    still_held(rt, spare);
-    None
-}
 
-// Makes a file beside BOOK that no one else has, as BOOK.new for who holds the lock of the book. What is there was left by a crash, and is taken away
-// first and not emptied: a crash within `rename` may have left it as a second name of the book itself.
-fn make_anew(rt: &HostRuntime, spare: &[u8]) -> Option<File> {
-    unlink(rt, spare);
-    match create(rt, spare) {
-        Ok(file) => Some(file),
-        Err(e) => {
-            say::failed(rt, spare, e);
-            None
-        }
+    // The bytes of an open file, safely on the disk. Where they cannot be, it is gone.
+    fn write_down(self, mut file: File, bytes: &[u8]) -> Result<(), Said> {
+        put_down(&mut file, bytes).map_err(|e| self.give_up(file, e))
     }
-}
 
-// Makes BOOK.new, which no one else then has, and answers the file, to write to it. Where another has it this waits, and at last says
-// so and answers none; `locked` says that no one else can have it.
-pub fn hold(rt: &HostRuntime, path: &[u8], locked: bool) -> Option<File> {
-    let mut name = [0u8; NAME];
-    let n = beside(path, b".new", &mut name);
-    if n == 0 {
-        say::about(rt, path, b"the name is too long");
-        return None;
+    fn give_up(self, file: File, e: io::Error) -> Said {
+        let said = self.failed(e);
+        drop(file);
+        self.unlink();
+        said
     }
-    if locked {
-        return make_anew(rt, &name[..n]);
+
+    // The file takes the name of the book. Where it does not, it is gone.
+    fn take_name(self, book: Named) -> Result<(), Said> {
+        self.rename_to(book).map_err(|e| {
+            let said = book.failed(e);
+            self.unlink();
+            said
+        })
     }
-    wait_for(rt, &name[..n])
-}
-
-fn remove(rt: &HostRuntime, file: File, spare: &[u8]) {
-    drop(file);
-    unlink(rt, spare);
-}
-
-// Lets BOOK.new go, with nothing written.
-pub fn let_go(rt: &HostRuntime, file: File, path: &[u8]) {
-    let mut name = [0u8; NAME];
-    let n = beside(path, b".new", &mut name);
-    remove(rt, file, &name[..n]);
-}
-
-fn give_up(rt: &HostRuntime, file: File, spare: &[u8], e: io::Error) -> bool {
-    say::failed(rt, spare, e);
-    remove(rt, file, spare);
-    false
 }
 
 // The bytes, on the disk.
-fn put_down(file: &mut File, book: &[u8]) -> io::Result<()> {
-    file.write_all(book)?;
+fn put_down(file: &mut File, bytes: &[u8]) -> io::Result<()> {
+    file.write_all(bytes)?;
     file.sync_all()
 }
 
-// The bytes of BOOK.new, safely on the disk. Where it answers false a line has said why, and BOOK.new is gone.
-fn write_down(rt: &HostRuntime, mut file: File, spare: &[u8], book: &[u8]) -> bool {
-    match put_down(&mut file, book) {
-        Ok(()) => true,
-        Err(e) => give_up(rt, file, spare, e),
-    }
+// BOOK.new, which no one else has, to write to.
+#[derive(Drop)]
+pub struct Held<'a> {
+    book: Named<'a>,
+    spare: Name,
+    file: File,
 }
 
-// The file at BOOK.new takes the name BOOK. Where it does not, a line has said why, and BOOK.new is gone.
-fn take_name(rt: &HostRuntime, spare: &[u8], path: &[u8]) -> bool {
-    match rename(rt, spare, path) {
-        Ok(()) => true,
-        Err(e) => {
-            say::failed(rt, path, e);
-            unlink(rt, spare);
-            false
-        }
+impl Held<'_> {
+    // Lets BOOK.new go, with nothing written.
+    pub fn let_go(self) {
+        let Held { book, spare, file } = self;
+        drop(file);
+        spare.named(book.rt).unlink();
     }
-}
 
-// A whole book, first under the name BOOK.new.
-fn store_by(rt: &HostRuntime, file: File, spare: &[u8], path: &[u8], book: &[u8]) -> bool {
-    if !write_down(rt, file, spare, book) {
-        return false;
+    // A whole book, safely on the disk under its name. On an `Err` BOOK is the old book or the new one, whole.
+    pub fn store(self, bytes: &[u8]) -> Result<(), Said> {
+        let Held { book, spare, file } = self;
+        let new = spare.named(book.rt);
+        new.write_down(file, bytes)?;
+        new.take_name(book)?;
+        book.sync_name()
     }
-    if !take_name(rt, spare, path) {
-        return false;
-    }
-    sync_name(rt, path)
-}
 
-// A whole book, safely on the disk under its name, through BOOK.new that is held. Where it answers false a line has said why, and BOOK
-// is the old book or the new one, whole.
-pub fn store(rt: &HostRuntime, file: File, path: &[u8], book: &[u8]) -> bool {
-    let mut name = [0u8; NAME];
-    let n = beside(path, b".new", &mut name);
-    store_by(rt, file, &name[..n], path, book)
+    // A fresh book, safely on the disk under a name that nothing had, whole before its name is made, and the text of its plan as BOOK.plan.
+    pub fn make(self, bytes: &[u8], text: &[u8]) -> Result<(), Said> {
+        let Held { book, spare, file } = self;
+        let new = spare.named(book.rt);
+        new.write_down(file, bytes)?;
+        book.reserve().inspect_err(|_| new.unlink())?;
+        book.remember(text).inspect_err(|_| {
+            new.unlink();
+            book.unlink();
+        })?;
+        new.take_name(book).inspect_err(|_| book.unlink())?;
+        book.sync_name()
+    }
 }
 
 // ---- the plan that a book was made with
 
-// What is said of a BOOK.plan that cannot be opened: only one that is not there is missing.
-fn not_opened(rt: &HostRuntime, name: &[u8], e: io::Error) -> Loaded
-    ensures { result.length ≡ 0 }
-{
-    if e.kind() == ErrorKind::NotFound {
-        say::about(
-            rt,
-            name,
-            b"is not there, so that an edit of the plan would not be seen; a copy of the plan in its place ends this",
+impl Named<'_> {
+    // What is said of a BOOK.plan that cannot be opened: only one that is not there is missing.
+    fn missing(self, e: io::Error) -> Result<(), Said> {
+        if e.kind() != ErrorKind::NotFound {
+            return Err(self.failed(e));
+        }
+        self.about(
+            "is not there, so that an edit of the plan would not be seen; a copy of the plan in its place ends this",
         );
-        return not_loaded(true);
+        Ok(())
     }
-    say::failed(rt, name, e);
-    not_loaded(false)
-}
 
-fn load_named(rt: &HostRuntime, name: &[u8], area: &mut [u8]) -> Loaded
-    ensures { IsPrefixLen result.length area.new }
-{
-    match open_read(rt, name) {
-        Ok(file) => load_open(rt, file, name, area),
-        Err(e) => not_opened(rt, name, e),
-    }
-}
-
-// BOOK.plan, the text of the plan that the book was made with, at the start of an area. Where it cannot be had, or is missing, a line says so.
-pub fn load_plan(rt: &HostRuntime, path: &[u8], area: &mut [u8]) -> Loaded
-    ensures { IsPrefixLen result.length area.new }
-{
-    let mut name = [0u8; NAME];
-    let n = beside(path, b".plan", &mut name);
-    load_named(rt, &name[..n], area)
-}
-
-// BOOK.plan, safely on the disk under its name, before the book has its own. One that is there was left by a book that is gone.
-fn remember(rt: &HostRuntime, path: &[u8], text: &[u8]) -> bool {
-    let mut name = [0u8; NAME];
-    let n = beside(path, b".plan", &mut name);
-    let Some(file) = make_anew(rt, &name[..n]) else {
-        return false;
-    };
-    if !write_down(rt, file, &name[..n], text) {
-        return false;
-    }
-    sync_name(rt, path)
-}
-
-// ---- a fresh book
-
-// Makes an empty file of a name that nothing has: what cannot be opened is not missing, and neither is a link to nothing. False where a line
-// has said why.
-fn reserve(rt: &HostRuntime, path: &[u8]) -> bool {
-    match create(rt, path) {
-        Ok(_) => true,
-        Err(e) if e.kind() == ErrorKind::AlreadyExists => {
-            say::about(rt, path, b"is there already, and stays as it is");
-            false
-        }
-        Err(e) => {
-            say::failed(rt, path, e);
-            false
+    // BOOK.plan, the text of the plan that the book was made with, at the start of an area; none where it is missing, and a line has said so.
+    pub fn load_plan(self, area: &mut [u8]) -> Result<Option<usize>, Said>
+        ensures { IfOk result (λ found. IfSome found (λ n. IsPrefixLen n area.new)) }
+    {
+        let name = Name::beside(self.name, b".plan");
+        let plan = name.named(self.rt);
+        match plan.open() {
+            Ok(file) => Ok(Some(plan.load_open(file, area)?)),
+            Err(e) => {
+                plan.missing(e)?;
+                Ok(None)
+            }
         }
     }
-}
 
-// A fresh book in the place of the empty file, which is taken away where the name is not to be had.
-fn take_reserved(rt: &HostRuntime, spare: &[u8], path: &[u8]) -> bool {
-    if !take_name(rt, spare, path) {
-        unlink(rt, path);
-        return false;
+    // BOOK.plan, safely on the disk under its name, before the book has its own. One that is there was left by a book that is gone.
+    fn remember(self, text: &[u8]) -> Result<(), Said> {
+        let name = Name::beside(self.name, b".plan");
+        let plan = name.named(self.rt);
+        let file = plan.make_anew()?;
+        plan.write_down(file, text)?;
+        self.sync_name()
     }
-    sync_name(rt, path)
-}
 
-fn unreserve(rt: &HostRuntime, spare: &[u8], path: &[u8]) {
-    unlink(rt, spare);
-    unlink(rt, path);
-}
-
-// A fresh book, whole before its name is made, and the text of its plan beside it.
-fn make_by(
-    rt: &HostRuntime,
-    file: File,
-    spare: &[u8],
-    path: &[u8],
-    book: &[u8],
-    text: &[u8],
-) -> bool {
-    if !write_down(rt, file, spare, book) {
-        return false;
+    // Makes an empty file of a name that nothing has: what cannot be opened is not missing, and neither is a link to nothing.
+    fn reserve(self) -> Result<(), Said> {
+        match self.create() {
+            Ok(_) => Ok(()),
+            Err(e) if e.kind() == ErrorKind::AlreadyExists => {
+                Err(self.about("is there already, and stays as it is"))
+            }
+            Err(e) => Err(self.failed(e)),
+        }
     }
-    if !reserve(rt, path) {
-        unlink(rt, spare);
-        return false;
-    }
-    if !remember(rt, path, text) {
-        unreserve(rt, spare, path);
-        return false;
-    }
-    take_reserved(rt, spare, path)
-}
-
-// A fresh book, safely on the disk under a name that nothing had, through BOOK.new that is held, and the text of its plan as BOOK.plan. Where it
-// answers false a line has said why.
-pub fn make(rt: &HostRuntime, file: File, path: &[u8], book: &[u8], text: &[u8]) -> bool {
-    let mut name = [0u8; NAME];
-    let n = beside(path, b".new", &mut name);
-    make_by(rt, file, &name[..n], path, book, text)
 }

@@ -1,6 +1,5 @@
 // Document 02's Q-3: runs of frames, laid end to end, at node 3. The plan is N 5 and F 4, R is 204; the last run is at the full book of N 16 and
 // F 1,024 (large.rt). A line has what the run tells, what came of its frames in order, and how the book is filled.
-ghost use Rattle.std.specs.Prelude.{◌≡◌, ◌<◌, ◌≤◌, length};
 
 use crate::lines::{filling, say, text};
 use crate::places::{number_at, part, put};
@@ -12,16 +11,12 @@ use terms::Ask;
 // ---- frames
 
 // N 5, t 1, b 1, Q 3, m 2, F 4, repairable, Byzantine clients, W 1.
-fn five() -> [u8; 11]
-    ensures { 11 ≡ length result }
-{
+fn five() -> [u8; 11] {
     [5, 1, 1, 3, 2, 0, 4, 0, 1, 0, 1]
 }
 
 // The write request of a record of this time, whose fragments are all of sevens.
-fn write(time: u64) -> [u8; 219]
-    ensures { 219 ≡ length result }
-{
+fn write(time: u64) -> [u8; 219] {
     let plan = five();
     let mut desk = [7u8; 1020];
     let mut cross = [0u8; 512];
@@ -33,20 +28,16 @@ fn write(time: u64) -> [u8; 219]
 }
 
 // The same with one bit of a byte turned over.
-fn bent(time: u64, at: usize) -> [u8; 219]
-    ensures { 219 ≡ length result }
-{
+fn bent(time: u64, at: usize) -> [u8; 219] {
     let mut request = write(time);
     if at < 219 {
-        request[at] = request[at] ^ 1;
+        request[at] ^= 1;
     }
     request
 }
 
 // A request with no body, of this kind.
-pub fn bare(kind: u64) -> [u8; 15]
-    ensures { 15 ≡ length result }
-{
+pub fn bare(kind: u64) -> [u8; 15] {
     let mut request = [0u8; 15];
     let h = frame::asking(kind, 3, Ask(7));
     frame::bare(&mut request, h);
@@ -54,31 +45,13 @@ pub fn bare(kind: u64) -> [u8; 15]
 }
 
 // The same with a length field of this number.
-fn of_length(kind: u64, says: u8) -> [u8; 15]
-    ensures { 15 ≡ length result }
-{
+fn of_length(kind: u64, says: u8) -> [u8; 15] {
     let mut request = bare(kind);
     request[3] = says;
     request
 }
 
 // ---- what came of a run
-
-// The first place from `at` on whose number is another.
-fn until(numbers: &[u8], at: usize) -> usize
-    requires { at < length numbers.now }
-    ensures { (at < result) × (result ≤ length numbers.now) }
-{
-    let x = numbers[at];
-    let mut k = at + 1;
-    while k < numbers.len() {
-        if numbers[k] != x {
-            return k;
-        }
-        k += 1;
-    }
-    k
-}
 
 // So many frames in a row that got the same number.
 fn in_a_row(rt: &HostRuntime, n: usize, x: u8) -> io::Result<()> {
@@ -92,11 +65,10 @@ fn in_a_row(rt: &HostRuntime, n: usize, x: u8) -> io::Result<()> {
 
 // What came of the frames, in order.
 fn answers(rt: &HostRuntime, numbers: &[u8]) -> io::Result<()> {
-    let mut k: usize = 0;
-    while k < numbers.len() {
-        let e = until(numbers, k);
-        in_a_row(rt, e - k, numbers[k])?;
-        k = e;
+    for row in numbers.chunk_by(|a, b| a == b) {
+        if let [x, ..] = row {
+            in_a_row(rt, row.len(), *x)?;
+        }
     }
     Ok(())
 }
@@ -111,7 +83,8 @@ fn told(rt: &HostRuntime, book: &[u8], numbers: &[u8], what: &[u8]) -> io::Resul
     filling(rt, book)
 }
 
-// A run at a book, with what it is lent for its replies and numbers; and its line.
+// A run at a book, with what it is lent for its replies and numbers; and its line. The slices stand apart, as the call for C takes them: a struct
+// of three that are lent to be written would have a lifetime for each.
 pub fn serve(
     rt: &HostRuntime,
     name: &[u8],
@@ -203,11 +176,8 @@ fn too_long(rt: &HostRuntime) -> io::Result<()> {
 
 // The write requests of times 1 to 300.
 fn lay_all(run: &mut [u8]) {
-    let mut k: usize = 0;
-    while k < 300 {
-        let f = write(k as u64 + 1);
-        put(run, k * 219, &f);
-        k += 1;
+    for k in 0..300usize {
+        put(run, k * 219, &write(k as u64 + 1));
     }
 }
 

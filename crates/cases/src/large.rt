@@ -1,9 +1,8 @@
 // Document 01's row of N 16 and F 1,024: a book of 65,536 bytes, filled.
-ghost use Rattle.std.specs.Prelude.{◌≡◌, length};
 
 use crate::frame_runs;
 use crate::lines::{end, fields, filling, say, text, told};
-use crate::places::{alike, put, used};
+use crate::places::{put, used};
 use crate::walk::{BLANK, records};
 use pasis::storage;
 use std::io;
@@ -25,16 +24,12 @@ struct Shelf {
 }
 
 // N 16, t 1, b 1, Q 3, m 2, F 1,024, repairable, Byzantine clients, W 1.
-fn sixteen() -> [u8; 11]
-    ensures { 11 ≡ length result }
-{
+fn sixteen() -> [u8; 11] {
     [16, 1, 1, 3, 2, 4, 0, 0, 1, 0, 1]
 }
 
 // The write request for node 3 of a record of this time, whose fragments are all of sevens: R is 1,576.
-fn request(time: u8) -> [u8; 1591]
-    ensures { 1591 ≡ length result }
-{
+fn request(time: u8) -> [u8; 1591] {
     let plan = sixteen();
     let mut desk = [7u8; 25216];
     let mut cross = [0u8; 512];
@@ -59,9 +54,7 @@ fn serve(from: [u8; 65536], time: u8) -> Served {
     }
 }
 
-fn fresh() -> [u8; 65536]
-    ensures { 65536 ≡ length result }
-{
+fn fresh() -> [u8; 65536] {
     let plan = sixteen();
     let mut book = [BLANK; 65536];
     storage::pasis_fresh_book(&plan, 3, &mut book);
@@ -71,23 +64,14 @@ fn fresh() -> [u8; 65536]
 // The records of times 1, 2, .. until one is refused.
 fn fill() -> Shelf {
     let mut book = fresh();
-    let mut k: u8 = 0;
-    while k < 60 {
+    for k in 0..60 {
         let s = serve(book, k + 1);
         if s.answer > 0 {
-            return Shelf {
-                book: book,
-                stored: k,
-            };
+            return Shelf { book, stored: k };
         }
-        let next = s.book;
-        book = next;
-        k += 1;
+        book = s.book;
     }
-    Shelf {
-        book: book,
-        stored: k,
-    }
+    Shelf { book, stored: 60 }
 }
 
 // What came of a call whose reply buffer was blank: the reply, or a refusal.
@@ -109,7 +93,7 @@ fn again(rt: &HostRuntime, name: &[u8], book: [u8; 65536], time: u8, of: &[u8]) 
     let reply = s.reply;
     text(rt, name)?;
     outcome(rt, &reply, s.answer as u64)?;
-    end(rt, of, alike(&after, &book))
+    end(rt, of, after[..] == book[..])
 }
 
 // A run at a full book: the next record, the time, the latest record, and one that it holds.

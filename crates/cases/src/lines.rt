@@ -1,13 +1,13 @@
 // What a case writes: one line. Its name, what came out, and after a refusal whether the session and every buffer are, byte for byte, as
 // they came.
-use crate::places::{alike, number_at, part, used};
-use crate::walk;
+use crate::places::{number_at, used};
 use crate::walk::{
-    BLANK, BOOK_3, BOOKS, ENDING, ITEM, KEPT, OLD, OLD_BOOKS, REPLY, ROUND, ROUNDS, STAGE, STAMP,
-    VERIFIER,
+    BLANK, BOOK_3, BOOKS, ENDING, ITEM, KEPT, OLD, OLD_BOOKS, Operation, PLAN, REPLY, ROUND,
+    ROUNDS, STAGE, STAMP, VERIFIER, World,
 };
 use std::io;
 use std::io::Print;
+use terms::Accepted;
 
 // ---- words and numbers
 
@@ -82,35 +82,35 @@ pub fn filling(rt: &HostRuntime, book: &[u8]) -> io::Result<()> {
 }
 
 // R of a plan, 0 where it is none.
-fn record_length(w: &[u8]) -> u64 {
-    let p = packing::plan_of(part(w, walk::PLAN, 11));
+fn record_length(w: &World) -> u64 {
+    let p = packing::plan_of(w.part(PLAN, 11));
     if !terms::plan_ok(p) {
         return 0;
     }
-    terms::record_length(p) as u64
+    terms::record_length(Accepted { plan: p }) as u64
 }
 
 // ---- the line of a case
 
 // Where an open session stands.
-fn standing(rt: &HostRuntime, w: &[u8]) -> io::Result<()> {
-    let stage = number_at(w, STAGE, 1);
+fn standing(rt: &HostRuntime, w: &World) -> io::Result<()> {
+    let stage = w.number(STAGE, 1);
     if stage == 2 {
         return Ok(());
     }
-    say(rt, b", round ", number_at(w, ROUND, 2))?;
+    say(rt, b", round ", w.number(ROUND, 2))?;
     if stage == 1 {
-        say(rt, b", storing time ", number_at(w, STAMP, 8))?;
+        say(rt, b", storing time ", w.number(STAMP, 8))?;
     }
-    say(rt, b", heard ", walk::heard(w))
+    say(rt, b", heard ", w.heard())
 }
 
 // The item buffer of a read: as it came, or its bytes.
-fn item_now(rt: &HostRuntime, w: &[u8]) -> io::Result<()> {
-    if walk::operation(w) == 0 {
+fn item_now(rt: &HostRuntime, w: &World) -> io::Result<()> {
+    if w.operation() == Operation::Write {
         return Ok(());
     }
-    let x = number_at(w, ITEM, 8);
+    let x = w.number(ITEM, 8);
     if x == 12297829382473034410 {
         text(rt, b", item kept")
     } else {
@@ -119,38 +119,38 @@ fn item_now(rt: &HostRuntime, w: &[u8]) -> io::Result<()> {
 }
 
 // The answer; after a refusal, whether all is as it came; else an ending, or still open and where, and the item of a read.
-fn answered(rt: &HostRuntime, w: &[u8]) -> io::Result<()> {
-    told(rt, w, walk::answer(w))?;
-    if walk::is_refused(w) {
-        return end(rt, b", ", alike(part(w, 0, KEPT), part(w, OLD, KEPT)));
+fn answered(rt: &HostRuntime, w: &World) -> io::Result<()> {
+    told(rt, &w.bytes, w.answer())?;
+    if w.is_refused() {
+        return end(rt, b", ", w.part(0, KEPT) == w.part(OLD, KEPT));
     }
     standing(rt, w)?;
     item_now(rt, w)
 }
 
 // The reply of a node that stores nothing.
-fn replied(rt: &HostRuntime, w: &[u8]) -> io::Result<()> {
-    fields(rt, part(w, REPLY, 219))?;
+fn replied(rt: &HostRuntime, w: &World) -> io::Result<()> {
+    fields(rt, w.part(REPLY, 219))?;
     end(
         rt,
         b", book ",
-        alike(part(w, BOOKS, 5150), part(w, OLD_BOOKS, 5150)),
+        w.part(BOOKS, 5150) == w.part(OLD_BOOKS, 5150),
     )
 }
 
 // R, and how the book of node 3 is filled.
-fn filled(rt: &HostRuntime, w: &[u8]) -> io::Result<()> {
+fn filled(rt: &HostRuntime, w: &World) -> io::Result<()> {
     say(rt, b": R ", record_length(w))?;
-    filling(rt, part(w, BOOK_3, 1030))
+    filling(rt, w.part(BOOK_3, 1030))
 }
 
 // The rest of a case's line, after its name.
-pub fn tell(rt: &HostRuntime, w: &[u8], show: u8) -> io::Result<()> {
+pub fn tell(rt: &HostRuntime, w: &World, show: u8) -> io::Result<()> {
     match show {
         b'=' => filled(rt, w),
         b'~' => replied(rt, w),
-        b'+' => say(rt, b": new time ", number_at(w, STAMP, 8)),
-        b'-' => told(rt, w, walk::answer(w)),
+        b'+' => say(rt, b": new time ", w.number(STAMP, 8)),
+        b'-' => told(rt, &w.bytes, w.answer()),
         _ => answered(rt, w),
     }
 }

@@ -16,7 +16,8 @@ ghost use Rattle.std.specs.Prelude.{◌≤◌, length, IfOk};
 use std::io;
 use std::io::Read;
 
-// Reads until the buffer is full or the input ends, and answers how many bytes are at its start.
+// Reads until the buffer is full or the input ends, and answers how many bytes are at its start. `replay` has these lines too: a crate that both
+// programs stood on would be longer than they are. A read moves the place by as many bytes as it gives, which no `for` counts.
 fn read_full(rt: &HostRuntime, space: &mut [u8]) -> io::Result<usize>
     ensures { IfOk result (λ n. n ≤ length space.new) }
 {

@@ -1,145 +1,117 @@
 // The lines of the script, read and run: steps, a bar and the name of a case. The file `stdin` says what each step is.
-ghost use Rattle.std.specs.Prelude.{◌+◌, ◌<◌, ◌≤◌, length};
+ghost use Rattle.std.specs.Prelude.{◌≤◌, length};
 
 use crate::lines::{tell, text};
-use crate::places::find;
 use crate::walk;
-use crate::walk::World;
+use crate::walk::{Operation, World};
 use std::io;
 
 // ---- numbers
 
-// A number in decimal, and the place after it.
-#[derive(Clone, Copy)]
-struct Decimal {
-    is: u64,
-    next: usize,
-}
-
-// The value of a digit; 10 or more for any other byte.
+// The value of a digit.
 fn digit(c: u8) -> u64 {
-    if c < b'0' {
-        return 10;
-    }
-    (c - b'0') as u64
+    u64::from(c.wrapping_sub(b'0'))
 }
 
 // A number with one more digit; one that has no room for it stays.
 fn longer(x: u64, c: u8) -> u64 {
-    if x > 1844674407370955161 {
-        return x;
+    match x.checked_mul(10) {
+        Some(tens) => tens.wrapping_add(digit(c)),
+        None => x,
     }
-    (x * 10).wrapping_add(digit(c))
 }
 
-// The number that starts at a place; 0 where there is no digit.
-fn number(s: &[u8], at: usize) -> Decimal
-    requires { at ≤ length s.now }
-    ensures { (at ≤ result.next) × (result.next ≤ length s.now) }
+// The number that a text starts with, and what follows it; 0 where there is no digit.
+fn number(s: &[u8]) -> (u64, &[u8])
+    ensures { length result.1.now ≤ length s.now }
 {
-    let mut x: u64 = 0;
-    let mut k = at;
-    while k < s.len() {
-        let c = s[k];
-        if digit(c) > 9 {
-            return Decimal { is: x, next: k };
+    let mut x = 0;
+    for (k, c) in s.iter().enumerate() {
+        if !c.is_ascii_digit() {
+            return (x, &s[k..]);
         }
-        x = longer(x, c);
-        k += 1;
+        x = longer(x, *c);
     }
-    Decimal { is: x, next: k }
+    (x, &[])
 }
 
 // ---- steps
 
 // A call of the client or of a node, with its number; a digit is a node whose request is carried.
-fn call(rt: &HostRuntime, w: World, op: u8, x: u64) -> io::Result<World> {
+fn call(rt: &HostRuntime, w: &mut World, op: u8, x: u64) -> io::Result<()> {
     match op {
-        b'0'..=b'9' => Ok(walk::carry(w, digit(op))),
-        b'w' => Ok(walk::open(w, 0, x)),
-        b'r' => Ok(walk::read(w, x)),
-        b'o' => Ok(walk::owe(w, x)),
-        b'h' => Ok(walk::hear(w, walk::operation(&w))),
-        b'v' => Ok(walk::hear(w, 0)),
-        b'u' => Ok(walk::hear(w, 1)),
-        b's' => Ok(walk::serve(w, x)),
-        b'f' => Ok(walk::fresh(w, 3, x)),
-        b'm' => walk::short_serve(rt, w),
-        b'n' => walk::short_fresh(rt, w),
-        _ => change(rt, w, op, x),
+        b'0'..=b'9' => w.carry(digit(op)),
+        b'w' => w.open(Operation::Write, x),
+        b'r' => w.read(x),
+        b'o' => w.owe(x),
+        b'h' => w.hear(w.operation()),
+        b'v' => w.hear(Operation::Write),
+        b'u' => w.hear(Operation::Read),
+        b's' => w.serve(x),
+        b'f' => w.fresh(3, x),
+        b'm' => return w.short_serve(rt),
+        b'n' => return w.short_fresh(rt),
+        _ => return change(rt, w, op, x),
     }
-}
-
-// An item that starts with this byte.
-fn with_item(w: World, x: u8) -> World {
-    let item = [x, 2, 3, 4, 5, 6, 7, 8];
-    walk::laid(w, walk::ITEM, &item)
+    Ok(())
 }
 
 // What a case changes by itself.
-fn change(rt: &HostRuntime, w: World, op: u8, x: u64) -> io::Result<World> {
+fn change(rt: &HostRuntime, w: &mut World, op: u8, x: u64) -> io::Result<()> {
     match op {
-        b'q' => Ok(walk::flip(w, walk::REQUEST, x)),
-        b'y' => Ok(walk::flip(w, walk::REPLY, x)),
-        b'd' => Ok(walk::flip(w, walk::DESK, x)),
-        b'b' => Ok(walk::flip(w, walk::BOOK_3, x)),
-        b'g' => Ok(walk::set(w, walk::REQUEST_TIME, (x % 256) as u8)),
-        b'i' => Ok(with_item(w, (x % 256) as u8)),
-        b'p' => Ok(walk::under(w, x)),
-        b'l' => Ok(walk::lie(w, x)),
-        b't' => Ok(walk::time_reply(w, x)),
-        b'k' => Ok(walk::previous(w, x)),
-        _ => {
-            text(rt, b"UNKNOWN STEP ")?;
-            Ok(w)
-        }
+        b'q' => w.flip(walk::REQUEST, x),
+        b'y' => w.flip(walk::REPLY, x),
+        b'd' => w.flip(walk::DESK, x),
+        b'b' => w.flip(walk::BOOK_3, x),
+        b'g' => w.set(walk::REQUEST_TIME, (x % 256) as u8),
+        b'i' => w.lay(walk::ITEM, &[(x % 256) as u8, 2, 3, 4, 5, 6, 7, 8]),
+        b'p' => w.under(x),
+        b'l' => w.lie(x),
+        b't' => w.time_reply(x),
+        b'k' => w.previous(x),
+        _ => return text(rt, b"UNKNOWN STEP "),
     }
+    Ok(())
 }
 
 // A step, with what was before it kept: a digit or a letter. Any other sign is none.
-fn step(rt: &HostRuntime, w: World, op: u8, x: u64) -> io::Result<World> {
+fn step(rt: &HostRuntime, w: &mut World, op: u8, x: u64) -> io::Result<()> {
     match op {
-        b'0'..=b'9' | b'a'..=b'z' => call(rt, walk::keep(w), op, x),
-        _ => Ok(w),
+        b'0'..=b'9' | b'a'..=b'z' => {
+            w.keep();
+            call(rt, w, op, x)
+        }
+        _ => Ok(()),
     }
 }
 
 // ---- a line
 
-// The number that belongs to a step, and the place after both.
-fn argument(s: &[u8], at: usize) -> Decimal
-    requires { at < length s.now }
-    ensures { (at + 1 ≤ result.next) × (result.next ≤ length s.now) }
+// The number that belongs to a step, and what follows both.
+fn argument(op: u8, rest: &[u8]) -> (u64, &[u8])
+    ensures { length result.1.now ≤ length rest.now }
 {
-    if s[at] < b'a' {
-        return Decimal {
-            is: 0,
-            next: at + 1,
-        };
-    }
-    number(s, at + 1)
+    if op < b'a' { (0, rest) } else { number(rest) }
 }
 
 // The steps, walked.
 fn steps(rt: &HostRuntime, s: &[u8]) -> io::Result<World> {
-    let mut w = walk::new();
-    let mut k: usize = 0;
-    while k < s.len() {
-        let x = argument(s, k);
-        let next = step(rt, w, s[k], x.is)?;
-        w = next;
-        k = x.next;
+    let mut w = World::new();
+    let mut left = s;
+    while let [op, rest @ ..] = left {
+        let (x, after) = argument(*op, rest);
+        step(rt, &mut w, *op, x)?;
+        left = after;
     }
     Ok(w)
 }
 
 // The sign that stands last of all: what is shown.
 fn sign(s: &[u8]) -> u8 {
-    let n = s.len();
-    if n < 2 {
-        return b'.';
+    match s {
+        [.., shown, _] => *shown,
+        _ => b'.',
     }
-    s[n - 2]
 }
 
 // A case: its name, and what came of its steps.
@@ -152,29 +124,18 @@ fn run_case(rt: &HostRuntime, s: &[u8], name: &[u8]) -> io::Result<()> {
 
 // A line; one that starts with '#' says something to the reader, and an empty one nothing.
 fn line(rt: &HostRuntime, s: &[u8]) -> io::Result<()> {
-    if s.len() == 0 {
+    if let [] | [b'#', ..] = s {
         return Ok(());
     }
-    if s[0] == b'#' {
-        return Ok(());
+    match s.iter().position(|c| *c == b'|') {
+        Some(bar) if s.len() - bar >= 2 => run_case(rt, &s[..bar], &s[bar + 2..]),
+        _ => text(rt, b"NO NAME\n"),
     }
-    let bar = find(s, 0, b'|');
-    if s.len() - bar < 2 {
-        return text(rt, b"NO NAME\n");
-    }
-    let name = bar + 2;
-    run_case(rt, &s[0..bar], &s[name..])
 }
 
 pub fn run(rt: &HostRuntime, s: &[u8]) -> io::Result<()> {
-    let mut k: usize = 0;
-    while k < s.len() {
-        let e = find(s, k, b'\n');
-        line(rt, &s[k..e])?;
-        if e == s.len() {
-            return Ok(());
-        }
-        k = e + 1;
+    for l in s.split(|c| *c == b'\n') {
+        line(rt, l)?;
     }
     Ok(())
 }

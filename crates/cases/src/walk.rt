@@ -1,14 +1,14 @@
 // A small world: a client, five nodes with their books, and the frames between them, as the bytes of one value that is handed on. A step is
 // one call of the library, by the interface for a host; its answer lies there too, and a refused step has to leave the rest as it came,
 // which the line of a case compares.
-ghost use Rattle.std.specs.Prelude.{◌≡◌, ◌*◌, ◌≤◌, true, length};
-ghost use Rattle.terms.specs.Terms.{plan_ok, record_length};
+ghost use Rattle.std.specs.Prelude.{◌≡◌, ◌*◌, ◌≤◌, length, IfSome};
+ghost use Rattle.terms.specs.Terms.{record_length};
 
 use crate::lines::text;
 use crate::places::{number_at, part, put, take, used};
 use pasis::{client, storage};
 use std::io;
-use terms::{Ask, Hash, Plan, Time, Timestamp};
+use terms::{Accepted, Ask, Hash, Plan, Time, Timestamp};
 
 // What books and the item buffer hold before they are written: no last byte of a record here is this one.
 pub const BLANK: u8 = 170;
@@ -16,8 +16,14 @@ pub const BLANK: u8 = 170;
 // The places of N 5 and F 4: a session of 237 bytes, a desk of 5 times 204, two frames of R+15, an ending of 42, an item of 8, and five
 // books of 1,030, one byte short of room for five records each. All of these a refused call leaves as they came. Then the plan's 11 bytes,
 // the number of the last answer, and what the kept places held before the last step. Session, ending and plan are as host/pasis.h has
-// them: a session's stage, round, opening ask number, timestamp and marks have names here, and an ending's verifier and rounds.
-pub type World = [u8; 13840];
+// them: a session's stage, round, opening ask number, timestamp and marks have names here, and an ending's verifier and rounds. A world is bytes
+// and no struct of its parts, since a step of a script may turn over a byte past a part, which is then one of the next.
+pub const ALL: usize = 13840;
+
+#[derive(Drop)]
+pub struct World {
+    pub bytes: [u8; ALL],
+}
 
 pub const SESSION: usize = 0;
 
@@ -61,91 +67,16 @@ pub const OLD: usize = 6907;
 
 pub const OLD_BOOKS: usize = 8652;
 
-// ---- changes
-
-// Some bytes, laid at a place.
-pub fn laid(from: World, at: usize, x: &[u8]) -> World {
-    let mut w = from;
-    put(&mut w, at, x);
-    w
-}
-
-pub fn set(from: World, at: usize, x: u8) -> World {
-    let mut w = from;
-    if at < 13840 {
-        w[at] = x;
-    }
-    w
-}
-
-// One bit of byte number k after `at` turned over.
-pub fn flip(w: World, at: usize, k: u64) -> World {
-    if at > 13840 {
-        return w;
-    }
-    let i = k as usize;
-    if i < 13840 - at {
-        return set(w, at + i, w[at + i] ^ 1);
-    }
-    w
-}
-
-// What the step that follows may change, kept.
-pub fn keep(from: World) -> World {
-    let mut w = from;
-    octets::within(&mut w, 0, KEPT, OLD);
-    w
-}
-
-fn says(w: World, a: u32) -> World {
-    set(w, ANSWER, (a % 256) as u8)
-}
-
 // ---- what lies in a world
 
-pub fn answer(w: &[u8]) -> u64 {
-    number_at(w, ANSWER, 1)
-}
-
-pub fn is_refused(w: &[u8]) -> bool {
-    let a = answer(w);
-    a > 0 && a < 100
-}
-
-// The operation of the session: 0 is a write, 1 a read.
-pub fn operation(w: &[u8]) -> u64 {
-    number_at(w, SESSION, 1)
-}
-
-fn is_heard(w: &[u8], mark: usize) -> u64
-    ensures { result ≤ 1 }
-{
-    if number_at(w, mark, 1) == 0 {
-        return 0;
-    }
-    1
-}
-
-// How many of the five nodes are heard, by their marks.
-pub fn heard(w: &[u8]) -> u64 {
-    is_heard(w, MARKS)
-        + is_heard(w, MARKS + 1)
-        + is_heard(w, MARKS + 2)
-        + is_heard(w, MARKS + 3)
-        + is_heard(w, MARKS + 4)
-}
-
-// The frame of 219 bytes or fewer at a place: as long as its length field says.
-fn frame_at(w: &[u8], at: usize) -> &[u8] {
-    let n = number_at(w, at, 4);
-    if n > 215 {
-        return part(w, at, 219);
-    }
-    part(w, at, n as usize + 4)
+#[derive(Clone, Copy, PartialEq, Eq)]
+pub enum Operation {
+    Write,
+    Read,
 }
 
 // Where the book of a node lies; a node that there is not has the place after all books.
-pub fn book_at(i: u64) -> usize {
+fn book_at(i: u64) -> usize {
     match i {
         0 => 1745,
         1 => 2775,
@@ -156,100 +87,212 @@ pub fn book_at(i: u64) -> usize {
     }
 }
 
-// ---- frames that no call makes
+impl World {
+    // The n bytes at a place, and their number.
+    pub fn part(&self, at: usize, n: usize) -> &[u8] {
+        part(&self.bytes, at, n)
+    }
 
-// The read request of node 3 for the last record strictly below time 1, verifier 0. The reply buffer is blank, so that what is then
-// written there can be told.
-pub fn previous(w: World, ask: u64) -> World {
-    let bound = Timestamp {
-        time: Time(1),
-        verifier: Hash(0, 0, 0, 0),
-    };
-    let mut request = [0u8; 55];
-    let reply = [BLANK; 219];
-    let h = frame::asking(frame::READ_PREVIOUS, 3, Ask(ask));
-    frame::with_stamp(&mut request, h, bound);
-    laid(laid(w, REQUEST, &request), REPLY, &reply)
+    pub fn number(&self, at: usize, n: usize) -> u64 {
+        number_at(&self.bytes, at, n)
+    }
+
+    // A copy of the bytes at a place, to be lent.
+    fn copy<const N: usize>(&self, at: usize) -> [u8; N] {
+        let mut bytes = [0u8; N];
+        take(&self.bytes, at, &mut bytes);
+        bytes
+    }
+
+    fn plan(&self) -> &[u8] {
+        self.part(PLAN, 11)
+    }
+
+    pub fn answer(&self) -> u64 {
+        self.number(ANSWER, 1)
+    }
+
+    pub fn is_refused(&self) -> bool {
+        (1..100).contains(&self.answer())
+    }
+
+    // The operation of the session: 0 is a write.
+    pub fn operation(&self) -> Operation {
+        match self.number(SESSION, 1) {
+            0 => Operation::Write,
+            _ => Operation::Read,
+        }
+    }
+
+    fn is_heard(&self, mark: usize) -> u64
+        ensures { result ≤ 1 }
+    {
+        if self.number(mark, 1) == 0 { 0 } else { 1 }
+    }
+
+    // How many of the five nodes are heard, by their marks.
+    pub fn heard(&self) -> u64 {
+        self.is_heard(MARKS)
+            + self.is_heard(MARKS + 1)
+            + self.is_heard(MARKS + 2)
+            + self.is_heard(MARKS + 3)
+            + self.is_heard(MARKS + 4)
+    }
+
+    // The frame of 219 bytes or fewer at a place: as long as its length field says.
+    fn frame_at(&self, at: usize) -> &[u8] {
+        let n = self.number(at, 4);
+        if n > 215 {
+            return self.part(at, 219);
+        }
+        self.part(at, n as usize + 4)
+    }
 }
 
-// A time reply that no node made, from the first node that is not heard where they come in order.
-pub fn time_reply(w: World, time: u64) -> World {
-    let s: &[u8] = &w;
-    let node = heard(s);
-    let ask = number_at(s, OPENING, 8);
-    let mut reply = [0u8; 23];
-    let h = frame::asking(frame::TIME_REPLY, node, Ask(ask));
-    frame::with_time(&mut reply, h, Time(time));
-    laid(w, REPLY, &reply)
+// ---- changes
+
+impl World {
+    // Some bytes, laid at a place.
+    pub fn lay(&mut self, at: usize, x: &[u8]) {
+        put(&mut self.bytes, at, x);
+    }
+
+    pub fn set(&mut self, at: usize, x: u8) {
+        if at < ALL {
+            self.bytes[at] = x;
+        }
+    }
+
+    // One bit of byte number k after `at` turned over.
+    pub fn flip(&mut self, at: usize, k: u64) {
+        if at <= ALL && (k as usize) < ALL - at {
+            self.bytes[at + k as usize] ^= 1;
+        }
+    }
+
+    // What the step that follows may change, kept.
+    pub fn keep(&mut self) {
+        octets::within(&mut self.bytes, 0, KEPT, OLD);
+    }
+
+    fn says(&mut self, a: u32) {
+        self.set(ANSWER, (a % 256) as u8);
+    }
+}
+
+// ---- frames that no call makes
+
+impl World {
+    // The read request of node 3 for the last record strictly below time 1, verifier 0. The reply buffer is blank, so that what is then
+    // written there can be told.
+    pub fn previous(&mut self, ask: u64) {
+        let bound = Timestamp {
+            time: Time(1),
+            verifier: Hash(0, 0, 0, 0),
+        };
+        let mut request = [0u8; 55];
+        let h = frame::asking(frame::READ_PREVIOUS, 3, Ask(ask));
+        frame::with_stamp(&mut request, h, bound);
+        self.lay(REQUEST, &request);
+        self.lay(REPLY, &[BLANK; 219]);
+    }
+
+    // A time reply that no node made, from the first node that is not heard where they come in order.
+    pub fn time_reply(&mut self, time: u64) {
+        let node = self.heard();
+        let ask = self.number(OPENING, 8);
+        let mut reply = [0u8; 23];
+        let h = frame::asking(frame::TIME_REPLY, node, Ask(ask));
+        frame::with_time(&mut reply, h, Time(time));
+        self.lay(REPLY, &reply);
+    }
 }
 
 // ---- a lie
 
-// Whether a plan is one, and a desk of this length is its desk.
-fn desk_fits(p: Plan, len: usize) -> bool
-    ensures { result ≡ true → (plan_ok p ≡ true) × (len ≡ p.n * record_length p) }
+// The plan, accepted, where it is one and a desk of this length is its desk.
+fn fitting(p: Plan, len: usize) -> Option<Accepted>
+    ensures { IfSome result (λ a. len ≡ a.plan.n * record_length a.plan) }
 {
     if !terms::plan_ok(p) {
-        return false;
+        return None;
     }
-    let r = terms::record_length(p);
-    let n = p.n as usize;
-    len == n * r
+    let accepted = Accepted { plan: p };
+    if len == p.n as usize * terms::record_length(accepted) {
+        Some(accepted)
+    } else {
+        None
+    }
 }
 
 // The records of a time, of the fragments that lie in the slots of a desk.
 pub fn records(p: Plan, time: u64, desk: &mut [u8], cross: &mut [u8]) {
-    if !desk_fits(p, desk.len()) {
+    let Some(accepted) = fitting(p, desk.len()) else {
         return;
-    }
+    };
     if cross.len() < 512 {
         return;
     }
-    record::cross(p, desk, cross, 0);
-    let t = record::stamp_of(p, Time(time), cross, 0);
-    record::fill(p, t, cross, 0, desk);
+    record::cross(accepted, desk, cross, 0);
+    let t = record::stamp_of(accepted, Time(time), cross, 0);
+    record::fill(accepted, t, cross, 0, desk);
 }
 
-// The last fragment is changed, and the records are made anew of what then lies in the desk: each passes the hash checks, and together
-// they are no encoding of any item.
-pub fn lie(w: World, time: u64) -> World {
-    let v = flip(w, DESK, 1016);
-    let s: &[u8] = &v;
-    let p = packing::plan_of(part(s, PLAN, 11));
-    let mut desk = [0u8; 1020];
-    let mut cross = [0u8; 512];
-    take(s, DESK, &mut desk);
-    records(p, time, &mut desk, &mut cross);
-    laid(v, DESK, &desk)
+impl World {
+    // The last fragment is changed, and the records are made anew of what then lies in the desk: each passes the hash checks, and together
+    // they are no encoding of any item.
+    pub fn lie(&mut self, time: u64) {
+        self.flip(DESK, 1016);
+        let p = packing::plan_of(self.plan());
+        let mut desk = self.copy::<1020>(DESK);
+        let mut cross = [0u8; 512];
+        records(p, time, &mut desk, &mut cross);
+        self.lay(DESK, &desk);
+    }
 }
 
 // ---- calls of a node
 
-// A fresh book in place i, for the node of this number.
-pub fn fresh(w: World, i: u64, node: u64) -> World {
-    let at = book_at(i);
-    let s: &[u8] = &w;
-    let mut book = [0u8; 1030];
-    take(s, at, &mut book);
-    let a = storage::pasis_fresh_book(part(s, PLAN, 11), node, &mut book);
-    says(laid(w, at, &book), a)
-}
+impl World {
+    // A fresh book in place i, for the node of this number.
+    pub fn fresh(&mut self, i: u64, node: u64) {
+        let at = book_at(i);
+        let mut book = self.copy::<1030>(at);
+        let a = storage::pasis_fresh_book(self.plan(), node, &mut book);
+        self.lay(at, &book);
+        self.says(a);
+    }
 
-// The request, served by node i.
-pub fn serve(w: World, i: u64) -> World {
-    let at = book_at(i);
-    let s: &[u8] = &w;
-    let mut book = [0u8; 1030];
-    let mut reply = [0u8; 219];
-    take(s, at, &mut book);
-    take(s, REPLY, &mut reply);
-    let a = storage::pasis_node(
-        part(s, PLAN, 11),
-        frame_at(s, REQUEST),
-        &mut book,
-        &mut reply,
-    );
-    says(laid(laid(w, at, &book), REPLY, &reply), a)
+    // The request, served by node i.
+    pub fn serve(&mut self, i: u64) {
+        let at = book_at(i);
+        let mut book = self.copy::<1030>(at);
+        let mut reply = self.copy::<219>(REPLY);
+        let a = storage::pasis_node(self.plan(), self.frame_at(REQUEST), &mut book, &mut reply);
+        self.lay(at, &book);
+        self.lay(REPLY, &reply);
+        self.says(a);
+    }
+
+    // A fresh book of 10 bytes.
+    pub fn short_fresh(&mut self, rt: &HostRuntime) -> io::Result<()> {
+        let mut book = [BLANK; 10];
+        let a = storage::pasis_fresh_book(self.plan(), 3, &mut book);
+        still_blank(rt, &book)?;
+        self.says(a);
+        Ok(())
+    }
+
+    // The request, served by a node whose book has 10 bytes.
+    pub fn short_serve(&mut self, rt: &HostRuntime) -> io::Result<()> {
+        let mut book = [BLANK; 10];
+        let mut reply = [BLANK; 219];
+        let a = storage::pasis_node(self.plan(), self.frame_at(REQUEST), &mut book, &mut reply);
+        still_blank(rt, &book)?;
+        still_blank(rt, &reply)?;
+        self.says(a);
+        Ok(())
+    }
 }
 
 // Says so where a buffer that was blank was written.
@@ -260,128 +303,78 @@ fn still_blank(rt: &HostRuntime, s: &[u8]) -> io::Result<()> {
     Ok(())
 }
 
-// A fresh book of 10 bytes.
-pub fn short_fresh(rt: &HostRuntime, w: World) -> io::Result<World> {
-    let mut book = [BLANK; 10];
-    let a = storage::pasis_fresh_book(part(&w, PLAN, 11), 3, &mut book);
-    still_blank(rt, &book)?;
-    Ok(says(w, a))
-}
-
-// The request, served by a node whose book has 10 bytes.
-pub fn short_serve(rt: &HostRuntime, w: World) -> io::Result<World> {
-    let s: &[u8] = &w;
-    let mut book = [BLANK; 10];
-    let mut reply = [BLANK; 219];
-    let a = storage::pasis_node(
-        part(s, PLAN, 11),
-        frame_at(s, REQUEST),
-        &mut book,
-        &mut reply,
-    );
-    still_blank(rt, &book)?;
-    still_blank(rt, &reply)?;
-    Ok(says(w, a))
-}
-
 // ---- calls of the client
 
-fn opening(op: u64, plan: &[u8], ask: u64, session: &mut [u8]) -> u32 {
-    if op == 0 {
-        return client::pasis_open_write(plan, ask, session);
+impl World {
+    // Opens an operation.
+    pub fn open(&mut self, op: Operation, ask: u64) {
+        let mut session = self.copy::<237>(SESSION);
+        let a = match op {
+            Operation::Write => client::pasis_open_write(self.plan(), ask, &mut session),
+            Operation::Read => client::pasis_open_read(self.plan(), ask, &mut session),
+        };
+        self.lay(SESSION, &session);
+        self.says(a);
     }
-    client::pasis_open_read(plan, ask, session)
-}
 
-// Opens an operation, by its number.
-pub fn open(w: World, op: u64, ask: u64) -> World {
-    let s: &[u8] = &w;
-    let mut session = [0u8; 237];
-    take(s, SESSION, &mut session);
-    let a = opening(op, part(s, PLAN, 11), ask, &mut session);
-    says(laid(w, SESSION, &session), a)
-}
+    // The item buffer of a read is blank.
+    pub fn read(&mut self, ask: u64) {
+        self.lay(ITEM, &[BLANK; 8]);
+        self.open(Operation::Read, ask);
+    }
 
-// The item buffer of a read is blank.
-pub fn read(w: World, ask: u64) -> World {
-    let item = [BLANK; 8];
-    open(laid(w, ITEM, &item), 1, ask)
-}
-
-// The request owed to a node.
-pub fn owe(w: World, i: u64) -> World {
-    let s: &[u8] = &w;
-    let mut request = [0u8; 219];
-    take(s, REQUEST, &mut request);
-    let a = client::pasis_owed(
-        part(s, PLAN, 11),
-        part(s, SESSION, 237),
-        i,
-        part(s, DESK, 1020),
-        &mut request,
-    );
-    says(laid(w, REQUEST, &request), a)
-}
-
-// The world with what a call of the client leaves.
-fn left(w: World, session: &[u8], desk: &[u8], item: &[u8], ending: &[u8]) -> World {
-    let v = laid(laid(w, SESSION, session), DESK, desk);
-    laid(laid(v, ITEM, item), ENDING, ending)
-}
-
-// The reply, heard by a writer (0) or a reader.
-pub fn hear(w: World, op: u64) -> World {
-    let s: &[u8] = &w;
-    let mut session = [0u8; 237];
-    let mut desk = [0u8; 1020];
-    let mut item = [0u8; 8];
-    let mut ending = [0u8; 42];
-    take(s, SESSION, &mut session);
-    take(s, DESK, &mut desk);
-    take(s, ITEM, &mut item);
-    take(s, ENDING, &mut ending);
-    if op == 0 {
-        let a = client::pasis_write_reply(
-            part(s, PLAN, 11),
-            &mut session,
-            frame_at(s, REPLY),
-            &mut desk,
-            &item,
-            &mut ending,
+    // The request owed to a node.
+    pub fn owe(&mut self, i: u64) {
+        let mut request = self.copy::<219>(REQUEST);
+        let a = client::pasis_owed(
+            self.plan(),
+            self.part(SESSION, 237),
+            i,
+            self.part(DESK, 1020),
+            &mut request,
         );
-        return says(left(w, &session, &desk, &item, &ending), a);
+        self.lay(REQUEST, &request);
+        self.says(a);
     }
-    let a = client::pasis_read_reply(
-        part(s, PLAN, 11),
-        &mut session,
-        frame_at(s, REPLY),
-        &mut desk,
-        &mut item,
-        &mut ending,
-    );
-    says(left(w, &session, &desk, &item, &ending), a)
+
+    // The reply, heard by a writer or a reader.
+    pub fn hear(&mut self, op: Operation) {
+        let mut session = self.copy::<237>(SESSION);
+        let mut desk = self.copy::<1020>(DESK);
+        let mut item = self.copy::<8>(ITEM);
+        let mut ending = self.copy::<42>(ENDING);
+        let plan = self.plan();
+        let reply = self.frame_at(REPLY);
+        let a = match op {
+            Operation::Write => client::pasis_write_reply(
+                plan,
+                &mut session,
+                reply,
+                &mut desk,
+                &item,
+                &mut ending,
+            ),
+            Operation::Read => client::pasis_read_reply(
+                plan,
+                &mut session,
+                reply,
+                &mut desk,
+                &mut item,
+                &mut ending,
+            ),
+        };
+        self.lay(SESSION, &session);
+        self.lay(DESK, &desk);
+        self.lay(ITEM, &item);
+        self.lay(ENDING, &ending);
+        self.says(a);
+    }
 }
 
 // ---- walks
 
-// The request owed to node i, served, and its reply heard; where one is refused, no further.
-pub fn carry(w: World, i: u64) -> World {
-    let asked = owe(w, i);
-    if is_refused(&asked) {
-        return asked;
-    }
-    let served = serve(asked, i);
-    if is_refused(&served) {
-        return served;
-    }
-    hear(served, operation(&served))
-}
-
-// The plans of the cases, by their numbers, as host/pasis.h has them: five nodes, t 1 and m 2. The `ensures` gives only the length, which lending
-// it needs.
-fn plan_bytes(x: u64) -> [u8; 11]
-    ensures { 11 ≡ length result }
-{
+// The plans of the cases, by their numbers, as host/pasis.h has them: five nodes, t 1 and m 2.
+fn plan_bytes(x: u64) -> [u8; 11] {
     match x {
         1 => [5, 1, 1, 3, 2, 0, 4, 0, 1, 0, 1],
         2 => [5, 1, 1, 3, 2, 0, 4, 0, 1, 0, 2],
@@ -392,21 +385,38 @@ fn plan_bytes(x: u64) -> [u8; 11]
     }
 }
 
-// The plan of this number.
-pub fn under(w: World, x: u64) -> World {
-    let plan = plan_bytes(x);
-    laid(w, PLAN, &plan)
-}
-
 // A client with no session, and books that are not made.
 fn bare() -> World {
-    let blank = [BLANK; 5158];
-    laid([0u8; 13840], ITEM, &blank)
+    let mut w = World { bytes: [0u8; ALL] };
+    w.lay(ITEM, &[BLANK; 5158]);
+    w
 }
 
-// Five fresh books, under plan 2.
-pub fn new() -> World {
-    let w = under(bare(), 2);
-    let two = fresh(fresh(w, 0, 0), 1, 1);
-    fresh(fresh(fresh(two, 2, 2), 3, 3), 4, 4)
+impl World {
+    // Five fresh books, under plan 2.
+    pub fn new() -> World {
+        let mut w = bare();
+        w.under(2);
+        for node in 0..5 {
+            w.fresh(node, node);
+        }
+        w
+    }
+
+    // The plan of this number.
+    pub fn under(&mut self, x: u64) {
+        self.lay(PLAN, &plan_bytes(x));
+    }
+
+    // The request owed to node i, served, and its reply heard; where one is refused, no further.
+    pub fn carry(&mut self, i: u64) {
+        self.owe(i);
+        if self.is_refused() {
+            return;
+        }
+        self.serve(i);
+        if !self.is_refused() {
+            self.hear(self.operation());
+        }
+    }
 }

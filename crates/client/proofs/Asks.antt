@@ -7,6 +7,7 @@
 --   asks_between       from an accepted opening on every round's ask number is the opening one or at most W above it
 --   other_write_reply other_read_reply   so a reply to any other ask number, as to one of an earlier operation, is refused in the same way
 -- Assumes nothing.
+use Rattle.std.specs.Prelude.{Ok}
 use Prim.{Unit, tt}
 use Prim.Native.Nat.{ℕ, ◌+◌, ◌-◌, ◌*◌, ◌≤◌, ◌<◌}
 use mathlib.Core.Path.{◌≡◌, refl, sym, ap, ◌∙◌, subst}
@@ -34,7 +35,6 @@ use Rattle.session.specs.declared.Took.{Took}
 use Rattle.standing.specs.declared.Operation.{Operation}
 use Rattle.standing.specs.declared.Operation.TheVariants.{Write, Read}
 use Rattle.session.specs.declared.opening.Opened.{Opened}
-use Rattle.session.specs.declared.opening.Opening.TheVariants.{Accepted}
 use Rattle.standing.specs.Standing.{is_storing, is_ended, replies, lengths_ok, same_operation, ask_in}
 use Rattle.session.specs.Session.{ask_now, marked_of, next_of, storing_of, refused, said_of, round_open}
 use Rattle.session.specs.Opening.{OpenCall}
@@ -284,7 +284,7 @@ module _ (p : Plan) (s : Session) (d : List ℕ) (cs : List Turn) (h : Calls (Ei
 
 -- FROM AN ACCEPTED OPENING ON, every round's ask number is at least the opening one and at most W above it: "The caller gives each operation
 -- an ask number range that it has not used."
-module _ (op : Operation) (p : Plan) (a : Ask) (r : Opened) (opened : OpenCall op p a r) (accepted : r.answer ≡ Accepted)
+module _ (op : Operation) (p : Plan) (a : Ask) (r : Opened) (opened : OpenCall op p a r) (accepted : r.answer ≡ (Ok tt))
     (d : List ℕ) (long : length d ≡ p.n * record_length p) (cs : List Turn) (h : Calls (EitherTurn p) r.session d cs) where
   abbrev now : Session
   now = last_session r.session cs

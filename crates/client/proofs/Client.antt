@@ -3,6 +3,7 @@
 --   opening_refused owed_refused write_refused read_refused   a refused call changes nothing; its condition holds, and none before it
 --   opening_refuses owed_refuses                       and so it answers wherever that is so; for replies so_write and so_read
 --   write_answers so_write read_answers so_read        each answer of a reply exactly when its condition holds (specs/Endings.antt)
+use Rattle.std.specs.Prelude.{Result, Err, Ok}
 use Prim.Native.Nat.{ℕ}
 use mathlib.Core.Path.{◌≡◌, refl, sym, ap, ◌∙◌, subst}
 use mathlib.Core.Bool.{cond}
@@ -20,16 +21,13 @@ use Rattle.terms.specs.declared.Refusal.TheVariants.{OutsidePlan}
 use Rattle.terms.specs.declared.Timestamp.{Timestamp}
 use Rattle.terms.specs.Ladder.{Given}
 use Rattle.terms.proofs.Rungs.{refusal_one, refusal_low}
-use Rattle.rounds.specs.declared.Bound.TheVariants.{Free}
+use Rattle.std.proofs.Common.{None}
 use Rattle.session.specs.declared.Session.{Session}
 use Rattle.standing.specs.declared.Operation.{Operation}
 use Rattle.session.specs.declared.Took.{Took}
 use Rattle.session.specs.declared.Answer.{Answer}
-use Rattle.session.specs.declared.Answer.TheVariants.{Refused, Open, Done, NeverWritten, Aborted, RoundsSpent, ClockSpent}
+use Rattle.session.specs.declared.Answer.TheVariants.{Open, Done, NeverWritten, Aborted, RoundsSpent, ClockSpent}
 use Rattle.session.specs.declared.opening.Opened.{Opened}
-use Rattle.session.specs.declared.opening.Opening.TheVariants as opening
-use Rattle.session.specs.declared.owed.Owed.{Owed}
-use Rattle.session.specs.declared.owed.Owed.TheVariants as owing
 use Rattle.session.specs.Session.{Said, refused, still_open, done, never_written, aborted, rounds_spent, clock_spent, said_of}
 use Rattle.session.specs.Opening.{OpenCall, Opens, opens, opening_ladder, opening_number, open_with, fresh_of, no_session}
 use Rattle.session.specs.Owed.{OwedCall, Dues, dues, due_of, written, owed_to, owed_ladder, request_of}
@@ -54,29 +52,29 @@ pub record Parts : Type 0 where
 abbrev parts : ℕ → Refusal → Timestamp → ℕ → Parts
 parts k r t n = record { which = k; refusal = r; stamp = t; rounds = n }
 
-abbrev pub parts_of : Answer → Parts
-parts_of (Refused r) = parts 0 r zero_stamp 0
-parts_of Open = parts 1 OutsidePlan zero_stamp 0
-parts_of (Done t n) = parts 2 OutsidePlan t n
-parts_of (NeverWritten n) = parts 3 OutsidePlan zero_stamp n
-parts_of (Aborted n) = parts 4 OutsidePlan zero_stamp n
-parts_of (RoundsSpent n) = parts 5 OutsidePlan zero_stamp n
-parts_of ClockSpent = parts 6 OutsidePlan zero_stamp 0
+abbrev pub parts_of : Result Answer Refusal → Parts
+parts_of (Err r) = parts 0 r zero_stamp 0
+parts_of (Ok Open) = parts 1 OutsidePlan zero_stamp 0
+parts_of (Ok (Done t n)) = parts 2 OutsidePlan t n
+parts_of (Ok (NeverWritten n)) = parts 3 OutsidePlan zero_stamp n
+parts_of (Ok (Aborted n)) = parts 4 OutsidePlan zero_stamp n
+parts_of (Ok (RoundsSpent n)) = parts 5 OutsidePlan zero_stamp n
+parts_of (Ok ClockSpent) = parts 6 OutsidePlan zero_stamp 0
 
-whole : Parts → Answer
+whole : Parts → Result Answer Refusal
 whole x =
-    cond (eqb x.which 0) (Refused x.refusal) (cond (eqb x.which 1) Open (cond (eqb x.which 2) (Done x.stamp x.rounds)
-    (cond (eqb x.which 3) (NeverWritten x.rounds) (cond (eqb x.which 4) (Aborted x.rounds) (cond (eqb x.which 5) (RoundsSpent x.rounds) ClockSpent)))))
+    cond (eqb x.which 0) (Err x.refusal) (cond (eqb x.which 1) (Ok Open) (cond (eqb x.which 2) (Ok (Done x.stamp x.rounds))
+    (cond (eqb x.which 3) (Ok (NeverWritten x.rounds)) (cond (eqb x.which 4) (Ok (Aborted x.rounds)) (cond (eqb x.which 5) (Ok (RoundsSpent x.rounds)) (Ok ClockSpent))))))
 
-whole_back : (a : Answer) → whole (parts_of a) ≡ a
+whole_back : (a : Result Answer Refusal) → whole (parts_of a) ≡ a
 unfolding whole
-whole_back (Refused r) = refl
-whole_back Open = refl
-whole_back (Done t n) = refl
-whole_back (NeverWritten n) = refl
-whole_back (Aborted n) = refl
-whole_back (RoundsSpent n) = refl
-whole_back ClockSpent = refl
+whole_back (Err r) = refl
+whole_back (Ok Open) = refl
+whole_back (Ok (Done t n)) = refl
+whole_back (Ok (NeverWritten n)) = refl
+whole_back (Ok (Aborted n)) = refl
+whole_back (Ok (RoundsSpent n)) = refl
+whole_back (Ok ClockSpent) = refl
 
 -- the same parts of what was said, the refusal as a number
 record Numbers : Type 0 where
@@ -100,16 +98,16 @@ numbers_of clock_spent = numbers 6 1 zero_stamp 0
 abbrev counted : Parts → Numbers
 counted x = numbers x.which (refusal_number x.refusal) x.stamp x.rounds
 
-numbers_are : (a : Answer) → numbers_of (said_of a) ≡ counted (parts_of a)
-numbers_are (Refused r) = refl
-numbers_are Open = refl
-numbers_are (Done t n) = refl
-numbers_are (NeverWritten n) = refl
-numbers_are (Aborted n) = refl
-numbers_are (RoundsSpent n) = refl
-numbers_are ClockSpent = refl
+numbers_are : (a : Result Answer Refusal) → numbers_of (said_of a) ≡ counted (parts_of a)
+numbers_are (Err r) = refl
+numbers_are (Ok Open) = refl
+numbers_are (Ok (Done t n)) = refl
+numbers_are (Ok (NeverWritten n)) = refl
+numbers_are (Ok (Aborted n)) = refl
+numbers_are (Ok (RoundsSpent n)) = refl
+numbers_are (Ok ClockSpent) = refl
 
-pub said_one : (a b : Answer) → said_of a ≡ said_of b → a ≡ b
+pub said_one : (a b : Result Answer Refusal) → said_of a ≡ said_of b → a ≡ b
 said_one a b e =
     let h : counted (parts_of a) ≡ counted (parts_of b) = sym (numbers_are a) ∙ ap numbers_of e ∙ numbers_are b in
     let k = ap (λ (x : Numbers). x.which) h in
@@ -124,10 +122,10 @@ module _ (op : Operation) (p : Plan) (a : Ask) (r : Opened) (call : OpenCall op 
   none k = opens k (no_session op)
 
   abbrev begun : Opens
-  begun = opens 0 (fresh_of op 1 Free a)
+  begun = opens 0 (fresh_of op 1 None a)
 
   -- A refused opening hands back the session that no call takes; its condition holds, and none before it.
-  pub opening_refused : (q : Refusal) → r.answer ≡ opening.Refused q → Given (opening_ladder p a.0) (refusal_number q) × (r.session ≡ no_session op)
+  pub opening_refused : (q : Refusal) → r.answer ≡ Err q → Given (opening_ladder p a.0) (refusal_number q) × (r.session ≡ no_session op)
   unfolding open_with
   opening_refused q e =
       ladders.by_ladder (λ (o : Opens). opens (opening_number r.answer) r.session ≡ o → Given (opening_ladder p a.0) (refusal_number q) × (r.session ≡ no_session op))
@@ -137,14 +135,14 @@ module _ (op : Operation) (p : Plan) (a : Ask) (r : Opened) (call : OpenCall op 
       (λ m z. let n : refusal_number q ≡ 0 = ap opening_number (sym e) ∙ ap (λ (o : Opens). o.number) z in absurd (omega (arith, refusal_low q)))
       call.is
 
-  pub opening_refuses : (q : Refusal) → Given (opening_ladder p a.0) (refusal_number q) → r.answer ≡ opening.Refused q
+  pub opening_refuses : (q : Refusal) → Given (opening_ladder p a.0) (refusal_number q) → r.answer ≡ Err q
   unfolding open_with
   opening_refuses q g =
-      opening_one r.answer (opening.Refused q)
+      opening_one r.answer (Err q)
       (ap (λ (o : Opens). o.number) (call.is ∙ ladders.is_given (opening_ladder p a.0) none begun (refusal_number q) g))
 
 -- ---- a request owed: order 1, 2, 9, 14, 4, 11
-module _ (p : Plan) (s : Session) (node : ℕ) (d q : List ℕ) (r : Owed) (q₂ : List ℕ) (call : OwedCall p s node d q r q₂) where
+module _ (p : Plan) (s : Session) (node : ℕ) (d q : List ℕ) (r : Result ℕ Refusal) (q₂ : List ℕ) (call : OwedCall p s node d q r q₂) where
   abbrev stay : ℕ → Dues
   stay k = dues (owed.refused k) q
 
@@ -152,7 +150,7 @@ module _ (p : Plan) (s : Session) (node : ℕ) (d q : List ℕ) (r : Owed) (q₂
   give = dues (written (length (request_of p s node d))) (over (request_of p s node d) q)
 
   -- A refused one writes no byte of the request buffer; its condition holds, and none before it.
-  pub owed_refused : (x : Refusal) → r ≡ owing.Refused x → Given (owed_ladder p s node d (length q)) (refusal_number x) × (q₂ ≡ q)
+  pub owed_refused : (x : Refusal) → r ≡ Err x → Given (owed_ladder p s node d (length q)) (refusal_number x) × (q₂ ≡ q)
   unfolding owed_to
   owed_refused x e =
       ladders.by_ladder (λ (o : Dues). dues (due_of r) q₂ ≡ o → Given (owed_ladder p s node d (length q)) (refusal_number x) × (q₂ ≡ q))
@@ -164,10 +162,10 @@ module _ (p : Plan) (s : Session) (node : ℕ) (d q : List ℕ) (r : Owed) (q₂
       let n : ◌≡◌ {A = ℕ} 0 1 = cc in absurd (omega arith))
       call.is
 
-  pub owed_refuses : (x : Refusal) → Given (owed_ladder p s node d (length q)) (refusal_number x) → r ≡ owing.Refused x
+  pub owed_refuses : (x : Refusal) → Given (owed_ladder p s node d (length q)) (refusal_number x) → r ≡ Err x
   unfolding owed_to
   owed_refuses x g =
-      due_one r (owing.Refused x)
+      due_one r (Err x)
       (ap (λ (o : Dues). o.due) (call.is ∙ ladders.is_given (owed_ladder p s node d (length q)) stay give (refusal_number x) g))
 
 -- ---- a reply to a writer: order 1, 2, 9, 14, 4, 10, 11

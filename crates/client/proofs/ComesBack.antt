@@ -36,7 +36,7 @@ use Rattle.record.specs.Record.{cross_of, fragment_of}
 use Rattle.record.specs.Desk.{slot_of, fragment_in, stamp_made}
 use Rattle.terms.proofs.Places.{record_length_lem}
 use Rattle.record.proofs.Desks.{length_cross, fragment_in_lem}
-use Rattle.rounds.specs.declared.Lead.{Lead}
+use Rattle.std.proofs.Common.{Option}
 use Rattle.rounds.specs.Rounds.{close_with}
 use Rattle.session.specs.declared.Session.{Session}
 use Rattle.session.specs.declared.Took.{Took}
@@ -123,7 +123,7 @@ module _ (p : Plan) (t : ℕ) (i : List ℕ) (ok : plan_ok p ≡ true) (bytes : 
     by_read w held =
         let a = w.node in
         let v = reading.whole_is p.member (complete_at p) (incomplete_at p) (size p s f d a) w.full in
-        let k = led p u e a (ap (λ (x : Lead). (close_with u.marks e (slots_of p) p.member (thresholds_of p) x).lead) w.candidate) in
+        let k = led p u e a (ap (λ (x : Option ℕ). (close_with u.marks e (slots_of p) p.member (thresholds_of p) x).lead) w.candidate) in
         let l = lowest_are p u e a k ok (sized_whole p u e a k ok (k.verdict_is ∙ v)) in
         ap (λ (o : Outcome). o.item)
         (call.is ∙ reading.closes_read p s f d out w.closes.accepted w.closes.asks w.closes.enough ∙ reading.is_done p s f d out a w.candidate v w.validated)

@@ -1,5 +1,7 @@
 -- The rounds that a read reports are the rounds that it closed, and at most W. Assumes nothing.
 --   counted_rounds         from an opening on, whatever replies come
+use Prim.{tt}
+use Rattle.std.specs.Prelude.{Ok}
 use Prim.Native.Nat.{ℕ, ◌+◌, ◌-◌, ◌≤◌, ◌<◌}
 use mathlib.Core.Path.{◌≡◌, refl, sym, ap, ◌∙◌, subst}
 use mathlib.Core.Bool.{Bool, true, false, cond, not}
@@ -22,7 +24,6 @@ use Rattle.rounds.specs.Rounds.{heard_count}
 use Rattle.session.specs.declared.Session.{Session}
 use Rattle.standing.specs.declared.Operation.TheVariants.{Read}
 use Rattle.session.specs.declared.opening.Opened.{Opened}
-use Rattle.session.specs.declared.opening.Opening.TheVariants.{Accepted}
 use Rattle.standing.specs.Standing.{is_asking, is_storing, is_ended, replies}
 use Rattle.session.specs.Session.{marked_of, ended_of, Said, refused, still_open, said_of, is_refused, round_open}
 use Rattle.session.specs.Opening.{OpenCall}
@@ -61,7 +62,7 @@ pub data Turned (p : Plan) (s : Session) (k : ℕ) (o : Outcome) : Type 0 where
 
 module _ (p : Plan) (s : Session) (f d i : List ℕ) (k : ℕ) (a : At s k) where
   length_marks : (h : Heard) → length (marked_of s (frame_node f) h).marks ≡ 16
-  length_marks h = length-set s.marks (frame_node f) (record { is = h }) ∙ a.marks
+  length_marks h = length-set s.marks (frame_node f) h ∙ a.marks
 
   -- a mark changes nothing of what is behind the round
   stays : (h : Heard) → rounds_behind (marked_of s (frame_node f) h) ≡ rounds_behind s + 0
@@ -222,7 +223,7 @@ module _ (p : Plan) where
 
 -- THE ROUNDS THAT A READ REPORTS ARE THOSE IT CLOSED, and at most W: from an accepted opening on, whatever replies come, late, damaged or
 -- refused ones among them, with whatever desk and item buffers.
-pub counted_rounds : (p : Plan) (a : Ask) (r : Opened) → OpenCall Read p a r → r.answer ≡ Accepted → (d : List ℕ) (t : Turn) (ts : List Turn)
+pub counted_rounds : (p : Plan) (a : Ask) (r : Opened) → OpenCall Read p a r → r.answer ≡ (Ok tt) → (d : List ℕ) (t : Turn) (ts : List Turn)
     → Calls (ReadTurn p) r.session d (t ∷ ts) → (n : ℕ) → Reports (last_said t ts) n → (n ≡ closed_rounds p 0 r.session (t ∷ ts)) × (n ≤ p.w)
 unfolding rounds_behind heard_count
 counted_rounds p a r call e d t ts h n q =

@@ -6,6 +6,7 @@
 --   run_finds run_slots   so after any calls, of whatever the records that the replies bring have in common
 --   run_mended every_slot   the desk of a repair round, and the slots of the round that is open, after any calls
 -- Assumes nothing.
+use Rattle.std.specs.Prelude.{Ok}
 use Prim.{Unit, tt}
 use Prim.Native.Nat.{ℕ, ◌*◌, ◌≤◌}
 use native.Mathlib.Omega.{arith}
@@ -25,8 +26,7 @@ use Rattle.terms.proofs.Facts.{facts}
 use Rattle.terms.proofs.Rungs.{clash}
 use Rattle.frame.specs.Frame.{frame_node}
 use Rattle.rounds.specs.declared.Heard.TheVariants.{Record}
-use Rattle.rounds.specs.declared.Lead.{Lead}
-use Rattle.rounds.specs.declared.Lead.TheVariants.{Node}
+use Rattle.std.proofs.Common.{Option, Some}
 use Rattle.rounds.specs.Rounds.{close_with}
 use Rattle.recover.specs.Recover.{sound, decoded, collected, repaired}
 use Rattle.session.specs.declared.Session.{Session}
@@ -34,7 +34,6 @@ use Rattle.standing.specs.declared.Stage.{Stage}
 use Rattle.standing.specs.declared.Stage.TheVariants.{Asking, Storing, Ended}
 use Rattle.standing.specs.declared.Operation.TheVariants.{Read}
 use Rattle.session.specs.declared.opening.Opened.{Opened}
-use Rattle.session.specs.declared.opening.Opening.TheVariants.{Accepted}
 use Rattle.session.specs.Opening.{OpenCall}
 use Rattle.standing.specs.Standing.{is_asking, is_storing, is_ended, lengths_ok}
 use Rattle.session.specs.Session.{marked_of, ended_of, next_of, storing_of, Said, refused, still_open, done, never_written, aborted, rounds_spent, said_of, is_refused}
@@ -57,15 +56,15 @@ use Rattle.client.proofs.Round.Order.{length_after}
 use Rattle.client.proofs.Slots.{none_marked, Brings, EachBrings, reply_heard}
 
 -- a candidate leads the close
-pub lead_of : (p : Plan) (s : Session) (f d : List ℕ) (a : ℕ) → Candidate p s f d a → (closed p (after_reply p s f) (desk_after p f d)).lead ≡ Node a
+pub lead_of : (p : Plan) (s : Session) (f d : List ℕ) (a : ℕ) → Candidate p s f d a → (closed p (after_reply p s f) (desk_after p f d)).lead ≡ Some a
 unfolding close_with
-lead_of p s f d a h = ap (λ (x : Lead). (close_with (after_reply p s f).marks (desk_after p f d) (slots_of p) p.member (thresholds_of p) x).lead) h
+lead_of p s f d a h = ap (λ (x : Option ℕ). (close_with (after_reply p s f).marks (desk_after p f d) (slots_of p) p.member (thresholds_of p) x).lead) h
 
 -- ---- a read round that closed on a set of m nodes or more: the session and the desk with its last reply, and the node that leads the set
 pub record Closing (P : ℕ → List ℕ → Type 0) (p : Plan) (u : Session) (e : List ℕ) (a : ℕ) : Type 0 where
   pub plan : plan_ok p ≡ true
   pub long : length e ≡ p.n * record_length p
-  pub leads : (closed p u e).lead ≡ Node a
+  pub leads : (closed p u e).lead ≡ Some a
   pub size : p.m ≤ length (closed p u e).nodes
   pub slots : EverySlot P p u.marks e
 
@@ -282,7 +281,7 @@ module _ (P : ℕ → List ℕ → Type 0) (p : Plan) where
   last_finds c (v ∷ cs) w = last_finds v cs w.1
 
   -- from an accepted opening
-  module _ (a : Ask) (r : Opened) (opens : OpenCall Read p a r) (accepted : r.answer ≡ Accepted) (d : List ℕ) where
+  module _ (a : Ask) (r : Opened) (opens : OpenCall Read p a r) (accepted : r.answer ≡ (Ok tt)) (d : List ℕ) where
     pub start : Keeps P p r.session d
     start = subst (λ (x : Session). Keeps P p x d) (sym (accepted_session Read p a r opens accepted)) (none_marked P p d)
 
@@ -325,7 +324,7 @@ all_brought p (c ∷ cs) = (
 
 -- THE SLOTS OF A READ ROUND, over any calls from an accepted opening on: each that is marked record holds a record of a time of 1 or more whose two
 -- hash checks hold at its node, and one of the replies, of that node, bore it
-pub every_slot : (p : Plan) (a : Ask) (r : Opened) → OpenCall Read p a r → r.answer ≡ Accepted → (d : List ℕ) (cs : List Turn)
+pub every_slot : (p : Plan) (a : Ask) (r : Opened) → OpenCall Read p a r → r.answer ≡ (Ok tt) → (d : List ℕ) (cs : List Turn)
     → Calls (ReadTurn p) r.session d cs → is_asking (last_session r.session cs).round.stage ≡ true
     → EverySlot (Held p cs) p (last_session r.session cs).marks (last_desk d cs)
 every_slot p a r opens accepted d cs h = run_slots (Held p cs) p a r opens accepted d cs h (all_brought p cs)

@@ -36,8 +36,7 @@ use Rattle.record.proofs.Records.{stamp_at_lem}
 use Rattle.recover.specs.Recover.{sound}
 use Rattle.rounds.specs.declared.Heard.{Heard}
 use Rattle.rounds.specs.declared.Heard.TheVariants.{Unheard, First, Record}
-use Rattle.rounds.specs.declared.Mark.{Mark}
-use Rattle.rounds.specs.declared.Lead.TheVariants.{Node}
+use Rattle.std.specs.declared.option.Option.TheVariants as option
 use Rattle.rounds.specs.Rounds.{unheards, heard_count, heard_at, bit_of, mark_of, slot_stamp, joins_of, set_of, rest_unheard}
 use Rattle.rounds.specs.Numbers.{number_of}
 use Rattle.rounds.proofs.Closes.{candidate}
@@ -95,8 +94,8 @@ module _ (p : Plan) (ok : plan_ok p ≡ true) (ts : ℕ) (executed : ℕ → Boo
   opens_asked s d e a =
       record {
         wide = ap length e;
-        firsts = λ k x z. unheard_first (sym (mark_none 16 k) ∙ ap (λ (m : List Mark). mark_of m k) (sym e) ∙ z);
-        high = subst (λ (m : List Mark). EverySlot High p m d) (sym e) (none_marked High p d);
+        firsts = λ k x z. unheard_first (sym (mark_none 16 k) ∙ ap (λ (m : List Heard). mark_of m k) (sym e) ∙ z);
+        high = subst (λ (m : List Heard). EverySlot High p m d) (sym e) (none_marked High p d);
         above = a;
       }
 
@@ -120,7 +119,7 @@ module _ (p : Plan) (ok : plan_ok p ≡ true) (ts : ℕ) (executed : ℕ → Boo
     still_asked : Asked (after_reply p s f) (desk_after p f d)
     still_asked =
         record {
-          wide = length-set s.marks (frame_node f) (record { is = heard_as p f }) ∙ k.wide;
+          wide = length-set s.marks (frame_node f) (heard_as p f) ∙ k.wide;
           firsts = λ j x z. by j x z (ℕ_discrete j (frame_node f));
           high = reply_heard High p s f d item n k.high (λ b l q x. (heeds x).high);
           above = k.above;
@@ -131,11 +130,11 @@ module _ (p : Plan) (ok : plan_ok p ≡ true) (ts : ℕ) (executed : ℕ → Boo
 
         by : (j : ℕ) → executed j ≡ true → mark_of (after_reply p s f).marks j ≡ First → Dec (j ≡ frame_node f) → ⊥
         by j x z (yes q) =
-            first_record (sym z ∙ ap (mark_of (after_reply p s f).marks) q ∙ mark_set s.marks (frame_node f) (record { is = heard_as p f }) inside ∙ heard (sym (ap executed q) ∙ x))
-        by j x z (no q) = k.firsts j x (sym (mark_other s.marks (frame_node f) j (record { is = heard_as p f }) q) ∙ z)
+            first_record (sym z ∙ ap (mark_of (after_reply p s f).marks) q ∙ mark_set s.marks (frame_node f) (heard_as p f) inside ∙ heard (sym (ap executed q) ∙ x))
+        by j x z (no q) = k.firsts j x (sym (mark_other s.marks (frame_node f) j (heard_as p f) q) ∙ z)
 
     rest_so : rest_unheard (after_reply p s f).marks p.n ≡ true
-    rest_so = rest_set s.marks p.n (frame_node f) (record { is = heard_as p f }) t.node ∙ (range_stands p s d t.range).rest
+    rest_so = rest_set s.marks p.n (frame_node f) (heard_as p f) t.node ∙ (range_stands p s d t.range).rest
 
   -- ---- the close of a read round
   module _ (P : ℕ → List ℕ → Type 0) (octets : (k : ℕ) (rec : List ℕ) → P k rec → Octets rec)
@@ -178,7 +177,7 @@ module _ (p : Plan) (ok : plan_ok p ≡ true) (ts : ℕ) (executed : ℕ → Boo
           record { node = l.node; low = l.low; marked = m.1; high = k.high l.node l.low m.1 m.0 }
 
       -- THE CANDIDATE IS AT OR ABOVE ts
-      module _ (a : ℕ) (leads : (closed p u e).lead ≡ Node a) where
+      module _ (a : ℕ) (leads : (closed p u e).lead ≡ option.Some a) where
         low : a < p.n
         low = lead_low p u e a (led p u e a leads)
 
@@ -348,4 +347,4 @@ module _ (p : Plan) (ok : plan_ok p ≡ true) (ts : ℕ) (executed : ℕ → Boo
     never_below s d cs o m b v =
         let e : s.round.stage ≡ Asking = is_asking_lem s.round.stage (both (is_read s.operation) (is_asking s.round.stage) o.opens.round).1 in
         all_calls s d cs (subst (λ (x : Stage). HoldsAt x s d) (sym e) (opens_asked s d o.opens.marks o.above))
-        (subst (λ (x : Stage). KeepsAt x P p s d) (sym e) (subst (λ (l : List Mark). EverySlot P p l d) (sym o.opens.marks) (none_marked P p d))) m b v
+        (subst (λ (x : Stage). KeepsAt x P p s d) (sym e) (subst (λ (l : List Heard). EverySlot P p l d) (sym o.opens.marks) (none_marked P p d))) m b v

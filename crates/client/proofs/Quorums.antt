@@ -5,6 +5,7 @@
 --   Quorum             of so many nodes and a timestamp
 --   Acks               the nodes that are marked in a write or repair round acknowledged the timestamp being written
 -- Assumes nothing.
+use Rattle.std.specs.Prelude.{Ok}
 use Prim.{tt}
 use Prim.Native.Nat.{ℕ, ◌≤◌, ◌<◌}
 use mathlib.Core.Path.{◌≡◌, refl, sym, ap, ◌∙◌, subst}
@@ -30,7 +31,6 @@ use Rattle.frame.specs.Frame.{frame_node, kind_of, body_of, header_in, answers_t
 use Rattle.frame.proofs.Frames.{reply_is}
 use Rattle.rounds.specs.declared.Heard.{Heard}
 use Rattle.rounds.specs.declared.Heard.TheVariants.{Unheard, Record}
-use Rattle.rounds.specs.declared.Mark.{Mark}
 use Rattle.rounds.specs.Rounds.{unheards, heard_count, heard_at, bit_of, mark_of, joins_of, rest_unheard}
 use Rattle.rounds.specs.Numbers.{number_of}
 use Rattle.rounds.proofs.Laws.{mark_other}
@@ -40,7 +40,6 @@ use Rattle.standing.specs.declared.Operation.TheVariants.{Write, Read}
 use Rattle.standing.specs.Standing.{is_storing, replies, same_operation, awaits_in}
 use Rattle.session.specs.declared.Session.{Session}
 use Rattle.session.specs.declared.opening.Opened.{Opened}
-use Rattle.session.specs.declared.opening.Opening.TheVariants.{Accepted}
 use Rattle.session.specs.Opening.{OpenCall}
 use Rattle.session.specs.Session.{ask_now, awaits_kind, marked_of, Said, done, said_of, is_refused}
 use Rattle.session.specs.Ranges.{in_range}
@@ -98,7 +97,7 @@ module _ (p : Plan) (A : ℕ → ℕ → Type 0) where
       record {
         wide = ap length e;
         acked = λ z k h.
-            let y : eqb (bit_of Unheard) 1 ≡ true = ap (λ (x : Heard). eqb (bit_of x) 1) (sym (mark_none 16 k) ∙ ap (λ (m : List Mark). mark_of m k) (sym e)) ∙ h in
+            let y : eqb (bit_of Unheard) 1 ≡ true = ap (λ (x : Heard). eqb (bit_of x) 1) (sym (mark_none 16 k) ∙ ap (λ (m : List Heard). mark_of m k) (sym e)) ∙ h in
             absurd (clash (sym y));
       }
 
@@ -107,19 +106,19 @@ module _ (p : Plan) (A : ℕ → ℕ → Type 0) where
     marked : Acks (marked_of s (frame_node f) Record)
     marked =
         record {
-          wide = length-set s.marks (frame_node f) (record { is = Record }) ∙ a.wide;
+          wide = length-set s.marks (frame_node f) Record ∙ a.wide;
           acked = λ z k h. by k h (ℕ_discrete k (frame_node f));
         }
       where
-        by : (k : ℕ) → heard_at (set s.marks (frame_node f) (record { is = Record })) k ≡ true → Dec (k ≡ frame_node f) → A k (stamp_number s.stamp)
+        by : (k : ℕ) → heard_at (set s.marks (frame_node f) Record) k ≡ true → Dec (k ≡ frame_node f) → A k (stamp_number s.stamp)
         by k h (yes e) = subst (λ (x : ℕ). A x (stamp_number s.stamp)) (sym e) tells
-        by k h (no e) = a.acked q k (ap (λ (x : Heard). eqb (bit_of x) 1) (sym (mark_other s.marks (frame_node f) k (record { is = Record }) e)) ∙ h)
+        by k h (no e) = a.acked q k (ap (λ (x : Heard). eqb (bit_of x) 1) (sym (mark_other s.marks (frame_node f) k Record e)) ∙ h)
 
     full : (d : List ℕ) → plan_ok p ≡ true → in_range p s d ≡ true → frame_node f < p.n → replies p ≤ heard_count (marked_of s (frame_node f) Record).marks
         → Quorum (replies p) (stamp_number s.stamp)
     full d ok range low many =
         let ms = (marked_of s (frame_node f) Record).marks in
-        let rest : rest_unheard ms p.n ≡ true = rest_set s.marks p.n (frame_node f) (record { is = Record }) low ∙ (range_stands p s d range).rest in
+        let rest : rest_unheard ms p.n ≡ true = rest_set s.marks p.n (frame_node f) Record low ∙ (range_stands p s d range).rest in
         record {
           test = heard_at ms;
           enough = omega (arith, many, heard_number ms p.n (omega (arith, marked.wide, (plan_is p ok).n_high)) rest);
@@ -146,7 +145,7 @@ module _ (p : Plan) (A : ℕ → ℕ → Type 0) where
     heard_wide = length-set s.marks (frame_node f) _ ∙ a.wide
 
     kept_wide : length (marked_of s (frame_node f) Record).marks ≡ 16
-    kept_wide = length-set s.marks (frame_node f) (record { is = Record }) ∙ a.wide
+    kept_wide = length-set s.marks (frame_node f) Record ∙ a.wide
 
     told : (n : None (read_ladder p s f d (length i))) → is_storing s.round.stage ≡ true → A (frame_node f) (stamp_number s.stamp)
     told n q =
@@ -235,7 +234,7 @@ module _ (p : Plan) (A : ℕ → ℕ → Type 0) where
       )
 
   -- A READ THAT IS DONE: of COMPLETE or more nodes
-  pub read_quorum : (a : Ask) (r : Opened) → OpenCall Read p a r → r.answer ≡ Accepted → (d : List ℕ) (cs : List Turn) → Calls (ReadTurn p) r.session d cs
+  pub read_quorum : (a : Ask) (r : Opened) → OpenCall Read p a r → r.answer ≡ (Ok tt) → (d : List ℕ) (cs : List Turn) → Calls (ReadTurn p) r.session d cs
       → EachTurn Tells cs → EachTurn (Dones (complete_at p)) cs
   read_quorum a r opens e d cs h t =
       read_calls r.session d cs (subst Acks (sym (accepted_session Read p a r opens e)) (fresh _ refl)) (start Kind p a r opens e d) h t
@@ -251,7 +250,7 @@ module _ (p : Plan) (A : ℕ → ℕ → Type 0) where
         let w = awaits_stamp s f (not-false (awaited s f) (clear (write_ladder p s f d (length i)) n 10)) q in
         subst (A (frame_node f)) w.1 (tells n (low n) (inr w.0))
 
-    wide_after : (x : Mark) → length (set s.marks (frame_node f) x) ≡ 16
+    wide_after : (x : Heard) → length (set s.marks (frame_node f) x) ≡ 16
     wide_after x = length-set s.marks (frame_node f) x ∙ a.wide
 
     write_acks : (o : Leaves) → Wrote p s f d i o → Acks o.session
@@ -291,6 +290,6 @@ module _ (p : Plan) (A : ℕ → ℕ → Type 0) where
       )
 
   -- A WRITE THAT IS DONE: of N-t or more nodes
-  pub write_quorum : (a : Ask) (r : Opened) → OpenCall Write p a r → r.answer ≡ Accepted → (d : List ℕ) (cs : List Turn) → Calls (WriteTurn p) r.session d cs
+  pub write_quorum : (a : Ask) (r : Opened) → OpenCall Write p a r → r.answer ≡ (Ok tt) → (d : List ℕ) (cs : List Turn) → Calls (WriteTurn p) r.session d cs
       → EachTurn Tells cs → EachTurn (Dones (replies p)) cs
   write_quorum a r opens e d cs h t = write_calls r.session d cs (subst Acks (sym (accepted_session Write p a r opens e)) (fresh _ refl)) h t

@@ -24,8 +24,8 @@ use Rattle.terms.proofs.Facts.{is_complete, is_incomplete, is_unclassifiable, de
 use Rattle.frame.specs.Frame.{frame_node, body_of, good_reply}
 use Rattle.frame.proofs.Frames.{reply_is}
 use Rattle.rounds.specs.declared.Heard.TheVariants.{First, Record}
-use Rattle.rounds.specs.declared.Lead.{Lead}
-use Rattle.rounds.specs.declared.Lead.TheVariants.{Nobody, Node}
+use Rattle.std.proofs.Common.{Option}
+use Rattle.std.specs.declared.option.Option.TheVariants as option
 use Rattle.rounds.specs.Rounds.{heard_count, mark_of, lead_of, Closed, close_with}
 use Rattle.rounds.proofs.Laws.{lead_room}
 use Rattle.rounds.proofs.Closes.{candidate, no_candidate}
@@ -127,10 +127,10 @@ module _ (p : Plan) (s : Session) (f d i : List ℕ) where
 
   -- ---- a candidate
   module _ (a : ℕ) (h : Candidate p s f d a) where
-    led : c ≡ close_with u.marks e (slots_of p) p.member (thresholds_of p) (Node a)
+    led : c ≡ close_with u.marks e (slots_of p) p.member (thresholds_of p) (option.Some a)
     led = ap (close_with u.marks e (slots_of p) p.member (thresholds_of p)) h
 
-    lead_is : c.lead ≡ Node a
+    lead_is : c.lead ≡ option.Some a
     unfolding close_with
     lead_is = ap (λ (x : Closed). x.lead) led
 
@@ -236,13 +236,13 @@ module _ (p : Plan) (s : Session) (f d i : List ℕ) where
     pub never : ((k : ℕ) → k < p.n → mark_of u.marks k ≡ Record → ⊥) → acted p u c e i ≡ outcome (never_written s.round.number) (ended_of u) e i
     never h = go (lead_of u.marks e (slots_of p) p.n) refl
       where
-        go : (l : Lead) → lead_of u.marks e (slots_of p) p.n ≡ l → acted p u c e i ≡ outcome (never_written s.round.number) (ended_of u) e i
-        go Nobody q =
-            let z : c ≡ close_with u.marks e (slots_of p) p.member (thresholds_of p) Nobody =
+        go : (l : Option ℕ) → lead_of u.marks e (slots_of p) p.n ≡ l → acted p u c e i ≡ outcome (never_written s.round.number) (ended_of u) e i
+        go option.None q =
+            let z : c ≡ close_with u.marks e (slots_of p) p.member (thresholds_of p) option.None =
             ap (close_with u.marks e (slots_of p) p.member (thresholds_of p)) q in
-            let l : c.lead ≡ Nobody = ap (λ (x : Closed). x.lead) z ∙ (unfold close_with in refl) in
+            let l : c.lead ≡ option.None = ap (λ (x : Closed). x.lead) z ∙ (unfold close_with in refl) in
             sym (readers.act_never p u c e i (ended_of u) l refl)
-        go (Node a) q =
+        go (option.Some a) q =
             absurd (h a (lead_room u.marks e (slots_of p) p.n a (lead_of u.marks e (slots_of p) p.n) refl q)
             (candidate u.marks e (slots_of p) p.n a q).marked)
 
@@ -278,11 +278,11 @@ module _ (p : Plan) (s : Session) (f d i : List ℕ) where
             subst Gives (sym (is_aborted a h v)) (record { closes = k; node = a; candidate = h; low = l; high = x; member = m; counted = refl })
         by_size a h (short x l v) w y = rest a h (inl l) (leb p.w s.round.number) refl
 
-        go : (l : Lead) → lead_of u.marks e (slots_of p) p.n ≡ l → Gives (acted p u c e i)
-        go Nobody h =
+        go : (l : Option ℕ) → lead_of u.marks e (slots_of p) p.n ≡ l → Gives (acted p u c e i)
+        go option.None h =
             let z = no_candidate u.marks e (slots_of p) p.n h in
             subst Gives (sym (never z)) (record { closes = k; first = z; counted = refl })
-        go (Node a) h = by_size a h (sorted p.member (complete_at p) (incomplete_at p) (size p s f d a)) (valid p s f d a) refl
+        go (option.Some a) h = by_size a h (sorted p.member (complete_at p) (incomplete_at p) (size p s f d a)) (valid p s f d a) refl
 
     accepted_gives : Gives (accepted p s f d i)
     accepted_gives = subst Gives is_accepted (go (is_storing s.round.stage) refl)

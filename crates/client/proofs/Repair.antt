@@ -31,7 +31,7 @@ use Rattle.terms.proofs.Places.{record_length_lem}
 use Rattle.terms.specs.declared.Slots.{Slots}
 use Rattle.record.proofs.Records.{start_of, stamp_at_lem}
 use Rattle.record.proofs.Desks.{fragment_in_lem}
-use Rattle.rounds.specs.declared.Lead.TheVariants.{Node}
+use Rattle.std.proofs.Common.{Some}
 use Rattle.recover.specs.Recover.{record_from, lowest, decoded, collected, repaired}
 use Rattle.recover.proofs.Filled.{filled_record}
 use Rattle.session.specs.declared.Session.{Session}
@@ -111,7 +111,7 @@ laid_same src other slots qs zs to (suc n) out e =
 
 -- ---- a round that closed: node a leads it, its set has m nodes
 module _ (p : Plan) (s : Session) (d : List ℕ) (a : ℕ) (ok : plan_ok p ≡ true) (long : length d ≡ p.n * record_length p)
-    (lead : (closed p s d).lead ≡ Node a) (size : p.m ≤ length (closed p s d).nodes) where
+    (lead : (closed p s d).lead ≡ Some a) (size : p.m ≤ length (closed p s d).nodes) where
   abbrev qs : List ℕ
   qs = lowest p (closed p s d)
 

@@ -19,7 +19,7 @@ use Rattle.terms.specs.declared.Timestamp.{Timestamp}
 use Rattle.terms.proofs.Rungs.{clash}
 use Rattle.frame.specs.Frame.{frame_node, body_of, head_bytes, version_of}
 use Rattle.rounds.specs.declared.Heard.TheVariants.{Record}
-use Rattle.rounds.specs.declared.Lead.TheVariants.{Node}
+use Rattle.std.proofs.Common.{Some}
 use Rattle.session.specs.declared.Session.{Session}
 use Rattle.standing.specs.declared.Stage.{Stage}
 use Rattle.standing.specs.declared.Stage.TheVariants.{Asking, Storing, Ended}
@@ -58,7 +58,7 @@ pub record Refilled (p : Plan) (u : Session) (e e₂ : List ℕ) : Type 0 where
   pub plan : plan_ok p ≡ true
   pub long : length e ≡ p.n * record_length p
   pub node : ℕ
-  pub leads : (closed p u e).lead ≡ Node node
+  pub leads : (closed p u e).lead ≡ Some node
   pub size : p.m ≤ length (closed p u e).nodes
   pub is : e₂ ≡ repaired p (closed p u e) node e
 

@@ -4,6 +4,8 @@
 --   every_round        and its round is 1 to W
 --   other_operation    so refusal 9 is met by such a session only in a call for the other operation
 -- Assumes nothing.
+use Prim.{tt}
+use Rattle.std.specs.Prelude.{Ok}
 use Prim.Native.Nat.{ℕ, ◌*◌, ◌≤◌}
 use mathlib.Core.Path.{◌≡◌, refl}
 use mathlib.Core.Bool.{Bool, true, false}
@@ -17,7 +19,6 @@ use Rattle.terms.specs.declared.Plan.{Plan}
 use Rattle.standing.specs.declared.Operation.{Operation}
 use Rattle.session.specs.declared.Session.{Session}
 use Rattle.session.specs.declared.opening.Opened.{Opened}
-use Rattle.session.specs.declared.opening.Opening.TheVariants.{Accepted}
 use Rattle.session.specs.Opening.{OpenCall}
 use Rattle.session.specs.Ranges.{in_range}
 use Rattle.standing.specs.Standing.{same_operation}
@@ -40,7 +41,7 @@ either_way p s d [] h = tt
 either_way p s d (c ∷ cs) h = (inr h.0, either_way p c.took.session c.desk_left cs h.1)
 
 -- EVERY SESSION THAT THE LIBRARY MAKES IS IN ITS RANGES WITH THE DESK THAT IT HANDED BACK
-module _ (op : Operation) (p : Plan) (a : Ask) (r : Opened) (opens : OpenCall op p a r) (accepted : r.answer ≡ Accepted)
+module _ (op : Operation) (p : Plan) (a : Ask) (r : Opened) (opens : OpenCall op p a r) (accepted : r.answer ≡ (Ok tt))
     (d : List ℕ) (long : length d ≡ p.n * record_length p) (cs : List Turn) (h : Calls (EitherTurn p) r.session d cs) where
   pub every_session : Kept p (last_session r.session cs) (last_desk d cs)
   every_session = replies_keep p r.session d cs (opened_kept op p a r opens accepted d long) h

@@ -22,7 +22,7 @@ use Rattle.frame.specs.Frame.{frame_node, body_of}
 use Rattle.record.specs.Record.{hashes_ok, time_zero}
 use Rattle.record.specs.Desk.{slot_of}
 use Rattle.rounds.specs.declared.Heard.TheVariants.{Unheard, First, Record}
-use Rattle.rounds.specs.declared.Mark.{Mark}
+use Rattle.rounds.specs.declared.Heard.{Heard}
 use Rattle.rounds.specs.Rounds.{mark_of, unheard, unheards}
 use Rattle.rounds.proofs.Laws.{mark_own, mark_other}
 use Rattle.recover.proofs.Filled.{slot_stays}
@@ -67,21 +67,21 @@ module _ (P : ℕ → List ℕ → Type 0) (p : Plan) where
   pub none_marked : (d : List ℕ) → EverySlot P p unheards d
   none_marked d k l m = absurd (no_mark 16 k m)
 
-  module _ (ms : List Mark) (d : List ℕ) (every : EverySlot P p ms d) (i : ℕ) where
+  module _ (ms : List Heard) (d : List ℕ) (every : EverySlot P p ms d) (i : ℕ) where
     -- after a first triple, which leaves its slot
-    pub first_heard : EverySlot P p (set ms i (record { is = First })) d
+    pub first_heard : EverySlot P p (set ms i First) d
     first_heard k l m = go (ℕ_discrete k i)
       where
         go : Dec (k ≡ i) → P k (slot_of p d k)
         go (yes q) =
-            let e : mark_of (set ms i (record { is = First })) i ≡ Record = ap (mark_of (set ms i (record { is = First }))) (sym q) ∙ m in
-            let z = mark_own ms i (record { is = First }) e in
+            let e : mark_of (set ms i First) i ≡ Record = ap (mark_of (set ms i First)) (sym q) ∙ m in
+            let z = mark_own ms i First e in
             let y : ◌≡◌ {A = ℕ} 0 1 = cc in absurd (omega arith)
-        go (no q) = every k l (sym (mark_other ms i k (record { is = First }) q) ∙ m)
+        go (no q) = every k l (sym (mark_other ms i k First q) ∙ m)
 
     -- after a record, in its slot
     pub record_heard : (rec : List ℕ) → i < p.n → length d ≡ p.n * record_length p → length rec ≡ record_length p → P i rec
-        → EverySlot P p (set ms i (record { is = Record })) (put d (i * record_length p) rec)
+        → EverySlot P p (set ms i Record) (put d (i * record_length p) rec)
     record_heard rec low ld lr h k l m = go (ℕ_discrete k i)
       where
         go : Dec (k ≡ i) → P k (slot_of p (put d (i * record_length p) rec) k)
@@ -90,7 +90,7 @@ module _ (P : ℕ → List ℕ → Type 0) (p : Plan) where
             (subst (P i) (sym (slot_own d rec (record_length p) p.n i ld lr low)) h)
         go (no q) =
             subst (P k) (sym (slot_other d rec (record_length p) p.n i ld lr low k q))
-            (every k l (sym (mark_other ms i k (record { is = Record }) q) ∙ m))
+            (every k l (sym (mark_other ms i k Record q) ∙ m))
 
 -- a reply whose record, where it bears one that passes, is of the kind P
 abbrev pub Brings : (ℕ → List ℕ → Type 0) → Plan → List ℕ → Type 0
@@ -118,7 +118,7 @@ reply_heard P p s f d item n before brings = go (bears p f) refl
     t = taken p s f d item n
 
     go : (b : Bool) → bears p f ≡ b
-        → EverySlot P p (set s.marks (frame_node f) (record { is = cond b Record First })) (cond b (put d (frame_node f * record_length p) (body_of f)) d)
+        → EverySlot P p (set s.marks (frame_node f) (cond b Record First)) (cond b (put d (frame_node f * record_length p) (body_of f)) d)
     go true b =
         record_heard P p s.marks d before (frame_node f) (body_of f) t.node t.desk (long_body p f b) (brings b t.node (accepted_passed p s f d item n b))
     go false b = first_heard P p s.marks d before (frame_node f)

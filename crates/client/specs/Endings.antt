@@ -8,7 +8,7 @@
 --   ReadGives              the condition of an answer: refused, open, or an ending
 --   WriteDone WriteOpen WriteClock WriteGives           the same of a write
 -- Assumes nothing.
-use Rattle.std.specs.Prelude.{ℕ, ◌≤◌, ◌<◌, ◌*◌, ◌≡◌, Bool, true, false, cond, List, ◌⊎◌, length}
+use Rattle.std.specs.Prelude.{ℕ, ◌≤◌, ◌<◌, ◌*◌, ◌≡◌, Bool, true, false, cond, List, ◌⊎◌, length, Some}
 use Rattle.octets.specs.Bytes.{put}
 use Rattle.terms.specs.Ladder.{Rung, None, Given}
 use Rattle.terms.specs.Stamp.{time, stamp_at, top}
@@ -19,7 +19,6 @@ use Rattle.terms.specs.declared.Member.TheVariants.{Repairable, NonRepair}
 use Rattle.frame.specs.Frame.{frame_node, body_of}
 use Rattle.rounds.specs.declared.Heard.{Heard}
 use Rattle.rounds.specs.declared.Heard.TheVariants.{First, Record}
-use Rattle.rounds.specs.declared.Lead.TheVariants.{Node}
 use Rattle.rounds.specs.Rounds.{heard_count, mark_of, lead_of, set_of}
 use Rattle.session.specs.declared.Session.{Session}
 use Rattle.standing.specs.declared.Operation.TheVariants.{Write}
@@ -53,7 +52,7 @@ pub record Closes (p : Plan) (s : Session) (f d : List ℕ) (item : ℕ) : Type 
 
 -- "the candidate is the greatest timestamp": that of node a, the lowest-numbered that bears it
 abbrev pub Candidate : Plan → Session → List ℕ → List ℕ → ℕ → Type 0
-Candidate p s f d a = lead_of (after_reply p s f).marks (desk_after p f d) (slots_of p) p.n ≡ Node a
+Candidate p s f d a = lead_of (after_reply p s f).marks (desk_after p f d) (slots_of p) p.n ≡ Some a
 
 -- "Its set is the replies with this timestamp and the same cross checksum as the lowest-numbered of them"
 abbrev pub size : Plan → Session → List ℕ → List ℕ → ℕ → ℕ

@@ -7,7 +7,8 @@
 --   ReadDone           a read that ends done: its opening, its desk, its calls, and the item that the last of them left
 --   SetCloses set_valid a read whose last call closes a read round on a set that can be decoded; whether that set validates
 -- Assumes nothing.
-use Rattle.std.specs.Prelude.{ℕ, ◌≤◌, ◌<◌, ◌≡◌, Bool, true, List, [], ◌∷◌, ◌⊎◌, length}
+use Prim.{tt}
+use Rattle.std.specs.Prelude.{ℕ, ◌≤◌, ◌<◌, ◌≡◌, Bool, true, List, [], ◌∷◌, ◌⊎◌, length, Ok}
 use Rattle.terms.specs.Stamp.{time, stamp_at}
 use Rattle.terms.specs.Terms.{slots_of, slot_at}
 use Rattle.terms.specs.declared.Ask.{Ask}
@@ -17,11 +18,10 @@ use Rattle.frame.specs.Frame.{frame_node, body_of}
 use Rattle.record.specs.Record.{hashes_ok}
 use Rattle.record.specs.Desk.{slot_of}
 use Rattle.rounds.specs.declared.Heard.TheVariants.{Record}
-use Rattle.rounds.specs.declared.Mark.{Mark}
+use Rattle.rounds.specs.declared.Heard.{Heard}
 use Rattle.rounds.specs.Rounds.{mark_of}
 use Rattle.standing.specs.declared.Operation.TheVariants.{Read}
 use Rattle.session.specs.declared.opening.Opened.{Opened}
-use Rattle.session.specs.declared.opening.Opening.TheVariants.{Accepted}
 use Rattle.session.specs.Opening.{OpenCall}
 use Rattle.session.specs.Reply.{bears}
 use Rattle.session.specs.Session.{done}
@@ -30,7 +30,7 @@ use Rattle.client.specs.Sessions.{last_session, last_desk, last_item}
 use Rattle.client.specs.Endings.{desk_after, Closes, Candidate, size, valid}
 
 -- P of a node and the record in its slot
-abbrev pub EverySlot : (ℕ → List ℕ → Type 0) → Plan → List Mark → List ℕ → Type 0
+abbrev pub EverySlot : (ℕ → List ℕ → Type 0) → Plan → List Heard → List ℕ → Type 0
 EverySlot P p marks desk = (k : ℕ) → k < p.n → mark_of marks k ≡ Record → P k (slot_of p desk k)
 
 pub record Passed (p : Plan) (k : ℕ) (rec : List ℕ) : Type 0 where
@@ -57,7 +57,7 @@ pub record ReadDone (p : Plan) (t : Timestamp) (item : List ℕ) : Type 0 where
   pub ask : Ask
   pub opened : Opened
   pub opens : OpenCall Read p ask opened
-  pub accepted : opened.answer ≡ Accepted
+  pub accepted : opened.answer ≡ (Ok tt)
   pub desk : List ℕ
   pub first : Turn
   pub rest : List Turn
@@ -71,7 +71,7 @@ pub record SetCloses (p : Plan) (t : Timestamp) : Type 0 where
   pub ask : Ask
   pub opened : Opened
   pub opens : OpenCall Read p ask opened
-  pub accepted : opened.answer ≡ Accepted
+  pub accepted : opened.answer ≡ (Ok tt)
   pub desk : List ℕ
   pub before : List Turn
   pub calls : Calls (ReadTurn p) opened.session desk before

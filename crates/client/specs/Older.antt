@@ -8,22 +8,21 @@
 --   NotBelow           an answer of the read: never "never written", never done with a lower timestamp
 -- Assumes nothing.
 use Prim.{Unit}
-use Rattle.std.specs.Prelude.{ℕ, ◌≤◌, ◌<◌, ◌≡◌, Bool, true, List}
+use Rattle.std.specs.Prelude.{ℕ, ◌≤◌, ◌<◌, ◌≡◌, Bool, true, List, Option, None, Some}
 use Rattle.octets.specs.Bytes.{be}
 use Rattle.terms.specs.Stamp.{stamp, stamp_number}
 use Rattle.terms.specs.declared.Plan.{Plan}
 use Rattle.frame.specs.Frame.{frame_node, body_of}
-use Rattle.rounds.specs.declared.Bound.{Bound}
-use Rattle.rounds.specs.declared.Bound.TheVariants.{Free, Under}
+use Rattle.terms.specs.declared.Timestamp.{Timestamp}
 use Rattle.session.specs.declared.Session.{Session}
 use Rattle.session.specs.Session.{read_round, Said, refused, still_open, done, never_written, aborted, rounds_spent, clock_spent}
 use Rattle.session.specs.Reply.{bears}
 use Rattle.client.specs.Turns.{Turn, Takes}
 use Rattle.client.specs.Round.{RoundOpens}
 
-abbrev pub Above : ℕ → Bound → Type 0
-Above ts Free = Unit {0}
-Above ts (Under u) = ts < stamp (be 40 (stamp_number u))
+abbrev pub Above : ℕ → Option Timestamp → Type 0
+Above ts None = Unit {0}
+Above ts (Some u) = ts < stamp (be 40 (stamp_number u))
 
 pub record AtLeast (p : Plan) (ts : ℕ) (f : List ℕ) : Type 0 where
   pub borne : bears p f ≡ true

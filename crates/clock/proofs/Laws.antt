@@ -1,110 +1,75 @@
--- Laws of the loops over the time replies. Assumes nothing.
-use Prim.Native.Nat.{ℕ, ◌+◌, ◌≤◌, ◌<◌}
-use mathlib.Core.Path.{◌≡◌, refl, sym, ap, ap₂, ◌∙◌}
-use mathlib.Core.Bool.{Bool, true, false, cond}
-use mathlib.Core.List.{List, [], ◌∷◌, ◌++◌}
-use native.Mathlib.Numerals.{add-one}
+-- Laws of the chains over the time replies. Assumes nothing.
+use Prim.Native.Nat.{ℕ, ◌+◌}
+use mathlib.Core.Path.{◌≡◌, refl, sym, ap, ◌∙◌}
+use mathlib.Core.Bool.{Bool, true, false, cond, not, ◌&&◌}
+use mathlib.Core.List.{List, [], ◌∷◌}
 use native.Mathlib.Omega.{arith}
-use borrow.Author.Tests.{le-leb, lt-leb}
-use lib.Dec.{leb, ltb, eqb}
-use lib.ListN.{length, get_or, take}
-use lib.Seq.{take-suc, take_all, length-take-le}
+use lib.Dec.{leb}
+use lib.ListN.{length}
 use Rattle.terms.specs.Terms.{larger}
-use Rattle.terms.specs.Ladder.{◌and◌}
-use Rattle.terms.proofs.Rungs.{both}
 use Rattle.terms.specs.declared.Time.{Time}
 use Rattle.rounds.specs.declared.Heard.{Heard}
 use Rattle.rounds.specs.declared.Heard.TheVariants.{Unheard, First, Record}
-use Rattle.rounds.specs.declared.Mark.{Mark}
-use Rattle.rounds.specs.Rounds.{bit_of, unheard}
-use Rattle.clock.specs.Clock.{zero_time, times_heard, or_more, greatest_with}
+use Rattle.std.specs.List.{filter, zip, fold, reduce}
+use Rattle.std.specs.Prelude.{Option, unwrap_or, max, map}
+use Rattle.std.proofs.Math.Nat.{zero-max}
+use Rattle.terms.proofs.Small.{larger_is}
+use Rattle.rounds.specs.Rounds.{is_unheard}
+use Rattle.clock.specs.Clock.{times_heard, or_more, greatest_with}
 
--- ---- one list after another
-pub heard_append : (ms : List Mark) (ts : List Time) (ns : List Mark) (us : List Time) → length ms ≡ length ts
-    → times_heard (ms ++ ns) (ts ++ us) ≡ times_heard ms ts ++ times_heard ns us
-unfolding times_heard
-heard_append [] [] ns us e = refl
-heard_append [] (t ∷ ts) ns us e = absurd (omega arith)
-heard_append (m ∷ ms) [] ns us e = absurd (omega arith)
-heard_append (m ∷ ms) (t ∷ ts) ns us e = go (eqb (bit_of m.is) 1) (heard_append ms ts ns us (omega arith))
-  where
-    go : (b : Bool) → times_heard (ms ++ ns) (ts ++ us) ≡ times_heard ms ts ++ times_heard ns us
-        → cond b (t.0 ∷ times_heard (ms ++ ns) (ts ++ us)) (times_heard (ms ++ ns) (ts ++ us)) ≡ cond b (t.0 ∷ times_heard ms ts) (times_heard ms ts) ++ times_heard ns us
-    go true h = ap (λ (l : List ℕ). t.0 ∷ l) h
-    go false h = h
+-- ---- how many are v or more, as a chain counts them
+module _ (v : ℕ) where
+  abbrev pub counts : Heard × Time → Bool
+  counts p = not (is_unheard p.0) && leb v p.1.0
 
-pub more_append : (v : ℕ) (l k : List ℕ) → or_more v (l ++ k) ≡ or_more v l + or_more v k
-unfolding or_more
-more_append v [] k = omega arith
-more_append v (x ∷ l) k = ap (λ (n : ℕ). cond (leb v x) 1 0 + n) (more_append v l k) ∙ omega arith
-
-pub with_append : (k : ℕ) (r : List ℕ) (b : ℕ) (l m : List ℕ) → greatest_with k r b (l ++ m) ≡ greatest_with k r (greatest_with k r b l) m
-unfolding greatest_with
-with_append k r b [] m = refl
-with_append k r b (v ∷ l) m = with_append k r (cond (leb k (or_more v r)) (larger b v) b) l m
-
--- ---- one node
-module _ (m : Mark) (t : Time) where
-  -- it is v or more, or it is not
-  pub reach_low : (v : ℕ) → t.0 < v → 0 ≡ or_more v (times_heard (m ∷ []) (t ∷ []))
+  pub more_by : (ms : List Heard) (ts : List Time) → length (filter counts (zip ms ts)) ≡ or_more v (times_heard ms ts)
   unfolding times_heard or_more
-  reach_low v h = go (eqb (bit_of m.is) 1)
+  more_by [] ts = refl
+  more_by (m ∷ ms) [] = refl
+  more_by (m ∷ ms) (t ∷ ts) = go m (more_by ms ts)
     where
-      go : (b : Bool) → 0 ≡ or_more v (cond b (t.0 ∷ []) [])
-      go true = rw (lt-leb v t.0 h)
-      go false = refl
+      one : (k : Heard) (b : Bool) → length (filter counts (zip ms ts)) ≡ or_more v (times_heard ms ts)
+          → length (cond b ((k, t) ∷ filter counts (zip ms ts)) (filter counts (zip ms ts))) ≡ cond b 1 0 + or_more v (times_heard ms ts)
+      one k true e = omega (arith, e)
+      one k false e = omega (arith, e)
 
-  pub reach_bit : (v x : ℕ) → v ≤ t.0 → x ≡ bit_of m.is → x ≡ or_more v (times_heard (m ∷ []) (t ∷ []))
-  unfolding times_heard or_more
-  reach_bit v x h e = e ∙ go m.is
+      go : (k : Heard) → length (filter counts (zip ms ts)) ≡ or_more v (times_heard ms ts)
+          → length (filter counts (zip (k ∷ ms) (t ∷ ts))) ≡ or_more v (times_heard (k ∷ ms) (t ∷ ts))
+      go Unheard e = unfold times_heard in e
+      go First e = unfold times_heard in unfold or_more in one First (leb v t.0) e
+      go Record e = unfold times_heard in unfold or_more in one Record (leb v t.0) e
+
+-- ---- the greatest of those that enough reach, as a chain finds it
+max_larger : (a b : ℕ) → max a b ≡ larger a b
+max_larger a b = omega (arith, larger_is a b)
+
+reduced : (l : List ℕ) → unwrap_or (reduce max l) 0 ≡ fold max 0 l
+reduced [] = refl
+reduced (x ∷ l) = ap (λ (z : ℕ). fold max z l) (sym (zero-max x))
+
+module _ (k : ℕ) (r : List ℕ) where
+  abbrev pub enough : Heard × Time → Bool
+  enough p = not (is_unheard p.0) && leb k (or_more p.1.0 r)
+
+  abbrev pub time_of : Heard × Time → ℕ
+  time_of p = p.1.0
+
+  found : (b : ℕ) (ms : List Heard) (ts : List Time) → fold max b (map time_of (filter enough (zip ms ts))) ≡ greatest_with k r b (times_heard ms ts)
+  unfolding times_heard greatest_with
+  found b [] ts = refl
+  found b (m ∷ ms) [] = refl
+  found b (m ∷ ms) (t ∷ ts) = go m (λ x. found x ms ts)
     where
-      go : (k : Heard) → bit_of k ≡ or_more v (cond (eqb (bit_of k) 1) (t.0 ∷ []) [])
-      go Unheard = refl
-      go First = rw (le-leb v t.0 h)
-      go Record = rw (le-leb v t.0 h)
+      one : (h : Heard) (e : Bool) → ((x : ℕ) → fold max x (map time_of (filter enough (zip ms ts))) ≡ greatest_with k r x (times_heard ms ts))
+          → fold max b (map time_of (cond e ((h, t) ∷ filter enough (zip ms ts)) (filter enough (zip ms ts)))) ≡ greatest_with k r (cond e (larger b t.0) b) (times_heard ms ts)
+      one h true f = f (max b t.0) ∙ ap (λ (x : ℕ). greatest_with k r x (times_heard ms ts)) (max_larger b t.0)
+      one h false f = f b
 
--- ---- a turn of the loops, at node i, and their end
-module _ (ms : List Mark) (ts : List Time) (i : ℕ) (h : i < length ms) (k : i < length ts) where
-  heard_turn : times_heard (take (i + 1) ms) (take (i + 1) ts)
-      ≡ times_heard (take i ms) (take i ts) ++ times_heard (get_or ms i unheard ∷ []) (get_or ts i zero_time ∷ [])
-  heard_turn =
-      rw (add-one, take-suc ms i unheard h, take-suc ts i zero_time k)
-      (heard_append (take i ms) (take i ts) _ _ (length-take-le i ms (omega arith) ∙ sym (length-take-le i ts (omega arith))))
+      go : (h : Heard) → ((x : ℕ) → fold max x (map time_of (filter enough (zip ms ts))) ≡ greatest_with k r x (times_heard ms ts))
+          → fold max b (map time_of (filter enough (zip (h ∷ ms) (t ∷ ts)))) ≡ greatest_with k r b (times_heard (h ∷ ms) (t ∷ ts))
+      go Unheard f = unfold times_heard in f b
+      go First f = unfold times_heard in unfold greatest_with in one First (leb k (or_more t.0 r)) f
+      go Record f = unfold times_heard in unfold greatest_with in one Record (leb k (or_more t.0 r)) f
 
-  pub more_turn : (v n x : ℕ) → n ≡ or_more v (times_heard (take i ms) (take i ts))
-      → x ≡ or_more v (times_heard (get_or ms i unheard ∷ []) (get_or ts i zero_time ∷ [])) → n + x ≡ or_more v (times_heard (take (i + 1) ms) (take (i + 1) ts))
-  more_turn v n x e f = ap₂ (λ (a b : ℕ). a + b) e f ∙ sym (more_append v _ _) ∙ ap (or_more v) (sym heard_turn)
-
-  pub kth_turn : (r : List ℕ) (j b x : ℕ) → b ≡ greatest_with j r 0 (times_heard (take i ms) (take i ts))
-      → x ≡ greatest_with j r b (times_heard (get_or ms i unheard ∷ []) (get_or ts i zero_time ∷ [])) → x ≡ greatest_with j r 0 (times_heard (take (i + 1) ms) (take (i + 1) ts))
-  kth_turn r j b x e f =
-      f ∙ ap (λ (y : ℕ). greatest_with j r y (times_heard (get_or ms i unheard ∷ []) (get_or ts i zero_time ∷ []))) e ∙ sym (with_append j r 0 _ _) ∙ ap (greatest_with j r 0) (sym heard_turn)
-
-pub heard_all : (ms : List Mark) (ts : List Time) (i : ℕ) → length ms ≤ i → length ts ≤ i → times_heard (take i ms) (take i ts) ≡ times_heard ms ts
-heard_all ms ts i h k = rw (take_all i ms h, take_all i ts k)
-
--- ---- a node against the best so far
-module _ (k : ℕ) (r : List ℕ) (b : ℕ) (m : Mark) (t : Time) (x : Bool) (e : x ≡ (eqb (bit_of m.is) 1 and ltb b t.0)) where
-  pub stays_below : x ≡ false → b ≡ greatest_with k r b (times_heard (m ∷ []) (t ∷ []))
-  unfolding greatest_with times_heard
-  stays_below f = go (eqb (bit_of m.is) 1) (sym e ∙ f)
-    where
-      low : (y : Bool) → ltb b t.0 ≡ false → b ≡ cond y (larger b t.0) b
-      low true g = rw g
-      low false g = refl
-
-      go : (y : Bool) → (y and ltb b t.0) ≡ false → b ≡ greatest_with k r b (cond y (t.0 ∷ []) [])
-      go true g = low (leb k (or_more t.0 r)) g
-      go false g = refl
-
-  module _ (y : x ≡ true) where
-    rose : (eqb (bit_of m.is) 1 ≡ true) × (ltb b t.0 ≡ true)
-    rose = both (eqb (bit_of m.is) 1) (ltb b t.0) (sym e ∙ y)
-
-    pub stays_few : or_more t.0 r < k → b ≡ greatest_with k r b (times_heard (m ∷ []) (t ∷ []))
-    unfolding greatest_with times_heard
-    stays_few h = rw (rose.0, lt-leb k (or_more t.0 r) h)
-
-    pub takes_place : k ≤ or_more t.0 r → t.0 ≡ greatest_with k r b (times_heard (m ∷ []) (t ∷ []))
-    unfolding greatest_with times_heard
-    takes_place h = rw (rose.0, le-leb k (or_more t.0 r) h, rose.1)
+  pub greatest_by : (ms : List Heard) (ts : List Time) (o : Option ℕ) → o ≡ reduce max (map time_of (filter enough (zip ms ts))) → unwrap_or o 0 ≡ greatest_with k r 0 (times_heard ms ts)
+  greatest_by ms ts o e = ap (λ (x : Option ℕ). unwrap_or x 0) e ∙ reduced (map time_of (filter enough (zip ms ts))) ∙ found 0 ms ts

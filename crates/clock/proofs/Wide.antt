@@ -7,7 +7,7 @@ use lib.Dec.{leb, ltb, eqb, lit<}
 use lib.ListN.{set}
 use Rattle.fragments.specs.Fragments.{All}
 use Rattle.terms.specs.declared.Time.{Time}
-use Rattle.rounds.specs.declared.Mark.{Mark}
+use Rattle.rounds.specs.declared.Heard.{Heard}
 use Rattle.rounds.specs.Rounds.{bit_of}
 use Rattle.clock.specs.Clock.{zero_times, times_heard, or_more, greatest_with, kth_greatest}
 
@@ -23,11 +23,11 @@ wide_set [] i t h w = tt
 wide_set (x ∷ ts) zero t h w = (h, w.1)
 wide_set (x ∷ ts) (suc i) t h w = (w.0, wide_set ts i t h w.1)
 
-wide_heard : (ms : List Mark) (ts : List Time) → WideTimes ts → All (λ (x : ℕ). x < 256 ^ 8) (times_heard ms ts)
+wide_heard : (ms : List Heard) (ts : List Time) → WideTimes ts → All (λ (x : ℕ). x < 256 ^ 8) (times_heard ms ts)
 unfolding times_heard
 wide_heard [] ts w = tt
 wide_heard (m ∷ ms) [] w = tt
-wide_heard (m ∷ ms) (t ∷ ts) w = go (eqb (bit_of m.is) 1) (wide_heard ms ts w.1)
+wide_heard (m ∷ ms) (t ∷ ts) w = go (eqb (bit_of m) 1) (wide_heard ms ts w.1)
   where
     go : (b : Bool) → All (λ (x : ℕ). x < 256 ^ 8) (times_heard ms ts) → All (λ (x : ℕ). x < 256 ^ 8) (cond b (t.0 ∷ times_heard ms ts) (times_heard ms ts))
     go true h = (w.0, h)
@@ -43,5 +43,5 @@ wide_greatest k r b (v ∷ l) h a = wide_greatest k r (cond (leb k (or_more v r)
     go true false = h
     go false y = h
 
-pub kth_wide : (k : ℕ) (ms : List Mark) (ts : List Time) → WideTimes ts → kth_greatest k (times_heard ms ts) < 256 ^ 8
+pub kth_wide : (k : ℕ) (ms : List Heard) (ts : List Time) → WideTimes ts → kth_greatest k (times_heard ms ts) < 256 ^ 8
 kth_wide k ms ts w = wide_greatest k (times_heard ms ts) 0 (times_heard ms ts) (lit< tt) (wide_heard ms ts w)

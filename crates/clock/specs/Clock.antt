@@ -10,7 +10,7 @@
 use Rattle.std.specs.Prelude.{ℕ, ◌+◌, ◌≤◌, cond, List, [], ◌∷◌, replicate, leb, eqb}
 use Rattle.terms.specs.Terms.{larger}
 use Rattle.terms.specs.declared.Time.{Time}
-use Rattle.rounds.specs.declared.Mark.{Mark}
+use Rattle.rounds.specs.declared.Heard.{Heard}
 use Rattle.rounds.specs.Rounds.{bit_of}
 
 -- ---- the replies
@@ -20,10 +20,10 @@ zero_time = record { 0 = 0 }
 abbrev pub zero_times : List Time
 zero_times = replicate 16 zero_time
 
-unfoldable pub times_heard : List Mark → List Time → List ℕ
+unfoldable pub times_heard : List Heard → List Time → List ℕ
 times_heard [] ts = []
 times_heard (m ∷ ms) [] = []
-times_heard (m ∷ ms) (t ∷ ts) = cond (eqb (bit_of m.is) 1) (t.0 ∷ times_heard ms ts) (times_heard ms ts)
+times_heard (m ∷ ms) (t ∷ ts) = cond (eqb (bit_of m) 1) (t.0 ∷ times_heard ms ts) (times_heard ms ts)
 
 -- ---- the k-th greatest
 -- "equal values counted each"

@@ -14,12 +14,11 @@ use Rattle.terms.specs.declared.Plan.{Plan}
 use Rattle.terms.specs.declared.Slots.{Slots}
 use Rattle.terms.specs.Terms.{plan_ok, slots_of}
 use Rattle.terms.proofs.Places.{slots_are}
-use Rattle.fragments.specs.declared.Basis.{Basis}
 use Rattle.fragments.specs.Fragments.{regenerated}
 use Rattle.record.specs.Record.{prefix_of, fragment_hash}
 use Rattle.record.specs.Desk.{row, cross_made}
 use Rattle.record.proofs.Desks.{length_row, row_add}
-use Rattle.crosscheck.specs.Inside.{entries_of, Hashable}
+use Rattle.crosscheck.specs.Groups.{Hashable}
 
 -- ---- entries of 32 bytes each, and what stands at a place
 module _ (entry : ℕ → List ℕ) (d : List ℕ) (at : ℕ) where
@@ -79,11 +78,15 @@ module _ (p : Plan) (d qs : List ℕ) (at : ℕ) where
   pub agreed_none : Agreed 0
   agreed_none = agrees_none entry_at d at
 
+  -- n of them, from entry i on, of the fragments in some slots
+  abbrev entries : Slots → ℕ → ℕ → List ℕ
+  entries s i n = row (λ l. fragment_hash p (i + l) (regenerated d s qs (i + l))) n
+
   -- the next n of them were compared
   module _ (slots : Slots) (i n : ℕ) (x : Bool) (es : slots ≡ slots_of p) (h : i + n ≤ p.n) (l : at + 32 * p.n ≤ length d)
-      (e : x ≡ alike (entries_of p d slots qs i n) (part d (at + 32 * i) (32 * n))) where
+      (e : x ≡ alike (entries slots i n) (part d (at + 32 * i) (32 * n))) where
     more_is : x ≡ more entry_at d at i n
-    more_is = e ∙ ap (λ (s : Slots). alike (entries_of p d s qs i n) (part d (at + 32 * i) (32 * n))) es
+    more_is = e ∙ ap (λ (s : Slots). alike (entries s i n) (part d (at + 32 * i) (32 * n))) es
 
     pub agreed_more : x ≡ true → Agreed i → Agreed (i + n)
     agreed_more t k = agrees_more entry_at d at entry_wide i n x (omega arith) k more_is t
@@ -95,9 +98,9 @@ module _ (p : Plan) (d qs : List ℕ) (at : ℕ) where
   agreed_all i e k = unfold cross_made in sym (rw e at k)
 
 -- a plan's fragments, up to eight at a time
-pub hashable : (p : Plan) (slots : Slots) (b : Basis) (i n : ℕ) → plan_ok p ≡ true → slots ≡ slots_of p → i + n ≤ p.n → n ≤ 8
-    → Hashable (record { slots = slots; basis = b; first = i; n = n })
-hashable p slots b i n k e h l =
+pub hashable : (p : Plan) (slots : Slots) (i n : ℕ) → plan_ok p ≡ true → slots ≡ slots_of p → i + n ≤ p.n → n ≤ 8
+    → Hashable slots i n
+hashable p slots i n k e h l =
     let q = slots_are p slots k e in
     record {
       some = omega (arith, q.fragment_is, q.f_low);

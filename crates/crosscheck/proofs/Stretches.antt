@@ -5,7 +5,7 @@ use Prim.Native.Nat.{ℕ, ◌+◌, ◌-◌, ◌*◌, ◌/◌, ◌%◌, ◌≤◌
 use native.Mathlib.Omega.{arith}
 use native.Mathlib.Decide.{ℕ_discrete}
 use borrow.Author.Tests.{eq-eqb, ne_eqb}
-use lib.ListN.{length, take, drop, length-append, length-drop}
+use lib.ListN.{length, take, drop, length-append}
 use lib.Seq.{take_at}
 use Rattle.octets.specs.Bytes.{part, put}
 use Rattle.octets.proofs.Laws.{length_part, length_put, put_lent, part_put_same, part_put_before, part_first, part_past}
@@ -24,23 +24,16 @@ use Rattle.lanes.proofs.Laws.{each_as}
 use Rattle.lanes.proofs.Batches.{hash_of}
 use Rattle.record.specs.Record.{prefix_of, fragment_hash}
 use Rattle.record.proofs.Desks.{hashed}
-use Rattle.crosscheck.specs.declared.Group.{Group}
+use Rattle.crosscheck.specs.declared.group.Group.{Group}
 use Rattle.crosscheck.specs.declared.Stretch.{Stretch}
-use Rattle.crosscheck.specs.Inside.{head_in, message_in, batch_in, Rowed, Hashable, Fits, Taken, LastFrom}
+use Rattle.crosscheck.specs.Inside.{head_in, made_of, message_of_entry, batch_in, Rowed, Fits, Taken, LastFrom}
 
 -- ---- what is lent
 -- the first f bytes of a buffer, lent, and given back as g
-module _ (v g old : List ℕ) (f : ℕ) (e : v ≡ g) (l : length g ≡ f) where
-  pub first_lent : take f (v ++ drop f old) ≡ g
-  first_lent = ap (λ (x : List ℕ). take f (x ++ drop f old)) e ∙ take_at g (drop f old) f l
-
-  pub first_length : f ≤ length old → length (v ++ drop f old) ≡ length old
-  first_length h = ap (λ (x : List ℕ). length (x ++ drop f old)) e ∙ simp (length-append, length-drop) (omega arith)
+pub first_lent : (v g old : List ℕ) (f : ℕ) → v ≡ g → length g ≡ f → take f (v ++ drop f old) ≡ g
+first_lent v g old f e l = ap (λ (x : List ℕ). take f (x ++ drop f old)) e ∙ take_at g (drop f old) f l
 
 -- ---- rows
-pub rows_none : (d : List ℕ) (s : Slots) (qs : List ℕ) (i : ℕ) (out : List ℕ) → length out ≡ 1536 → Rowed d s qs i 0 out
-rows_none d s qs i out e = record { long = e; held = λ l h. absurd (omega arith) }
-
 -- one more, regenerated into what was lent of them
 pub rows_more : (d : List ℕ) (s : Slots) (qs : List ℕ) (i n k : ℕ) (out new : List ℕ) → n < 8 → s.fragment ≤ 192 → k ≡ s.fragment → Sources d s qs
     → new ≡ regenerated d s qs (i + n) → Rowed d s qs i n out → Rowed d s qs i (n + 1) (take (192 * n) out ++ (new ++ drop k (drop (192 * n) out)))
@@ -108,27 +101,27 @@ past_first x y n from k e h =
     sym (part_past x y n (from - n) k e) ∙ ap (λ (i : ℕ). part (x ++ y) i k) a
 
 -- what stands before the fragment, and a strip of it, are a stretch of the message
-pub stretch_is : (heads d qs : List ℕ) (g : Group) (y : Stretch) (k i : ℕ) → Fits g y → k ≡ head_in y → i < 16 → length heads ≡ 256
-    → part heads (16 * i) k ++ regenerated d (strip_of g.slots (y.from + k - y.head) (y.size - k)) qs i ≡ part (message_in heads y.head d g.slots qs i) y.from y.size
-stretch_is heads d qs g y k i f e h z = go (ℕ_discrete y.from 0)
+pub stretch_is : (heads : List ℕ) (g : Group) (y : Stretch) (k i : ℕ) → Fits g y → k ≡ head_in y → i < 16 → length heads ≡ 256
+    → part heads (16 * i) k ++ regenerated g.desk.now (strip_of g.slots (y.from + k - y.head) (y.size - k)) (points_of g.basis) i ≡ part (message_of_entry heads y.head g i) y.from y.size
+stretch_is heads g y k i f e h z = go (ℕ_discrete y.from 0)
   where
     whole : List ℕ
-    whole = regenerated d g.slots qs i
+    whole = made_of g i
 
     before : length (part heads (16 * i) y.head) ≡ y.head
     before = length_part heads (16 * i) y.head (omega (arith, f.head))
 
-    strip : regenerated d (strip_of g.slots (y.from + k - y.head) (y.size - k)) qs i ≡ part whole (y.from + k - y.head) (y.size - k)
-    strip = let q = split g y k f e in regenerated_strip d g.slots qs i (y.from + k - y.head) (y.size - k) (omega (arith, q.small, q.inner, q.past, f.inside))
+    strip : regenerated g.desk.now (strip_of g.slots (y.from + k - y.head) (y.size - k)) (points_of g.basis) i ≡ part whole (y.from + k - y.head) (y.size - k)
+    strip = let q = split g y k f e in regenerated_strip g.desk.now g.slots (points_of g.basis) i (y.from + k - y.head) (y.size - k) (omega (arith, q.small, q.inner, q.past, f.inside))
 
-    go : Dec (y.from ≡ 0) → part heads (16 * i) k ++ regenerated d (strip_of g.slots (y.from + k - y.head) (y.size - k)) qs i ≡ part (message_in heads y.head d g.slots qs i) y.from y.size
+    go : Dec (y.from ≡ 0) → part heads (16 * i) k ++ regenerated g.desk.now (strip_of g.slots (y.from + k - y.head) (y.size - k)) (points_of g.basis) i ≡ part (message_of_entry heads y.head g i) y.from y.size
     go (yes a) =
         let q : k ≡ y.head = e ∙ sym (head_first y a) in
         let o : y.from + k - y.head ≡ 0 = omega arith in
         let n : y.size - k ≡ y.size - y.head = omega arith in
         ap₂ (λ (u v : List ℕ). u ++ v) (ap (part heads (16 * i)) q) (strip ∙ ap₂ (part whole) o n)
         ∙ over_both (part heads (16 * i) y.head) whole y.head y.size before (f.first a)
-        ∙ ap (λ (j : ℕ). part (message_in heads y.head d g.slots qs i) j y.size) (sym a)
+        ∙ ap (λ (j : ℕ). part (message_of_entry heads y.head g i) j y.size) (sym a)
     go (no a) =
         let q : k ≡ 0 = e ∙ sym (head_later y a) in
         let o : y.from + k - y.head ≡ y.from - y.head = omega arith in
@@ -138,14 +131,14 @@ stretch_is heads d qs g y k i f e h z = go (ℕ_discrete y.from 0)
 
 -- ---- the stretches of a group, side by side
 -- the strip t of the fragments, and the batch x of the stretches
-module _ (d qs : List ℕ) (t : Slots) (g : Group) (y : Stretch) (k : ℕ) (f : Fits g y) (e : k ≡ head_in y) (et : t ≡ strip_of g.slots (y.from + k - y.head) (y.size - k)) where
+module _ (t : Slots) (g : Group) (y : Stretch) (k : ℕ) (f : Fits g y) (e : k ≡ head_in y) (et : t ≡ strip_of g.slots (y.from + k - y.head) (y.size - k)) where
   pub strip_short : t.fragment ≤ 192
   strip_short = rw et (omega (arith, f.short))
 
-  pub strip_lies : Sources d g.slots qs → Sources d t qs
-  strip_lies u =
+  pub strip_lies : Sources g.desk.now t (points_of g.basis)
+  strip_lies =
       let q = split g y k f e in
-      rw et (strip_sources d g.slots qs (y.from + k - y.head) (y.size - k) (omega (arith, q.small, q.inner, q.past, f.inside)) u)
+      rw et (strip_sources g.desk.now g.slots (points_of g.basis) (y.from + k - y.head) (y.size - k) (omega (arith, q.small, q.inner, q.past, f.inside)) g.sources)
 
   module _ (x : Batch) (ex : x ≡ batch_in g k t.fragment) where
     pub sizes : x.heads.size + x.bodies.size ≡ y.size
@@ -154,34 +147,33 @@ module _ (d qs : List ℕ) (t : Slots) (g : Group) (y : Stretch) (k : ℕ) (f : 
     pub lanes_are : x.n ≡ g.n
     lanes_are = ap (λ (b : Batch). b.n) ex
 
-    module _ (heads rows : List ℕ) (z : length heads ≡ 256) (r : Rowed d t qs g.first g.n rows) where
+    module _ (heads rows : List ℕ) (z : length heads ≡ 256) (r : Rowed g.desk.now t (points_of g.basis) g.first g.n rows) where
       pub stretches_lie : Lying heads rows x
       stretches_lie =
           rw ex (record {
-            of_heads = λ i h. omega (arith, f.group.below, f.head, (split g y k f e).small);
-            of_bodies = λ i h. omega (arith, f.group.few, strip_short, r.long);
+            of_heads = λ i h. omega (arith, g.hashable.below, f.head, (split g y k f e).small);
+            of_bodies = λ i h. omega (arith, g.hashable.few, strip_short, r.long);
           })
 
-      stretch_of : (l : ℕ) → l < g.n → message_of heads rows x l ≡ part (message_in heads y.head d g.slots qs (g.first + l)) y.from y.size
+      stretch_of : (l : ℕ) → l < g.n → message_of heads rows x l ≡ part (message_of_entry heads y.head g (g.first + l)) y.from y.size
       stretch_of l h =
           let a : 16 * g.first + l * 16 ≡ 16 * (g.first + l) = omega arith in
           let b : 0 + l * 192 ≡ 192 * l = omega arith in
           ap (λ (b : Batch). message_of heads rows b l) ex
-          ∙ ap₂ (λ (u v : List ℕ). u ++ v) (ap (λ (i : ℕ). part heads i k) a) (ap (λ (i : ℕ). part rows i t.fragment) b ∙ r.held l h ∙ ap (λ (v : Slots). regenerated d v qs (g.first + l)) et)
-          ∙ stretch_is heads d qs g y k (g.first + l) f e (omega (arith, f.group.below)) z
+          ∙ ap₂ (λ (u v : List ℕ). u ++ v) (ap (λ (i : ℕ). part heads i k) a) (ap (λ (i : ℕ). part rows i t.fragment) b ∙ r.held l h ∙ ap (λ (v : Slots). regenerated g.desk.now v (points_of g.basis) (g.first + l)) et)
+          ∙ stretch_is heads g y k (g.first + l) f e (omega (arith, g.hashable.below)) z
 
       pub taken_in : (old new : List ℕ) → EachLane (λ l. after (lane_of old l) y.blocks (ended y.from (message_of heads rows x l))) x.n old new
-          → EachLane (λ l. after (lane_of old l) y.blocks (ended y.from (part (message_in heads y.head d g.slots qs (g.first + l)) y.from y.size))) g.n old new
+          → EachLane (λ l. after (lane_of old l) y.blocks (ended y.from (part (message_of_entry heads y.head g (g.first + l)) y.from y.size))) g.n old new
       taken_in old new u =
           each_as _ _ g.n old new (λ l h. ap (λ (m : List ℕ). after (lane_of old l) y.blocks (ended y.from m)) (stretch_of l h))
           (subst (λ (n : ℕ). EachLane (λ l. after (lane_of old l) y.blocks (ended y.from (message_of heads rows x l))) n old new) lanes_are u)
 
 -- ---- stretch after stretch
-module _ (g : Group) (head : ℕ) (u : Hashable g) (b : head ≤ 16) where
+module _ (g : Group) (head : ℕ) (b : head ≤ 16) where
   pub fits_whole : (from : ℕ) → from % 192 ≡ 0 → from + 192 < head + g.slots.fragment → Fits g (record { head = head; from = from; size = 192; blocks = 3 })
   fits_whole from z h =
       record {
-        group = u;
         head = b;
         inside = omega arith;
         short = omega arith;
@@ -194,7 +186,6 @@ module _ (g : Group) (head : ℕ) (u : Hashable g) (b : head ≤ 16) where
   pub fits_last : (from n : ℕ) → LastFrom (head + g.slots.fragment) from → n ≡ head + g.slots.fragment - from → Fits g (record { head = head; from = from; size = n; blocks = (n + 72) / 64 })
   fits_last from n l e =
       record {
-        group = u;
         head = b;
         inside = omega (arith, l.some);
         short = omega (arith, l.rest);
@@ -204,37 +195,37 @@ module _ (g : Group) (head : ℕ) (u : Hashable g) (b : head ≤ 16) where
         blocks = omega arith;
       }
 
-module _ (heads d : List ℕ) (g : Group) (head : ℕ) (src : Sources d g.slots (points_of g.basis)) (z : length heads ≡ 256) where
-  message_long : (i : ℕ) → i < 16 → head ≤ 16 → length (message_in heads head d g.slots (points_of g.basis) i) ≡ head + g.slots.fragment
+module _ (heads : List ℕ) (g : Group) (head : ℕ) (z : length heads ≡ 256) where
+  message_long : (i : ℕ) → i < 16 → head ≤ 16 → length (message_of_entry heads head g i) ≡ head + g.slots.fragment
   message_long i h b =
-      length-append (part heads (16 * i) head) (regenerated d g.slots (points_of g.basis) i)
-      ∙ ap₂ (λ (x y : ℕ). x + y) (length_part heads (16 * i) head (omega arith)) (length_regenerated d g.slots (points_of g.basis) i src)
+      length-append (part heads (16 * i) head) (made_of g i)
+      ∙ ap₂ (λ (x y : ℕ). x + y) (length_part heads (16 * i) head (omega arith)) (length_regenerated g.desk.now g.slots (points_of g.basis) i g.sources)
 
-  pub taken_none : (old h : List ℕ) → EachLane (λ l. H0) g.n old h → Taken heads head d g 0 h
+  pub taken_none : (old h : List ℕ) → EachLane (λ l. H0) g.n old h → Taken heads head g 0 h
   unfolding after
   taken_none old h u = record { long = u.long; done = u.done }
 
   -- a stretch more: of whole blocks, or the last
   pub taken_more : (y : Stretch) (k : ℕ) (old new : List ℕ) → Fits g y → y.head ≡ head → k ≡ y.from / 64 + y.blocks
       → (y.size < 64 * y.blocks → y.from + y.size ≡ head + g.slots.fragment)
-      → Taken heads head d g (y.from / 64) old
-      → EachLane (λ l. after (lane_of old l) y.blocks (ended y.from (part (message_in heads y.head d g.slots (points_of g.basis) (g.first + l)) y.from y.size))) g.n old new
-      → Taken heads head d g k new
+      → Taken heads head g (y.from / 64) old
+      → EachLane (λ l. after (lane_of old l) y.blocks (ended y.from (part (message_of_entry heads y.head g (g.first + l)) y.from y.size))) g.n old new
+      → Taken heads head g k new
   taken_more y k old new f e q w t u = record { long = u.long; done = λ l h. more l h }
     where
-      more : (l : ℕ) → l < g.n → lane_of new l ≡ after H0 k (ended 0 (message_in heads head d g.slots (points_of g.basis) (g.first + l)))
+      more : (l : ℕ) → l < g.n → lane_of new l ≡ after H0 k (ended 0 (message_of_entry heads head g (g.first + l)))
       more l h =
-          let m : List ℕ = message_in heads head d g.slots (points_of g.basis) (g.first + l) in
-          let n : length (message_in heads head d g.slots (points_of g.basis) (g.first + l)) ≡ head + g.slots.fragment = message_long (g.first + l) (omega (arith, f.group.below)) (omega (arith, f.head)) in
+          let m : List ℕ = message_of_entry heads head g (g.first + l) in
+          let n : length (message_of_entry heads head g (g.first + l)) ≡ head + g.slots.fragment = message_long (g.first + l) (omega (arith, g.hashable.below)) (omega (arith, f.head)) in
           u.done l h
-          ∙ ap (λ (k : ℕ). after (lane_of old l) y.blocks (ended y.from (part (message_in heads k d g.slots (points_of g.basis) (g.first + l)) y.from y.size))) e
+          ∙ ap (λ (k : ℕ). after (lane_of old l) y.blocks (ended y.from (part (message_of_entry heads k g (g.first + l)) y.from y.size))) e
           ∙ ap (λ (x : State). after x y.blocks (ended y.from (part m y.from y.size))) (t.done l h)
           ∙ after_stretch H0 m y.from y.size y.blocks f.whole (omega (arith, f.inside)) (λ b. w b ∙ sym n)
           ∙ ap (λ (x : ℕ). after H0 x (ended 0 m)) (sym q)
 
   pub all_taken : (p : Plan) (k : ℕ) (h : List ℕ) → head ≤ 16 → g.first + g.n ≤ 16 → k ≡ (head + g.slots.fragment + 72) / 64 → ((i : ℕ) → i < 16 → part heads (16 * i) head ≡ prefix_of p i)
-      → Taken heads head d g k h → (l : ℕ) → l < g.n → bytes_of (lane_of h l) ≡ fragment_hash p (g.first + l) (regenerated d g.slots (points_of g.basis) (g.first + l))
+      → Taken heads head g k h → (l : ℕ) → l < g.n → bytes_of (lane_of h l) ≡ fragment_hash p (g.first + l) (made_of g (g.first + l))
   all_taken p k h b c e q t l i =
-      hash_of (message_in heads head d g.slots (points_of g.basis) (g.first + l)) (head + g.slots.fragment) (lane_of h l) H0 (message_long (g.first + l) (omega arith) b) refl
-      (t.done l i ∙ ap (λ (x : ℕ). after H0 x (ended 0 (message_in heads head d g.slots (points_of g.basis) (g.first + l)))) e)
-      ∙ hashed p (g.first + l) (part heads (16 * (g.first + l)) head) (regenerated d g.slots (points_of g.basis) (g.first + l)) (q (g.first + l) (omega arith))
+      hash_of (message_of_entry heads head g (g.first + l)) (head + g.slots.fragment) (lane_of h l) H0 (message_long (g.first + l) (omega arith) b) refl
+      (t.done l i ∙ ap (λ (x : ℕ). after H0 x (ended 0 (message_of_entry heads head g (g.first + l)))) e)
+      ∙ hashed p (g.first + l) (part heads (16 * (g.first + l)) head) (made_of g (g.first + l)) (q (g.first + l) (omega arith))

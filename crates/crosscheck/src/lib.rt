@@ -9,23 +9,17 @@ ghost use Rattle.sha256.specs.Sha256.{after, ended, bytes_of};
 ghost use Rattle.lanes.specs.Lanes.{lane_of, EachLane};
 ghost use Rattle.terms.specs.Terms.{plan_ok, slots_of};
 ghost use Rattle.fragments.specs.Fragments.{Sources, regenerated};
-ghost use Rattle.fragments.specs.Inside.{strip_of, points_of, Ready};
+ghost use Rattle.fragments.specs.Inside.{strip_of, points_of};
 ghost use Rattle.record.specs.Record.{fragment_hash};
 ghost use Rattle.record.specs.Desk.{row, cross_made};
-ghost use Rattle.crosscheck.specs.Inside.{entries_of, message_in, head_in, batch_in, Rowed, Hashable, Fits, Taken, LastFrom};
+ghost use Rattle.crosscheck.specs.Inside.{entries_of, message_of_entry, head_in, batch_in, Rowed, Fits, Taken, LastFrom};
+
+pub mod group;
 
 use fragments::Basis;
-use lanes::{Batch, Rows};
-use terms::{Plan, Slots};
-
-// Some fragments of a set, side by side: so many, from the first on, each made from the sources of the basis in the slots.
-#[derive(Clone, Copy)]
-pub struct Group {
-    pub slots: Slots,
-    pub basis: Basis,
-    pub first: usize,
-    pub n: usize,
-}
+pub use group::Group;
+use lanes::{Batch, Messages, Rows};
+use terms::{Accepted, Plan, Slots};
 
 // A stretch of what is hashed for an entry, which is `head` bytes and then the fragment: where it begins, how long it is, and how many blocks it
 // gives.
@@ -58,24 +52,21 @@ fn strip(slots: Slots, y: Stretch, k: usize) -> Slots
 }
 
 // The strip t of each fragment of a group, in rows of 192 bytes.
-fn rows(desk: &[u8], t: Slots, g: Group, out: &mut [u8])
-    requires { (Ready g.basis) × (Sources desk.now t (points_of g.basis)) × (t.fragment ≤ 192) × (g.n ≤ 8) × (g.first + g.n ≤ 16) × (length out.old ≡ 1536) }
-    ensures { Rowed desk.now t (points_of g.basis) g.first g.n out.new }
+fn rows(t: Slots, g: Group, out: &mut [u8; 1536])
+    requires { (Sources g.desk.now t (points_of g.basis)) × (t.fragment ≤ 192) }
+    ensures { Rowed g.entry.desk.now t (points_of g.entry.basis) g.entry.first g.entry.n out.new }
 {
-    let mut l: usize = 0;
-    while l < g.n {
+    for l in 0..g.n {
         let i = g.first + l;
         let a = 192 * l;
         let e = a + t.fragment;
-        fragments::regenerate(desk, t, g.basis, i as u8, &mut out[a..e]);
-        l += 1;
+        fragments::regenerate(g.desk, t, g.basis, i as u8, &mut out[a..e]);
     }
 }
 
 // A stretch of what is hashed for the entries of a group: k bytes that stand before each fragment, and n bytes of it in its row.
 fn batch(g: Group, k: usize, n: usize) -> Batch
-    requires { g.first ≤ 16 }
-    ensures { result ≡ batch_in g k n }
+    ensures { result ≡ batch_in g.entry k n }
 {
     let heads = Rows {
         first: 16 * g.first,
@@ -88,73 +79,70 @@ fn batch(g: Group, k: usize, n: usize) -> Batch
         size: n,
     };
     Batch {
-        heads: heads,
-        bodies: bodies,
+        heads,
+        bodies,
         n: g.n,
     }
 }
 
 // A stretch of every fragment of a group, regenerated into rows and taken into the hashes.
-fn take_in(h: &mut [u32; 64], heads: &[u8], desk: &[u8], g: Group, y: Stretch, scratch: &mut [u8])
-    requires { (Ready g.basis) × (Sources desk.now g.slots (points_of g.basis)) × (Fits g y) × (length heads.now ≡ 256) × (length h.old ≡ 64) × (length scratch.old ≡ 1536) }
-    ensures { (length scratch.new ≡ 1536)
-        × (EachLane (λ l. after (lane_of h.old l) y.blocks (ended y.from (part (message_in heads.now y.head desk.now g.slots (points_of g.basis) (g.first + l)) y.from y.size)))
-        g.n h.old h.new) }
+fn take_in(h: &mut [u32; 64], heads: &[u8; 256], g: Group, y: Stretch, scratch: &mut [u8; 1536])
+    requires { Fits g y }
+    ensures { EachLane (λ l. after (lane_of h.old l) y.blocks (ended y.from (part (message_of_entry heads.now y.head g.entry (g.entry.first + l)) y.from y.size)))
+        g.entry.n h.old h.new }
 {
     let k = head_in(y);
     let t = strip(g.slots, y, k);
-    rows(desk, t, g, scratch);
-    let x = batch(g, k, t.fragment);
-    lanes::absorb(h, heads, &scratch[..], x, y.from, y.blocks);
+    rows(t, g, scratch);
+    let m = Messages {
+        heads,
+        bodies: &scratch[..],
+        batch: batch(g, k, t.fragment),
+    };
+    lanes::absorb(h, &m, y.from, y.blocks);
 }
 
 // All stretches of 192 bytes but the last, which may be shorter; where the last begins.
 fn whole_stretches(
     h: &mut [u32; 64],
-    heads: &[u8],
+    heads: &[u8; 256],
     head: usize,
-    desk: &[u8],
     g: Group,
-    scratch: &mut [u8],
+    scratch: &mut [u8; 1536],
 ) -> usize
-    requires { (Ready g.basis) × (Sources desk.now g.slots (points_of g.basis)) × (Hashable g) × (head ≤ 16) × (length heads.now ≡ 256) × (length scratch.old ≡ 1536)
-        × (Taken heads.now head desk.now g 0 h.old) }
-    ensures { (length scratch.new ≡ 1536) × (LastFrom (head + g.slots.fragment) result)
-        × (Taken heads.now head desk.now g (result / 64) h.new) }
+    requires { (head ≤ 16) × (Taken heads.now head g 0 h.old) }
+    ensures { (LastFrom (head + g.entry.slots.fragment) result) × (Taken heads.now head g.entry (result / 64) h.new) }
 {
-    let all = head + g.slots.fragment;
-    let mut from: usize = 0;
-    while from + 192 < all {
+    let whole = (head + g.slots.fragment - 1) / 192;
+    for k in 0..whole {
         let y = Stretch {
-            head: head,
-            from: from,
+            head,
+            from: 192 * k,
             size: 192,
             blocks: 3,
         };
-        take_in(h, heads, desk, g, y, scratch);
-        from += 192;
+        take_in(h, heads, g, y, scratch);
     }
-    from
+    192 * whole
 }
 
 // The hashes of the fragments of a group, stretch by stretch: no more than 192 bytes of each are at hand.
-fn hash_all(p: Plan, desk: &[u8], g: Group, h: &mut [u32; 64], scratch: &mut [u8])
-    requires { (Ready g.basis) × (Sources desk.now g.slots (points_of g.basis)) × (Hashable g) × (length h.old ≡ 64) × (length scratch.old ≡ 1536) }
-    ensures { (length scratch.new ≡ 1536) × ((l : ℕ) → l < g.n
-        → bytes_of (lane_of h.new l) ≡ fragment_hash p (g.first + l) (regenerated desk.now g.slots (points_of g.basis) (g.first + l))) }
+fn hash_all(p: Plan, g: Group, h: &mut [u32; 64], scratch: &mut [u8; 1536])
+    ensures { (l : ℕ) → l < g.entry.n
+        → bytes_of (lane_of h.new l) ≡ fragment_hash p (g.entry.first + l) (regenerated g.entry.desk.now g.entry.slots (points_of g.entry.basis) (g.entry.first + l)) }
 {
     let x = record::prefixes(p);
     let heads = x.bytes;
     lanes::start(h, g.n);
-    let from = whole_stretches(h, &heads, x.size, desk, g, scratch);
+    let from = whole_stretches(h, &heads, x.size, g, scratch);
     let left = x.size + g.slots.fragment - from;
     let y = Stretch {
         head: x.size,
-        from: from,
+        from,
         size: left,
         blocks: (left + 72) / 64,
     };
-    take_in(h, &heads, desk, g, y, scratch);
+    take_in(h, &heads, g, y, scratch);
 }
 
 // Whether the hashes of the first n lanes are the entries from `at` on.
@@ -162,69 +150,65 @@ fn are_entries(h: &[u32; 64], n: usize, s: &[u8], at: usize) -> bool
     requires { (n ≤ 8) × (at + 32 * n ≤ length s.now) }
     ensures { result ≡ alike (row (λ l. bytes_of (lane_of h.now l)) n) (part s.now at (32 * n)) }
 {
-    let mut l: usize = 0;
-    while l < n {
+    for l in 0..n {
         let d = lanes::hash_of(h, l);
         if !octets::same(&d, 0, s, at + 32 * l, 32) {
             return false;
         }
-        l += 1;
     }
     true
 }
 
 // Whether the hashes of a group, made side by side, are their entries of the cross checksum at `at`.
-fn together(p: Plan, desk: &[u8], g: Group, at: usize, scratch: &mut [u8]) -> bool
-    requires { (Ready g.basis) × (Sources desk.now g.slots (points_of g.basis)) × (Hashable g) × (at + 32 * (g.first + g.n) ≤ length desk.now) × (length scratch.old ≡ 1536) }
-    ensures { (length scratch.new ≡ 1536)
-        × (result ≡ alike (entries_of p desk.now g.slots (points_of g.basis) g.first g.n) (part desk.now (at + 32 * g.first) (32 * g.n))) }
+fn together(p: Plan, g: Group, at: usize, scratch: &mut [u8; 1536]) -> bool
+    requires { at + 32 * (g.first + g.n) ≤ length g.desk.now }
+    ensures { result ≡ alike (entries_of p g.entry) (part g.entry.desk.now (at + 32 * g.entry.first) (32 * g.entry.n)) }
 {
     let mut h = [0u32; 64];
-    hash_all(p, desk, g, &mut h, scratch);
-    are_entries(&h, g.n, desk, at + 32 * g.first)
+    hash_all(p, g, &mut h, scratch);
+    are_entries(&h, g.n, g.desk, at + 32 * g.first)
 }
 
 // The same of a group of one.
-fn alone(p: Plan, desk: &[u8], g: Group, at: usize, scratch: &mut [u8]) -> bool
-    requires { (Ready g.basis) × (Sources desk.now g.slots (points_of g.basis)) × (Hashable g) × (g.n ≡ 1) × (at + 32 * (g.first + g.n) ≤ length desk.now) × (length scratch.old ≡ 1536) }
-    ensures { (length scratch.new ≡ 1536)
-        × (result ≡ alike (entries_of p desk.now g.slots (points_of g.basis) g.first g.n) (part desk.now (at + 32 * g.first) (32 * g.n))) }
+fn alone(p: Plan, g: Group, at: usize, scratch: &mut [u8; 1536]) -> bool
+    requires { (g.n ≡ 1) × (at + 32 * (g.first + g.n) ≤ length g.desk.now) }
+    ensures { result ≡ alike (entries_of p g.entry) (part g.entry.desk.now (at + 32 * g.entry.first) (32 * g.entry.n)) }
 {
     let f = g.slots.fragment;
     let i = g.first;
-    fragments::regenerate(desk, g.slots, g.basis, i as u8, &mut scratch[..f]);
-    record::entry_ok(p, i, &scratch[..f], desk, at + 32 * i)
+    fragments::regenerate(g.desk, g.slots, g.basis, i as u8, &mut scratch[..f]);
+    record::entry_ok(p, i, &scratch[..f], g.desk, at + 32 * i)
 }
 
 // The same of a group that may be one fragment.
-fn some_agree(p: Plan, desk: &[u8], g: Group, at: usize, scratch: &mut [u8]) -> bool
-    requires { (Ready g.basis) × (Sources desk.now g.slots (points_of g.basis)) × (Hashable g) × (at + 32 * (g.first + g.n) ≤ length desk.now) × (length scratch.old ≡ 1536) }
-    ensures { (length scratch.new ≡ 1536)
-        × (result ≡ alike (entries_of p desk.now g.slots (points_of g.basis) g.first g.n) (part desk.now (at + 32 * g.first) (32 * g.n))) }
+fn some_agree(p: Plan, g: Group, at: usize, scratch: &mut [u8; 1536]) -> bool
+    requires { at + 32 * (g.first + g.n) ≤ length g.desk.now }
+    ensures { result ≡ alike (entries_of p g.entry) (part g.entry.desk.now (at + 32 * g.entry.first) (32 * g.entry.n)) }
 {
     if g.n == 1 {
-        alone(p, desk, g, at, scratch)
+        alone(p, g, at, scratch)
     } else {
-        together(p, desk, g, at, scratch)
+        together(p, g, at, scratch)
     }
 }
 
-// All entries, some at a time.
-fn all_agree(p: Plan, desk: &[u8], b: Basis, at: usize, scratch: &mut [u8]) -> bool
-    requires { (plan_ok p ≡ true) × (Sources desk.now (slots_of p) (points_of b)) × (length scratch.old ≡ 1536) × (at + 32 * p.n ≤ length desk.now) × (Ready b) }
-    ensures { result ≡ alike (cross_made p (regenerated desk.now (slots_of p) (points_of b)) p.n) (part desk.now at (32 * p.n)) }
+// All entries, some at a time. A `while`: each turn takes as many as `at_once` says.
+fn all_agree(p: Accepted, desk: &[u8], b: Basis, at: usize, scratch: &mut [u8; 1536]) -> bool
+    requires { (Sources desk.now (slots_of p.plan) (points_of b)) × (at + 32 * p.plan.n ≤ length desk.now) }
+    ensures { result ≡ alike (cross_made p.plan (regenerated desk.now (slots_of p.plan) (points_of b)) p.plan.n) (part desk.now at (32 * p.plan.n)) }
 {
     let slots = terms::slots_of(p);
     let n = slots.n;
     let mut i: usize = 0;
     while i < n {
         let g = Group {
-            slots: slots,
+            desk,
+            slots,
             basis: b,
             first: i,
             n: lanes::at_once(n - i),
         };
-        if !some_agree(p, desk, g, at, scratch) {
+        if !some_agree(p.plan, g, at, scratch) {
             return false;
         }
         i += g.n;
@@ -233,9 +217,9 @@ fn all_agree(p: Plan, desk: &[u8], b: Basis, at: usize, scratch: &mut [u8]) -> b
 }
 
 // Whether the cross checksum at `at` of a desk is that of the N fragments that are regenerated from the basis.
-pub fn agrees(p: Plan, desk: &[u8], b: Basis, at: usize) -> bool
-    requires { (plan_ok p ≡ true) × (Sources desk.now (slots_of p) (points_of b)) × (at + 32 * p.n ≤ length desk.now) × (Ready b) }
-    ensures { result ≡ alike (cross_made p (regenerated desk.now (slots_of p) (points_of b)) p.n) (part desk.now at (32 * p.n)) }
+pub fn agrees(p: Accepted, desk: &[u8], b: Basis, at: usize) -> bool
+    requires { (Sources desk.now (slots_of p.plan) (points_of b)) × (at + 32 * p.plan.n ≤ length desk.now) }
+    ensures { result ≡ alike (cross_made p.plan (regenerated desk.now (slots_of p.plan) (points_of b)) p.plan.n) (part desk.now at (32 * p.plan.n)) }
 {
     let mut scratch = [0u8; 1536];
     all_agree(p, desk, b, at, &mut scratch)

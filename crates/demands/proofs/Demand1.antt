@@ -4,6 +4,9 @@
 -- everything is as it came; or no refusal applies, and it is answered as document 01 says. That a call ends at all is part of its being
 -- proved. Demand 2's "Each refusal is given exactly when document 01 says" stands in Refusals. Assumes nothing.
 --   node_ends run_ends fresh_ends opening_ends owed_ends write_ends read_ends wish_ends
+use Rattle.terms.specs.declared.Refusal.{Refusal}
+use Prim.{Unit}
+use Rattle.std.specs.Prelude.{Result}
 use Prim.Native.Nat.{ℕ}
 use mathlib.Core.Path.{◌≡◌, refl, sym, ap, ◌∙◌, subst}
 use mathlib.Core.Bool.{false}
@@ -17,9 +20,7 @@ use Rattle.terms.specs.declared.Plan.{Plan}
 use Rattle.book.specs.Book.{laid_out}
 use Rattle.frame.specs.Frame.{header_in, frame_node, body_of}
 use Rattle.rounds.specs.declared.Heard.TheVariants.{Record}
-use Rattle.rounds.specs.declared.Bound.TheVariants.{Free}
-use Rattle.node.specs.declared.Answer.{Answer}
-use Rattle.node.specs.declared.Made.{Made}
+use Rattle.std.proofs.Common.{None}
 use Rattle.node.specs.Node as node
 use Rattle.node.specs.Node.{NodeCall, node_ladder, served, answered}
 use Rattle.node.specs.Fresh as fresh
@@ -31,7 +32,6 @@ use Rattle.session.specs.declared.Session.{Session}
 use Rattle.standing.specs.declared.Operation.{Operation}
 use Rattle.session.specs.declared.Took.{Took}
 use Rattle.session.specs.declared.opening.Opened.{Opened}
-use Rattle.session.specs.declared.owed.Owed.{Owed}
 use Rattle.session.specs.Session as session
 use Rattle.standing.specs.Standing.{is_storing}
 use Rattle.session.specs.Session.{marked_of, said_of, is_refused}
@@ -48,13 +48,12 @@ use Rattle.client.proofs.Reading as reading
 use Rattle.client.proofs.Writing as writing
 use Rattle.client.proofs.Round.Reply.{settled_taken}
 use Rattle.wish.specs.declared.Wish.{Wish}
-use Rattle.wish.specs.declared.Smallest.{Smallest}
 use Rattle.wish.specs.Wish as wish
-use Rattle.wish.specs.Wish.{SaidSmallest, said_smallest, wish_ladder, Says, SmallestCall}
+use Rattle.wish.specs.Wish.{Smallest, SaidSmallest, said_smallest, wish_ladder, Says, SmallestCall}
 use Rattle.demands.specs.Ends.{Ends, refuses, accepts, Granted}
 
 -- ---- the node: order 1 to 8; a reply frame of some length, or nothing but the refusal
-pub node_ends : (p : Plan) (f b y : List ℕ) (a : Answer) (b₂ y₂ : List ℕ) → NodeCall p f b y a b₂ y₂
+pub node_ends : (p : Plan) (f b y : List ℕ) (a : Result ℕ Refusal) (b₂ y₂ : List ℕ) → NodeCall p f b y a b₂ y₂
     → Ends (node_ladder p f b y) (λ (k : ℕ). (node.said_served a ≡ node.refused k) × (b₂ ≡ b) × (y₂ ≡ y))
     (node.served_outcome (node.said_served a) b₂ y₂ ≡ answered p (header_in f) (body_of f) b y)
 unfolding served
@@ -68,7 +67,7 @@ node_ends p f b y a b₂ y₂ c =
     c.is
 
 -- a run: order 1, 2, 21, 3; the frames that were cut, or nothing but the refusal
-pub run_ends : (p : Plan) (s b y z : List ℕ) (a : Ran) (b₂ y₂ z₂ : List ℕ) → RunCall p s b y z a b₂ y₂ z₂
+pub run_ends : (p : Plan) (s b y z : List ℕ) (a : Result Ran Refusal) (b₂ y₂ z₂ : List ℕ) → RunCall p s b y z a b₂ y₂ z₂
     → Ends (run_ladder p s b y z) (λ (k : ℕ). (said_ran a ≡ runs.refused k) × (b₂ ≡ b) × (y₂ ≡ y) × (z₂ ≡ z)) (run_outcome (said_ran a) b₂ y₂ z₂ ≡ run_of p s b y z)
 unfolding ran_over
 run_ends p s b y z a b₂ y₂ z₂ c =
@@ -81,7 +80,7 @@ run_ends p s b y z a b₂ y₂ z₂ c =
     c.is
 
 -- a fresh book: order 1, 2, 4
-pub fresh_ends : (p : Plan) (n : ℕ) (b : List ℕ) (a : Made) (b₂ : List ℕ) → FreshCall p n b a b₂
+pub fresh_ends : (p : Plan) (n : ℕ) (b : List ℕ) (a : Result (Unit {0}) Refusal) (b₂ : List ℕ) → FreshCall p n b a b₂
     → Ends (fresh_ladder p n b) (λ (k : ℕ). (said_made a ≡ fresh.refused k) × (b₂ ≡ b)) ((said_made a ≡ fresh.made) × (b₂ ≡ over (laid_out p n []) b))
 unfolding freshened
 fresh_ends p n b a b₂ c =
@@ -96,20 +95,20 @@ fresh_ends p n b a b₂ c =
 -- ---- an opening: order 1, 13; there is no session to hand back
 pub opening_ends : (op : Operation) (p : Plan) (a : Ask) (r : Opened) → OpenCall op p a r
     → Ends (opening_ladder p a.0) (λ (k : ℕ). (opening_number r.answer ≡ k) × (r.session ≡ no_session op))
-    ((opening_number r.answer ≡ 0) × (r.session ≡ fresh_of op 1 Free a))
+    ((opening_number r.answer ≡ 0) × (r.session ≡ fresh_of op 1 None a))
 unfolding open_with
 opening_ends op p a r c =
     ladders.by_ladder
     (λ (o : Opens). opens (opening_number r.answer) r.session ≡ o
     → Ends (opening_ladder p a.0) (λ (k : ℕ). (opening_number r.answer ≡ k) × (r.session ≡ no_session op))
-    ((opening_number r.answer ≡ 0) × (r.session ≡ fresh_of op 1 Free a)))
-    (opening_ladder p a.0) (λ (k : ℕ). opens k (no_session op)) (opens 0 (fresh_of op 1 Free a))
+    ((opening_number r.answer ≡ 0) × (r.session ≡ fresh_of op 1 None a)))
+    (opening_ladder p a.0) (λ (k : ℕ). opens k (no_session op)) (opens 0 (fresh_of op 1 None a))
     (λ k g h. refuses k g (ap (λ (o : Opens). o.number) h, ap (λ (o : Opens). o.session) h))
     (λ m h. accepts m (ap (λ (o : Opens). o.number) h, ap (λ (o : Opens). o.session) h))
     c.is
 
 -- ---- a request owed: order 1, 2, 9, 14, 4, 11; the session comes by value and stays
-pub owed_ends : (p : Plan) (s : Session) (n : ℕ) (d q : List ℕ) (r : Owed) (q₂ : List ℕ) → OwedCall p s n d q r q₂
+pub owed_ends : (p : Plan) (s : Session) (n : ℕ) (d q : List ℕ) (r : Result ℕ Refusal) (q₂ : List ℕ) → OwedCall p s n d q r q₂
     → Ends (owed_ladder p s n d (length q)) (λ (k : ℕ). (due_of r ≡ owed.refused k) × (q₂ ≡ q))
     ((due_of r ≡ owed.written (length (request_of p s n d))) × (q₂ ≡ over (request_of p s n d) q))
 unfolding owed_to

@@ -14,6 +14,9 @@
 -- The figures are in report/specs, with (01) beside what document 01 adds or closes. That the hash and the field are those of the papers is
 -- said by the contracts of `digest`, `product` and `quotient`, over sha256/specs and field/specs. Each refusal exactly: Refusals.
 -- Assumes nothing.
+use Rattle.terms.specs.declared.Refusal.{Refusal}
+use Prim.{tt}
+use Rattle.std.specs.Prelude.{Result, Ok}
 use Prim.Native.Nat.{ℕ, ◌*◌, ◌≤◌, ◌<◌}
 use mathlib.Core.Path.{◌≡◌}
 use mathlib.Core.Bool.{true, false}
@@ -30,13 +33,9 @@ use Rattle.terms.specs.declared.Timestamp.{Timestamp}
 use Rattle.terms.specs.declared.Clients.TheVariants.{Byzantine}
 use Rattle.frame.specs.Frame.{write_request_kind, kind_of, body_of, good_request}
 use Rattle.book.specs.Book.{node_of}
-use Rattle.node.specs.declared.Answer.{Answer}
-use Rattle.node.specs.declared.Answer.TheVariants.{Replied}
-use Rattle.node.specs.declared.Made.TheVariants.{Fresh}
 use Rattle.node.specs.Node.{NodeCall}
 use Rattle.node.specs.Fresh.{FreshCall}
 use Rattle.session.specs.declared.opening.Opened.{Opened}
-use Rattle.session.specs.declared.opening.Opening.TheVariants.{Accepted}
 use Rattle.standing.specs.declared.Operation.TheVariants.{Write, Read}
 use Rattle.session.specs.Opening.{OpenCall}
 use Rattle.recover.specs.Records.{stamp_for, records_for}
@@ -60,7 +59,6 @@ use Rattle.report.proofs.Run.{opened_read}
 use Rattle.report.proofs.Write.{opened_write}
 use Rattle.report.specs.Table2.{Ranges, Table2Of}
 use Rattle.report.specs.Acts.{AsFigure1, Added, Executes}
-use Rattle.session.specs.declared.owed.Owed.{Owed}
 use Rattle.session.specs.Session.{ask_now}
 use Rattle.session.specs.Owed.{owed_ladder, due_of, OwedCall}
 use Rattle.client.specs.Sessions.{last_session, last_desk}
@@ -75,7 +73,7 @@ plan_as_the_report = accepted_is
 pub plan_by_the_report : (p : Plan) → Ranges p → Table2Of p → plan_ok p ≡ true
 plan_by_the_report = accepted_back
 
-pub node_as_the_report : (p : Plan) (f b y : List ℕ) → Octets f → Octets b → (n : ℕ) (b₂ y₂ : List ℕ) → NodeCall p f b y (Replied n) b₂ y₂
+pub node_as_the_report : (p : Plan) (f b y : List ℕ) → Octets f → Octets b → (n : ℕ) (b₂ y₂ : List ℕ) → NodeCall p f b y (Ok n) b₂ y₂
     → AsFigure1 p f b y b₂ y₂
 node_as_the_report p f b y of ob n b₂ y₂ c =
     record {
@@ -88,23 +86,23 @@ node_as_the_report p f b y of ob n b₂ y₂ c =
 -- A write request that VALIDATE lets through is executed, unless one of the conditions that document 01 adds stands against it (Added): whatever the
 -- call answers. One that VALIDATE turns away leaves the History and sends nothing.
 pub valid_as_the_report : (p : Plan) (f b y : List ℕ) → Octets f → Octets b → Added p f b y → kind_of f ≡ write_request_kind
-    → validate (family p) (node_of b) (triple_of p (body_of f)) ≡ true → (a : Answer) (b₂ y₂ : List ℕ) → NodeCall p f b y a b₂ y₂ → Executes p f b y b₂ y₂
+    → validate (family p) (node_of b) (triple_of p (body_of f)) ≡ true → (a : Result ℕ Refusal) (b₂ y₂ : List ℕ) → NodeCall p f b y a b₂ y₂ → Executes p f b y b₂ y₂
 valid_as_the_report p f b y of ob = valid_executes p f b y ob of
 
 pub invalid_as_the_report : (p : Plan) (f b y : List ℕ) → Octets f → Octets b → good_request p (node_of b) f ≡ true → kind_of f ≡ write_request_kind
     → validate (family p) (node_of b) (triple_of p (body_of f)) ≡ false
-    → (a : Answer) (b₂ y₂ : List ℕ) → NodeCall p f b y a b₂ y₂ → (history p b₂ ≡ history p b) × (y₂ ≡ y)
+    → (a : Result ℕ Refusal) (b₂ y₂ : List ℕ) → NodeCall p f b y a b₂ y₂ → (history p b₂ ≡ history p b) × (y₂ ≡ y)
 invalid_as_the_report p f b y of ob = invalid_acts p f b y ob of
 
 -- Over any calls, from a fresh book on: the versions that a book holds are those that Figure 1 holds from INITIALIZE on, given every well-shaped write
 -- request that 5, 7 and 8 do not bar. Each call has a plan of its own: the book fixes N and F, and under others a call changes nothing.
-pub node_over_time : (p : Plan) (node : ℕ) (b b₂ : List ℕ) (cs : List Call) → FreshCall p node b Fresh b₂ → History b₂ cs → InBytes cs
+pub node_over_time : (p : Plan) (node : ℕ) (b b₂ : List ℕ) (cs : List Call) → FreshCall p node b (Ok tt) b₂ → History b₂ cs → InBytes cs
     → Same (history p (last_book b₂ cs)) (received p node initialize b₂ cs)
 node_over_time = fresh_run
 
 -- Over any replies from an accepted opening on: the write round sends what Figure 2's WRITE sends for the responses of READ_TIMESTAMP and the item,
 -- "done" bears its timestamp, with N-t responses to DO_WRITE, and "open" says that WRITE has not returned.
-pub write_as_the_report : (p : Plan) (a : Ask) (r : Opened) (d : List ℕ) (cs : List Turn) → OpenCall Write p a r → r.answer ≡ Accepted
+pub write_as_the_report : (p : Plan) (a : Ask) (r : Opened) (d : List ℕ) (cs : List Turn) → OpenCall Write p a r → r.answer ≡ (Ok tt)
     → Calls (WriteTurn p) r.session d cs → EachWrites p r.session d untimed cs
 write_as_the_report = opened_write
 
@@ -112,30 +110,30 @@ write_as_the_report = opened_write
 -- DO_READ gathering from them; "open" says that READ has not returned. Each closed round has its N-t responses, to the command that READ was to
 -- send. Received are the frames of the run in their order, refused ones among them, but for those that document 01 adds refusals for
 -- (is_message). Where no two cross checksums of one response set share a hash under one timestamp.
-pub read_as_the_report : (p : Plan) (a : Ask) (r : Opened) (d : List ℕ) (cs : List Turn) → OpenCall Read p a r → r.answer ≡ Accepted
+pub read_as_the_report : (p : Plan) (a : Ask) (r : Opened) (d : List ℕ) (cs : List Turn) → OpenCall Read p a r → r.answer ≡ (Ok tt)
     → length d ≡ p.n * record_length p → Octets d → Calls (ReadTurn p) r.session d cs → AllApart p (polled_over p r.session d unpolled cs).rounds
     → EachTells p r.session d unpolled cs × AllFull p (polled_over p r.session d unpolled cs).rounds
 read_as_the_report = opened_read
 
 -- "Rounds used are reported with every read ending and never exceed W": from an accepted opening on, whatever replies come, the rounds that the last
 -- answer reports are the read rounds that the calls closed, each at its N-t-th accepted reply (closed_rounds), and at most W.
-pub rounds_are_counted : (p : Plan) (a : Ask) (r : Opened) → OpenCall Read p a r → r.answer ≡ Accepted → (d : List ℕ) (t : Turn) (ts : List Turn)
+pub rounds_are_counted : (p : Plan) (a : Ask) (r : Opened) → OpenCall Read p a r → r.answer ≡ (Ok tt) → (d : List ℕ) (t : Turn) (ts : List Turn)
     → Calls (ReadTurn p) r.session d (t ∷ ts) → (n : ℕ) → Reports (last_said t ts) n → (n ≡ closed_rounds p 0 r.session (t ∷ ts)) × (n ≤ p.w)
 rounds_are_counted = counted_rounds
 
 -- In every state that those replies lead to, a request owed to a node S is the frame of what READ has to send to S then, READ_LATEST, READ_PREVIOUS
 -- with the candidate's timestamp, or WRITE with S's own member of the set that is sent; and 11 is for a node that is in the response set.
-pub read_requests_as_the_report : (p : Plan) (a : Ask) (r : Opened) (d : List ℕ) (cs : List Turn) → OpenCall Read p a r → r.answer ≡ Accepted
+pub read_requests_as_the_report : (p : Plan) (a : Ask) (r : Opened) (d : List ℕ) (cs : List Turn) → OpenCall Read p a r → r.answer ≡ (Ok tt)
     → length d ≡ p.n * record_length p → Octets d → Calls (ReadTurn p) r.session d cs → AllApart p (polled_over p r.session d unpolled cs).rounds
-    → (S : ℕ) (q : List ℕ) (o : Owed) (q₂ : List ℕ) → OwedCall p (last_session r.session cs) S (last_desk d cs) q o q₂
+    → (S : ℕ) (q : List ℕ) (o : Result ℕ Refusal) (q₂ : List ℕ) → OwedCall p (last_session r.session cs) S (last_desk d cs) q o q₂
     → Owes (Commands p (read (family p) (polled_over p r.session d unpolled cs).rounds) S (ask_now (last_session r.session cs)))
     (owed_ladder p (last_session r.session cs) S (last_desk d cs) (length q))
     (in_response_set p (last_session r.session cs).round.stage (polled_over p r.session d unpolled cs) S) (due_of o) q q₂
 read_requests_as_the_report = read_owes
 
 -- The same of a write: TIME, and then WRITE with S's own member of what DO_WRITE sends.
-pub write_requests_as_the_report : (p : Plan) (a : Ask) (r : Opened) (d : List ℕ) (cs : List Turn) → OpenCall Write p a r → r.answer ≡ Accepted
-    → Calls (WriteTurn p) r.session d cs → (S : ℕ) (q : List ℕ) (o : Owed) (q₂ : List ℕ)
+pub write_requests_as_the_report : (p : Plan) (a : Ask) (r : Opened) (d : List ℕ) (cs : List Turn) → OpenCall Write p a r → r.answer ≡ (Ok tt)
+    → Calls (WriteTurn p) r.session d cs → (S : ℕ) (q : List ℕ) (o : Result ℕ Refusal) (q₂ : List ℕ)
     → OwedCall p (last_session r.session cs) S (last_desk d cs) q o q₂
     → Owes (WriteCommands p (last_session r.session cs).round.stage (timed_over p r.session d untimed cs) S (ask_now (last_session r.session cs)))
     (owed_ladder p (last_session r.session cs) S (last_desk d cs) (length q))

@@ -3,6 +3,7 @@
 --   cut_back               frames laid end to end are cut into themselves, and the run ends with them
 --   singly_stays           whatever its frames are, a run leaves a good book good
 --   frame_numbers          a frame's number is 0 or 4 to 8
+use Rattle.std.specs.Prelude.{Ok}
 use Prim.{Unit, tt}
 use Prim.Native.Nat.{ℕ, ◌+◌, ◌-◌, ◌*◌, ◌≤◌}
 use mathlib.Core.Path.{◌≡◌, refl, sym, ap, ◌∙◌, subst}
@@ -27,9 +28,8 @@ use Rattle.book.proofs.Laws as books
 use Rattle.node.specs.Node.{ServedOutcome, served_outcome, refused, node_ladder, book_reply_ok, sends, answered, served}
 use Rattle.node.proofs.Laws.{lengths_are}
 use Rattle.pasis.proofs.Laws.{of_given}
-use Rattle.runs.specs.declared.Ran.TheVariants.{Did}
 use Rattle.runs.specs.Cuts.{next_place, cut_into, cut_run}
-use Rattle.runs.specs.Runs.{number_said, singly, room_for, did, run_ladder, RunOutcome, run_outcome, run_of, RunCall}
+use Rattle.runs.specs.Runs.{number_said, singly, room_for, did, run_ladder, RunOutcome, run_outcome, run_of, RunCall, ran_of}
 use Rattle.runs.proofs.Cuts.{cut_after, past, one_more, none_left}
 use Rattle.runs.proofs.Runs.{room_is}
 use Rattle.runs.proofs.Bounds.{as_many, ran_is}
@@ -236,7 +236,7 @@ singly_numbers p (f ∷ fs) b y pk l g i =
     let m : book_reply_ok p (length (served p f b y).book) (length y) ≡ true = ap (λ (n : ℕ). book_reply_ok p n (length y)) st.size ∙ l in
     rw (one_number p f b y pk l g) (singly_numbers p fs (served p f b y).book y pk m st.good st.laid)
 
-module _ (p : Plan) (s b y z : List ℕ) (n w e : ℕ) (b₂ y₂ z₂ : List ℕ) (o : Octets b) (c : RunCall p s b y z (Did n w e) b₂ y₂ z₂) where
+module _ (p : Plan) (s b y z : List ℕ) (n w e : ℕ) (b₂ y₂ z₂ : List ℕ) (o : Octets b) (c : RunCall p s b y z (Ok (ran_of n w e)) b₂ y₂ z₂) where
   fs : List (List ℕ)
   fs = (cut_run s).frames
 

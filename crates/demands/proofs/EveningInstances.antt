@@ -1,5 +1,6 @@
 -- The hypotheses of the theorems on runs can be met: the node, the fresh book and the two write requests of the instances of store, brought in
 -- one run, and in two runs in another order and with a repeat. Assumes nothing.
+use Rattle.std.specs.Prelude.{Ok}
 use Prim.{tt}
 use Prim.Native.Nat.{ℕ, ◌+◌, ◌*◌, ◌≤◌}
 use mathlib.Core.Path.{◌≡◌, refl, sym, ap, subst}
@@ -14,9 +15,8 @@ use Rattle.terms.proofs.Ladders.{is_passed}
 use Rattle.frame.specs.Frame.{longest}
 use Rattle.frame.proofs.Frames.{request_is}
 use Rattle.book.specs.Book.{good_book, book_lent, Itself}
-use Rattle.runs.specs.declared.Ran.TheVariants.{Did}
 use Rattle.runs.specs.Cuts.{cut_run}
-use Rattle.runs.specs.Runs.{singly, room_for, run_ladder, refused, run_outcome, run_of, ran_over, RunCall}
+use Rattle.runs.specs.Runs.{singly, room_for, run_ladder, refused, run_outcome, run_of, ran_over, RunCall, ran_of}
 use Rattle.store.specs.Deliver.{Among, Ready}
 use Rattle.store.proofs.Order as order
 use Rattle.store.proofs.One as one
@@ -76,7 +76,7 @@ module _ (fs : List (List ℕ)) (framed_all : AllFramed fs) (b z : List ℕ) (le
   none : None (run_ladder plan run_bytes b lent_reply z)
   none = (ap not given_first.plan, (ap not lent, (ap not room, (ap not good, tt))))
 
-  pub ran_so : let d = brought_run in RunCall plan d.run b d.reply d.numbers (Did d.frames d.written d.ended) d.book_left d.reply_left d.numbers_left
+  pub ran_so : let d = brought_run in RunCall plan d.run b d.reply d.numbers (Ok (ran_of d.frames d.written d.ended)) d.book_left d.reply_left d.numbers_left
   unfolding brought_run ran_over
   ran_so =
       record { is = sym (is_passed (run_ladder plan run_bytes b lent_reply z) (λ (k : ℕ). run_outcome (refused k) b lent_reply z) (run_of plan run_bytes b lent_reply z) none) }

@@ -2,6 +2,8 @@
 --   One Ran     one call, and a run of them, on the session that the bytes are
 --   reads writes eithers   a run from an accepted opening on
 --   owed_at     the request owed, of the last session
+use Rattle.terms.specs.declared.Refusal.{Refusal}
+use Rattle.std.specs.Prelude.{Result}
 use Prim.{tt}
 use Prim.Native.Nat.{ℕ}
 use mathlib.Core.Path.{◌≡◌, refl, sym, ap, ◌∙◌, subst}
@@ -17,7 +19,6 @@ use Rattle.terms.proofs.Rungs.{clash}
 use Rattle.standing.specs.declared.Operation.{Operation}
 use Rattle.standing.specs.declared.Operation.TheVariants.{Write, Read}
 use Rattle.session.specs.declared.Session.{Session}
-use Rattle.session.specs.declared.owed.Owed.{Owed}
 use Rattle.session.specs.Owed.{owed_to, OwedCall}
 use Rattle.session.specs.Reader.{Outcome}
 use Rattle.session.specs.Writer.{leaves}
@@ -86,7 +87,7 @@ run C B one s d (t ∷ ts) h c = go (eqb (length t.ending) 42) refl (λ z. run C
         (subst (λ (a : List ℕ). Ran B t.session_left a (host_session t.session_left ts) (host_desk t.desk_left ts) (below ts)) q.1 (ih z))
 
 -- the request owed, of the last session
-pub owed_at : {p : Plan} {u v : Session} {d e : List ℕ} {S : ℕ} {q : List ℕ} {o : Owed} {q₂ : List ℕ} → u ≡ v → d ≡ e → OwedCall p v S e q o q₂ → OwedCall p u S d q o q₂
+pub owed_at : {p : Plan} {u v : Session} {d e : List ℕ} {S : ℕ} {q : List ℕ} {o : (Result ℕ Refusal)} {q₂ : List ℕ} → u ≡ v → d ≡ e → OwedCall p v S e q o q₂ → OwedCall p u S d q o q₂
 owed_at {p} {u} {v} {d} {e} {S} {q} {o} {q₂} f g c = record { is = c.is ∙ sym (λ j. owed_to p (f j) S (g j) q) }
 
 -- ---- from an accepted opening on

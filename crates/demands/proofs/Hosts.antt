@@ -18,7 +18,7 @@ use Rattle.terms.specs.Ladder.{Rung, first, Given}
 use Rattle.terms.specs.declared.Plan.{Plan}
 use Rattle.terms.proofs.Rungs.{clash}
 use Rattle.terms.proofs.Ladders.{by_ladder}
-use Rattle.rounds.specs.declared.Bound.TheVariants.{Free}
+use Rattle.std.proofs.Common.{None}
 use Rattle.node.specs.Fresh.{FreshOutcome, fresh_ladder, freshened}
 use Rattle.node.specs.Node as node
 use Rattle.node.specs.Node.{node_ladder, served, answered, sends}
@@ -42,9 +42,8 @@ use Rattle.answers.specs.Answers.{lent_ladder, both_fit, made_number, served_num
 use Rattle.pasis.specs.Store.{FreshBook, NodeServes, RunTold, run_told, run_tells, run_bytes, RunServes}
 use Rattle.pasis.specs.Client.{session_fits, session_after, OpenedBytes, opened_bytes, open_bytes, OpenServes, Asked, asked, owed_bytes, OwedServes, TookBytes, took_bytes, with_item, took_as, write_bytes, read_bytes, WriteServes, ReadServes}
 use Rattle.wish.specs.declared.Wish.{Wish}
-use Rattle.wish.specs.declared.Smallest.{Smallest}
 use Rattle.wish.specs.Wish as wish
-use Rattle.wish.specs.Wish.{SaidSmallest, said_smallest, wish_ladder, Says}
+use Rattle.wish.specs.Wish.{Smallest, SaidSmallest, said_smallest, wish_ladder, Says}
 use Rattle.wish.proofs.Laws.{small_counts}
 use Rattle.wish.proofs.Calls.{call_one}
 use Rattle.pasis.proofs.Laws.{numbers, of_given}
@@ -121,7 +120,7 @@ host_run_stays x s b y z t r b₂ y₂ z₂ t₂ c =
 pub host_open_stays : (op : Operation) (x : List ℕ) (a : ℕ) (s : List ℕ) (r : ℕ) (s₂ : List ℕ) → OpenServes op x a s r s₂ → (r ≡ 0 → ⊥) → s₂ ≡ s
 unfolding open_bytes
 host_open_stays op x a s r s₂ c h =
-    let o = open_with op Free (plan_of x) (record { 0 = a }) in
+    let o = open_with op None (plan_of x) (record { 0 = a }) in
     ap (λ (z : OpenedBytes). z.session) c.is
     ∙ outcome_all (λ (z : OpenedBytes). (z.number ≡ 0 → ⊥) → z.session ≡ s) (lent_ladder (plan_of x) (session_fits (length s))) (λ (k : ℕ). opened_bytes k s) _
     (λ k g. refl) (λ e g. ap (λ (t : Bool). cond t (session_bytes o.session) s) (ne_eqb o.number 0 g))

@@ -4,6 +4,8 @@
 --   host_node_refuses host_fresh_refuses host_open_refuses host_owed_refuses host_write_refuses host_read_refuses   the same on bytes, and the numbers
 --   invalid_so         the node's request, a record whose cross checksum is not that of its fragments, is one that VALIDATE turns away
 -- Assumes nothing.
+use Rattle.terms.specs.declared.Refusal.{Refusal}
+use Rattle.std.specs.Prelude.{Result, Err}
 use Prim.Native.Nat.{ℕ, ◌+◌}
 use mathlib.Core.Path.{◌≡◌, refl, sym, ap, ◌∙◌}
 use mathlib.Core.Bool.{true, false}
@@ -21,20 +23,15 @@ use Rattle.terms.specs.declared.Refusal.TheVariants.{HashFails, WrongFrame, AskT
 use Rattle.terms.proofs.Small.{small, small_octets}
 use Rattle.frame.specs.Frame.{write_request_kind, kind_of, body_of, frame, good_request, shaped, body_fits, for_party, one_of, suits, good_frame}
 use Rattle.record.specs.Record.{fragment_hash, hashes_ok, time_zero, prefix_of}
-use Rattle.rounds.specs.declared.Bound.TheVariants.{Free}
+use Rattle.std.proofs.Common.{None}
 use Rattle.rounds.specs.Rounds.{heard_count, every, slots_fit, slot_fits, slot_stamp, under_of}
 use Rattle.book.specs.Records.{timed, rising}
 use Rattle.book.specs.Book.{book_head, node_of, records_from, header, joined, laid_as, laid_out, headed, filled, good_book}
-use Rattle.node.specs.declared.Answer.{Answer}
-use Rattle.node.specs.declared.Answer.TheVariants as node
-use Rattle.node.specs.declared.Made.TheVariants as made
 use Rattle.node.specs.Fresh.{FreshCall, FreshOutcome, freshened, fresh_ladder}
 use Rattle.node.specs.Node.{NodeCall, ServedOutcome, served, node_ladder, book_reply_ok, time_fails, hash_fails}
 use Rattle.standing.specs.declared.Operation.TheVariants.{Read}
 use Rattle.standing.specs.Standing.{room_ok, round_rules}
 use Rattle.session.specs.declared.opening.Opened.{Opened}
-use Rattle.session.specs.declared.opening.Opening.TheVariants as opening
-use Rattle.session.specs.declared.owed.Owed.TheVariants as owed
 use Rattle.session.specs.Opening.{Opens, OpenCall, open_with, opening_ladder, no_session}
 use Rattle.session.specs.Ranges.{standing_rules, open_rules, in_range}
 use Rattle.session.specs.Reply.{is_heard}
@@ -62,14 +59,14 @@ book = over (laid_out plan 2 []) (replicate (book_head 1 + 137) 0)
 pub request : List ℕ
 request = frame write_request_kind 2 6 poor
 
-pub node_met : NodeCall plan request book (replicate 152 0) (node.Refused HashFails) book (replicate 152 0)
+pub node_met : NodeCall plan request book (replicate 152 0) (Err HashFails) book (replicate 152 0)
 unfolding request book hash poor plan served first plan_ok counts_ok limits_ok column_of all record_length book_reply_ok good_book headed filled rising timed records_from good_request good_frame suits shaped
     for_party one_of body_fits time_fails hash_fails fragment_hash prefix_of hashes_ok time_zero over laid_as header joined num num_from part be be_onto alike sha256 after compress_of added_of rounds_of round_of
     T1 T2 schedule_of words padding big_endian K
 node_met = record { is = refl }
 
 pub node_refuses : Given (node_ladder plan request book (replicate 152 0)) 6
-node_refuses = (node_exactly plan request book (replicate 152 0) (node.Refused HashFails) book (replicate 152 0) node_met 6 (omega arith)).0 refl
+node_refuses = (node_exactly plan request book (replicate 152 0) (Err HashFails) book (replicate 152 0) node_met 6 (omega arith)).0 refl
 
 -- VALIDATE turns it away
 module _ where
@@ -91,24 +88,24 @@ module _ where
   small_so = (refl, refl)
 
 -- whatever a call answers to it, it leaves the versions, and the reply buffer
-pub invalid_so : (a : Answer) (b₂ y₂ : List ℕ) → NodeCall plan request book (replicate 152 0) a b₂ y₂ → (history plan b₂ ≡ history plan book) × (y₂ ≡ replicate 152 0)
+pub invalid_so : (a : Result ℕ Refusal) (b₂ y₂ : List ℕ) → NodeCall plan request book (replicate 152 0) a b₂ y₂ → (history plan b₂ ≡ history plan book) × (y₂ ≡ replicate 152 0)
 invalid_so =
     invalid_as_the_report plan request book (replicate 152 0) (small_octets request small_so.0) (small_octets book small_so.1) good_so kind_so turned_so
 
 -- ---- a fresh book for node 3 of 3
-pub fresh_met : FreshCall plan 3 (replicate (book_head 1 + 137) 0) (made.Refused WrongFrame) (replicate (book_head 1 + 137) 0)
+pub fresh_met : FreshCall plan 3 (replicate (book_head 1 + 137) 0) (Err WrongFrame) (replicate (book_head 1 + 137) 0)
 unfolding plan freshened first plan_ok counts_ok limits_ok column_of all
 fresh_met = record { is = refl }
 
 pub fresh_refuses : Given (fresh_ladder plan 3 (replicate (book_head 1 + 137) 0)) 4
-fresh_refuses = (fresh_exactly plan 3 (replicate (book_head 1 + 137) 0) (made.Refused WrongFrame) (replicate (book_head 1 + 137) 0) fresh_met 4 (omega arith)).0 refl
+fresh_refuses = (fresh_exactly plan 3 (replicate (book_head 1 + 137) 0) (Err WrongFrame) (replicate (book_head 1 + 137) 0) fresh_met 4 (omega arith)).0 refl
 
 -- ---- an opening with the last ask number
 pub late_ask : Ask
 late_ask = record { 0 = top }
 
 pub not_opened : Opened
-not_opened = record { answer = opening.Refused AskTooHigh; session = no_session Read }
+not_opened = record { answer = Err AskTooHigh; session = no_session Read }
 
 pub opening_met : OpenCall Read plan late_ask not_opened
 unfolding late_ask not_opened plan open_with first plan_ok counts_ok limits_ok column_of all
@@ -119,13 +116,13 @@ unfolding not_opened
 opening_refuses = (opening_exactly Read plan late_ask not_opened opening_met 13 (omega arith)).0 refl
 
 -- ---- a request owed to a node that is heard: node 0, in the second round of the read
-pub owed_met : OwedCall plan reads.second_heard 0 desk_good (replicate 152 0) (owed.Refused AlreadyHeard) (replicate 152 0)
+pub owed_met : OwedCall plan reads.second_heard 0 desk_good (replicate 152 0) (Err AlreadyHeard) (replicate 152 0)
 unfolding hash stamp_bytes good desk_good poor desk_poor plan owed_to first plan_ok counts_ok limits_ok column_of all record_length room_ok in_range standing_rules round_rules open_rules heard_count every slots_fit
     slot_fits slot_stamp under_of is_heard num num_from part stamp_at stamp_number then
 owed_met = record { is = refl }
 
 pub owed_refuses : Given (owed_ladder plan reads.second_heard 0 desk_good 152) 11
-owed_refuses = (owed_exactly plan reads.second_heard 0 desk_good (replicate 152 0) (owed.Refused AlreadyHeard) (replicate 152 0) owed_met 11 (omega arith)).0 refl
+owed_refuses = (owed_exactly plan reads.second_heard 0 desk_good (replicate 152 0) (Err AlreadyHeard) (replicate 152 0) owed_met 11 (omega arith)).0 refl
 
 -- ---- late replies: in the write round a time reply, in round 2 a reply to round 1
 pub write_refuses : Given (write_ladder plan writes.once_stored (writes.time_reply 2) desk_full 1) 10
@@ -202,10 +199,10 @@ module _ where
 pub host_open_met : OpenServes Read plan_bytes top (replicate session_length 0) 13 (replicate session_length 0)
 unfolding open_bytes late_ask not_opened
 host_open_met =
-    let e : opened_as (open_with Read Free plan late_ask) (replicate session_length 0) ≡ opened_bytes 13 (replicate session_length 0) =
+    let e : opened_as (open_with Read None plan late_ask) (replicate session_length 0) ≡ opened_bytes 13 (replicate session_length 0) =
     ap (λ (o : Opens). opened_as o (replicate session_length 0)) (sym opening_met.is) in
     record {
-      is = sym (ap (λ (p : Plan). first (lent_ladder p true) (λ (k : ℕ). opened_bytes k (replicate session_length 0)) (opened_as (open_with Read Free p late_ask) (replicate session_length 0))) plan_so
+      is = sym (ap (λ (p : Plan). first (lent_ladder p true) (λ (k : ℕ). opened_bytes k (replicate session_length 0)) (opened_as (open_with Read None p late_ask) (replicate session_length 0))) plan_so
           ∙ lent_so _ _ ∙ e);
     }
 

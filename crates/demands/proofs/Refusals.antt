@@ -6,6 +6,9 @@
 --   host_node_exactly host_run_exactly host_fresh_exactly host_open_exactly host_owed_exactly host_write_exactly host_read_exactly host_wish_exactly
 --   host_node_numbers host_run_numbers host_fresh_numbers host_open_numbers host_owed_numbers host_write_numbers host_read_numbers host_wish_numbers
 --   host_wish_member   a byte above 1 is no member, and is refused 1
+use Rattle.terms.specs.declared.Refusal.{Refusal}
+use Prim.{Unit}
+use Rattle.std.specs.Prelude.{Result}
 use Prim.Native.Nat.{ℕ, ◌≤◌, ◌<◌}
 use native.Mathlib.Omega.{arith}
 use borrow.Author.Tests.{lt-leb}
@@ -22,9 +25,7 @@ use Rattle.terms.proofs.Ladders as ladders
 use Rattle.terms.proofs.Rungs.{clash}
 use Rattle.frame.specs.Frame.{header_in, body_of, one_of}
 use Rattle.book.specs.Book.{laid_out}
-use Rattle.rounds.specs.declared.Bound.TheVariants.{Free}
-use Rattle.node.specs.declared.Answer.{Answer}
-use Rattle.node.specs.declared.Made.{Made}
+use Rattle.std.proofs.Common.{None}
 use Rattle.node.specs.Node as node
 use Rattle.node.specs.Node.{NodeCall, node_ladder, served, answered, sends}
 use Rattle.node.specs.Fresh as fresh
@@ -36,7 +37,6 @@ use Rattle.session.specs.declared.Session.{Session}
 use Rattle.standing.specs.declared.Operation.{Operation}
 use Rattle.session.specs.declared.Took.{Took}
 use Rattle.session.specs.declared.opening.Opened.{Opened}
-use Rattle.session.specs.declared.owed.Owed.{Owed}
 use Rattle.session.specs.Session.{Said, refused, still_open, done, never_written, aborted, rounds_spent, clock_spent, said_of, is_refused}
 use Rattle.session.specs.Opening.{OpenCall, Opens, opens, opening_ladder, opening_number, open_with, fresh_of, no_session}
 use Rattle.session.specs.Owed as owed
@@ -53,9 +53,8 @@ use Rattle.pasis.specs.Store.{FreshBook, NodeServes, RunTold, run_told, run_byte
 use Rattle.pasis.proofs.Laws.{numbers, of_given}
 use Rattle.pasis.specs.Client.{session_fits, OpenedBytes, opened_bytes, open_bytes, OpenServes, Asked, asked, owed_bytes, OwedServes, TookBytes, took_bytes, write_bytes, read_bytes, WriteServes, ReadServes}
 use Rattle.wish.specs.declared.Wish.{Wish}
-use Rattle.wish.specs.declared.Smallest.{Smallest}
 use Rattle.wish.specs.Wish as wish
-use Rattle.wish.specs.Wish.{said_smallest, outside, wish_ladder, RejectedFor, Says, SmallestCall}
+use Rattle.wish.specs.Wish.{Smallest, said_smallest, outside, wish_ladder, RejectedFor, Says, SmallestCall}
 use Rattle.wish.proofs.Calls.{said_one, exactly_20}
 use Rattle.pasis.specs.Plans.{counts_lent, CountsTold, counts_told, smallest_bytes, SmallestServes}
 use Rattle.pasis.proofs.Wishes.{number_is}
@@ -73,7 +72,7 @@ exactly {A} said refusal l refuse pass o k each one past e = (
 )
 
 -- ---- the node, 1 to 8
-pub node_exactly : (p : Plan) (f b y : List ℕ) (a : Answer) (b₂ y₂ : List ℕ) → NodeCall p f b y a b₂ y₂ → (k : ℕ) → 1 ≤ k
+pub node_exactly : (p : Plan) (f b y : List ℕ) (a : Result ℕ Refusal) (b₂ y₂ : List ℕ) → NodeCall p f b y a b₂ y₂ → (k : ℕ) → 1 ≤ k
     → Exactly (node.said_served a ≡ node.refused k) (Given (node_ladder p f b y) k)
 unfolding served answered sends
 node_exactly p f b y a b₂ y₂ c k l =
@@ -81,7 +80,7 @@ node_exactly p f b y a b₂ y₂ c k l =
     (λ j. refl) (λ j e. cc) (λ e. let z : ◌≡◌ {A = ℕ} 0 1 = cc in omega arith) c.is
 
 -- ---- a run, 1, 2, 21, 3
-pub run_exactly : (p : Plan) (s b y z : List ℕ) (a : Ran) (b₂ y₂ z₂ : List ℕ) → RunCall p s b y z a b₂ y₂ z₂ → (k : ℕ) → 1 ≤ k
+pub run_exactly : (p : Plan) (s b y z : List ℕ) (a : Result Ran Refusal) (b₂ y₂ z₂ : List ℕ) → RunCall p s b y z a b₂ y₂ z₂ → (k : ℕ) → 1 ≤ k
     → Exactly (said_ran a ≡ runs.refused k) (Given (run_ladder p s b y z) k)
 unfolding ran_over
 run_exactly p s b y z a b₂ y₂ z₂ c k l =
@@ -89,7 +88,7 @@ run_exactly p s b y z a b₂ y₂ z₂ c k l =
     (λ j. refl) (λ j e. cc) (λ e. let n : ◌≡◌ {A = ℕ} 0 1 = cc in omega arith) c.is
 
 -- ---- a fresh book, 1, 2, 4
-pub fresh_exactly : (p : Plan) (n : ℕ) (b : List ℕ) (a : Made) (b₂ : List ℕ) → FreshCall p n b a b₂ → (k : ℕ) → 1 ≤ k
+pub fresh_exactly : (p : Plan) (n : ℕ) (b : List ℕ) (a : Result (Unit {0}) Refusal) (b₂ : List ℕ) → FreshCall p n b a b₂ → (k : ℕ) → 1 ≤ k
     → Exactly (said_made a ≡ fresh.refused k) (Given (fresh_ladder p n b) k)
 unfolding freshened
 fresh_exactly p n b a b₂ c k l =
@@ -101,11 +100,11 @@ pub opening_exactly : (op : Operation) (p : Plan) (a : Ask) (r : Opened) → Ope
     → Exactly (opening_number r.answer ≡ k) (Given (opening_ladder p a.0) k)
 unfolding open_with
 opening_exactly op p a r c k l =
-    exactly (λ (o : Opens). o.number) (λ (j : ℕ). j) _ (λ (j : ℕ). opens j (no_session op)) (opens 0 (fresh_of op 1 Free a)) _ k
+    exactly (λ (o : Opens). o.number) (λ (j : ℕ). j) _ (λ (j : ℕ). opens j (no_session op)) (opens 0 (fresh_of op 1 None a)) _ k
     (λ j. refl) (λ j e. e) (λ e. omega arith) c.is
 
 -- ---- a request owed, 1, 2, 9, 14, 4, 11
-pub owed_exactly : (p : Plan) (s : Session) (n : ℕ) (d q : List ℕ) (r : Owed) (q₂ : List ℕ) → OwedCall p s n d q r q₂ → (k : ℕ) → 1 ≤ k
+pub owed_exactly : (p : Plan) (s : Session) (n : ℕ) (d q : List ℕ) (r : Result ℕ Refusal) (q₂ : List ℕ) → OwedCall p s n d q r q₂ → (k : ℕ) → 1 ≤ k
     → Exactly (due_of r ≡ owed.refused k) (Given (owed_ladder p s n d (length q)) k)
 unfolding owed_to
 owed_exactly p s n d q r q₂ c k l =

@@ -7,6 +7,7 @@
 -- The request is one that a session owes after any calls from an accepted opening (OwedBy); the reply is of a book that calls of the node, under
 -- whatever plans, made of a fresh one (OfCalls), and comes to the session that asked while its round is open, whichever nodes it heard since
 -- (StillAsks). Assumes nothing.
+use Rattle.std.specs.Prelude.{Result, Ok, Err}
 use Prim.Native.Nat.{ℕ, ◌*◌}
 use mathlib.Core.Path.{◌≡◌}
 use mathlib.Core.Bool.{true}
@@ -16,13 +17,9 @@ use Rattle.octets.specs.Bytes.{Octets}
 use Rattle.terms.specs.declared.Plan.{Plan}
 use Rattle.terms.specs.declared.Refusal.{Refusal}
 use Rattle.book.specs.Book.{good_book, node_of}
-use Rattle.node.specs.declared.Answer as node
-use Rattle.node.specs.declared.Answer.TheVariants as answers
-use Rattle.node.specs.declared.Answer.TheVariants.{Replied}
 use Rattle.node.specs.Node.{NodeCall}
 use Rattle.session.specs.declared.Session.{Session}
 use Rattle.session.specs.declared.Took.{Took}
-use Rattle.session.specs.declared.Answer.TheVariants.{Refused}
 use Rattle.standing.specs.declared.Operation.TheVariants.{Write, Read}
 use Rattle.session.specs.Writer.{WriteReplyCall}
 use Rattle.session.specs.Reader.{ReadReplyCall}
@@ -37,12 +34,12 @@ use Rattle.report.proofs.Together.{write_request_taken, write_reply_taken, read_
 
 -- ---- a write
 pub write_request_is_taken : (p : Plan) (S : ℕ) (f : List ℕ) → OwedBy Write (WriteTurn p) p S f → (b y : List ℕ) → good_book p b ≡ true → node_of b ≡ S
-    → (a : node.Answer) (b₂ y₂ : List ℕ) → NodeCall p f b y a b₂ y₂ → (r : Refusal) → a ≡ answers.Refused r → NoneOf (4 ∷ 5 ∷ 6 ∷ []) r
+    → (a : Result ℕ Refusal) (b₂ y₂ : List ℕ) → NodeCall p f b y a b₂ y₂ → (r : Refusal) → a ≡ Err r → NoneOf (4 ∷ 5 ∷ 6 ∷ []) r
 write_request_is_taken = write_request_taken
 
 pub write_reply_is_taken : (p : Plan) (S : ℕ) (f : List ℕ) (x : OwedBy Write (WriteTurn p) p S f) (b y : List ℕ) → OfCalls p S b
-    → (n : ℕ) (b₂ y₂ : List ℕ) → NodeCall p f b y (Replied n) b₂ y₂ → (u : Session) → StillAsks (asker x) u
-    → (d i : List ℕ) (t : Took) (d₂ : List ℕ) → WriteReplyCall p u (take n y₂) d i t d₂ → (r : Refusal) → t.answer ≡ Refused r
+    → (n : ℕ) (b₂ y₂ : List ℕ) → NodeCall p f b y (Ok n) b₂ y₂ → (u : Session) → StillAsks (asker x) u
+    → (d i : List ℕ) (t : Took) (d₂ : List ℕ) → WriteReplyCall p u (take n y₂) d i t d₂ → (r : Refusal) → t.answer ≡ Err r
     → NoneOf (4 ∷ 5 ∷ 6 ∷ 10 ∷ 12 ∷ []) r
 write_reply_is_taken = write_reply_taken
 
@@ -50,12 +47,12 @@ write_reply_is_taken = write_reply_taken
 -- node; where the N fragments of the desk are those of its cross checksum (RepairFits), as validation asks under Byzantine clients, they pass.
 pub read_request_is_taken : (p : Plan) (S : ℕ) (f : List ℕ) (x : OwedBy Read (ReadTurn p) p S f) → RepairFits p (asker x) (asker_desk x)
     → (b y : List ℕ) → good_book p b ≡ true → node_of b ≡ S
-    → (a : node.Answer) (b₂ y₂ : List ℕ) → NodeCall p f b y a b₂ y₂ → (r : Refusal) → a ≡ answers.Refused r → NoneOf (4 ∷ 5 ∷ 6 ∷ []) r
+    → (a : Result ℕ Refusal) (b₂ y₂ : List ℕ) → NodeCall p f b y a b₂ y₂ → (r : Refusal) → a ≡ Err r → NoneOf (4 ∷ 5 ∷ 6 ∷ []) r
 read_request_is_taken = read_request_taken
 
 pub read_reply_is_taken : (p : Plan) (S : ℕ) (f : List ℕ) (x : OwedBy Read (ReadTurn p) p S f) → RepairFits p (asker x) (asker_desk x)
-    → (b y : List ℕ) → OfCalls p S b → (n : ℕ) (b₂ y₂ : List ℕ) → NodeCall p f b y (Replied n) b₂ y₂ → (u : Session) → StillAsks (asker x) u
-    → (d i : List ℕ) (t : Took) (d₂ i₂ : List ℕ) → ReadReplyCall p u (take n y₂) d i t d₂ i₂ → (r : Refusal) → t.answer ≡ Refused r
+    → (b y : List ℕ) → OfCalls p S b → (n : ℕ) (b₂ y₂ : List ℕ) → NodeCall p f b y (Ok n) b₂ y₂ → (u : Session) → StillAsks (asker x) u
+    → (d i : List ℕ) (t : Took) (d₂ i₂ : List ℕ) → ReadReplyCall p u (take n y₂) d i t d₂ i₂ → (r : Refusal) → t.answer ≡ Err r
     → NoneOf (4 ∷ 5 ∷ 6 ∷ 10 ∷ 12 ∷ []) r
 read_reply_is_taken = read_reply_taken
 

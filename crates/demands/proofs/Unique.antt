@@ -4,13 +4,14 @@
 --   opening_unique owed_unique                       an opening, a request owed
 --   write_reply_unique read_reply_unique             a reply to a writer, to a reader
 --   wish_unique                                      the smallest plan for a wish
+use Rattle.terms.specs.declared.Refusal.{Refusal}
+use Prim.{Unit}
+use Rattle.std.specs.Prelude.{Result}
 use Prim.Native.Nat.{ℕ}
 use mathlib.Core.Path.{◌≡◌, sym, ap, ◌∙◌}
 use mathlib.Core.List.{List}
 use Rattle.terms.specs.declared.Ask.{Ask}
 use Rattle.terms.specs.declared.Plan.{Plan}
-use Rattle.node.specs.declared.Answer.{Answer}
-use Rattle.node.specs.declared.Made.{Made}
 use Rattle.node.specs.Node as node
 use Rattle.node.specs.Node.{NodeCall}
 use Rattle.node.specs.Fresh.{FreshCall, FreshOutcome, fresh_outcome, said_made}
@@ -21,7 +22,6 @@ use Rattle.session.specs.declared.Session.{Session}
 use Rattle.standing.specs.declared.Operation.{Operation}
 use Rattle.session.specs.declared.Took.{Took}
 use Rattle.session.specs.declared.opening.Opened.{Opened}
-use Rattle.session.specs.declared.owed.Owed.{Owed}
 use Rattle.session.specs.Opening.{OpenCall, Opens}
 use Rattle.session.specs.Owed.{OwedCall, Dues}
 use Rattle.session.specs.Reader.{ReadReplyCall, Outcome}
@@ -29,8 +29,7 @@ use Rattle.session.specs.Writer.{WriteReplyCall, Leaves}
 use Rattle.session.proofs.Openings.{opening_one}
 use Rattle.session.proofs.Oweds.{due_one}
 use Rattle.wish.specs.declared.Wish.{Wish}
-use Rattle.wish.specs.declared.Smallest.{Smallest}
-use Rattle.wish.specs.Wish.{SmallestCall}
+use Rattle.wish.specs.Wish.{Smallest, SmallestCall}
 use Rattle.wish.proofs.Calls.{call_one}
 use Rattle.store.proofs.Node as nodes
 use Rattle.client.proofs.Client as client
@@ -38,21 +37,21 @@ use Rattle.client.proofs.Client as client
 -- ---- the node
 -- Any two outcomes that the contract of the node's call allows at the same plan, request, book and reply buffer are equal: the answer, every
 -- byte of the book and every byte of the reply buffer.
-pub node_unique : (p : Plan) (f b y : List ℕ) (a₁ a₂ : Answer) (b₁ b₂ y₁ y₂ : List ℕ) → NodeCall p f b y a₁ b₁ y₁ → NodeCall p f b y a₂ b₂ y₂
+pub node_unique : (p : Plan) (f b y : List ℕ) (a₁ a₂ : Result ℕ Refusal) (b₁ b₂ y₁ y₂ : List ℕ) → NodeCall p f b y a₁ b₁ y₁ → NodeCall p f b y a₂ b₂ y₂
     → (a₁ ≡ a₂) × (b₁ ≡ b₂) × (y₁ ≡ y₂)
 node_unique p f b y a₁ a₂ b₁ b₂ y₁ y₂ c d =
     let h : node.served_outcome (node.said_served a₁) b₁ y₁ ≡ node.served_outcome (node.said_served a₂) b₂ y₂ = c.is ∙ sym d.is in
     (nodes.served_one a₁ a₂ (ap (λ (o : node.ServedOutcome). o.answer) h), ap (λ (o : node.ServedOutcome). o.book) h, ap (λ (o : node.ServedOutcome). o.reply) h)
 
 -- The same of the making of a fresh book.
-pub fresh_unique : (p : Plan) (node : ℕ) (b : List ℕ) (a₁ a₂ : Made) (b₁ b₂ : List ℕ) → FreshCall p node b a₁ b₁ → FreshCall p node b a₂ b₂
+pub fresh_unique : (p : Plan) (node : ℕ) (b : List ℕ) (a₁ a₂ : Result (Unit {0}) Refusal) (b₁ b₂ : List ℕ) → FreshCall p node b a₁ b₁ → FreshCall p node b a₂ b₂
     → (a₁ ≡ a₂) × (b₁ ≡ b₂)
 fresh_unique p node b a₁ a₂ b₁ b₂ c d =
     let h : fresh_outcome (said_made a₁) b₁ ≡ fresh_outcome (said_made a₂) b₂ = c.is ∙ sym d.is in
     (nodes.made_one a₁ a₂ (ap (λ (o : FreshOutcome). o.answer) h), ap (λ (o : FreshOutcome). o.book) h)
 
 -- The same of a run of frames: what it tells, every byte of the book, of the reply buffer and of the number places.
-pub run_unique : (p : Plan) (s b y z : List ℕ) (a₁ a₂ : Ran) (b₁ b₂ y₁ y₂ z₁ z₂ : List ℕ) → RunCall p s b y z a₁ b₁ y₁ z₁ → RunCall p s b y z a₂ b₂ y₂ z₂
+pub run_unique : (p : Plan) (s b y z : List ℕ) (a₁ a₂ : Result Ran Refusal) (b₁ b₂ y₁ y₂ z₁ z₂ : List ℕ) → RunCall p s b y z a₁ b₁ y₁ z₁ → RunCall p s b y z a₂ b₂ y₂ z₂
     → (a₁ ≡ a₂) × (b₁ ≡ b₂) × (y₁ ≡ y₂) × (z₁ ≡ z₂)
 run_unique = run_one
 
@@ -66,7 +65,7 @@ opening_unique op p a r₁ r₂ c d =
     λ i. record { answer = x i; session = y i }
 
 -- The same of a request owed: the answer, and every byte of the request buffer.
-pub owed_unique : (p : Plan) (s : Session) (node : ℕ) (d q : List ℕ) (r₁ r₂ : Owed) (q₁ q₂ : List ℕ) → OwedCall p s node d q r₁ q₁
+pub owed_unique : (p : Plan) (s : Session) (node : ℕ) (d q : List ℕ) (r₁ r₂ : Result ℕ Refusal) (q₁ q₂ : List ℕ) → OwedCall p s node d q r₁ q₁
     → OwedCall p s node d q r₂ q₂ → (r₁ ≡ r₂) × (q₁ ≡ q₂)
 owed_unique p s node d q r₁ r₂ q₁ q₂ c e =
     let h = c.is ∙ sym e.is in

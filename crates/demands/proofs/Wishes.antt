@@ -8,8 +8,7 @@ use mathlib.Core.Path.{◌≡◌, refl}
 use native.Mathlib.Omega.{arith}
 use Rattle.terms.specs.declared.Member.TheVariants.{Repairable, NonRepair}
 use Rattle.wish.specs.declared.Wish.{Wish}
-use Rattle.wish.specs.declared.Smallest.{Smallest}
-use Rattle.wish.specs.Wish.{SmallestFor, said_smallest, SmallestCall}
+use Rattle.wish.specs.Wish.{Smallest, SmallestFor, said_smallest, SmallestCall}
 use Rattle.terms.specs.Terms.{larger}
 use Rattle.wish.specs.Closed.{answer_for}
 use Rattle.wish.proofs.Laws.{smallest, closed_forms}

@@ -7,7 +7,7 @@
 --   WishCase wish_table WishesHold   wishes and their answers; that each is so
 -- Assumes nothing.
 use Prim.{Unit}
-use Rattle.std.specs.Prelude.{ℕ, ◌≡◌, true, false, List, [], ◌∷◌}
+use Rattle.std.specs.Prelude.{ℕ, ◌≡◌, true, false, List, [], ◌∷◌, Option}
 use Rattle.field.specs.Field.{mul}
 use Rattle.fragments.specs.Fragments.{All, fragment, from}
 use Rattle.terms.specs.Terms.{plan_ok, complete_at, incomplete_at, class_of, decided}
@@ -19,14 +19,13 @@ use Rattle.terms.specs.declared.Verdict.{Verdict}
 use Rattle.terms.specs.declared.Verdict.TheVariants.{Complete, Repair, Aborted, Incomplete}
 use Rattle.terms.specs.Stamp.{top}
 use Rattle.wish.specs.declared.Wish.{Wish}
-use Rattle.wish.specs.declared.Smallest.{Smallest}
-use Rattle.wish.specs.Wish.{Counts, counts_of, Every, SaidSmallest, counts, said_smallest, SmallestCall}
+use Rattle.wish.specs.Wish.{Smallest, Counts, counts_of, Every, SaidSmallest, counts, said_smallest, SmallestCall}
 use Rattle.wish.specs.Wish as wish
 use Rattle.node.specs.Node.{served, served_outcome, refused}
 use Rattle.node.specs.Fresh.{freshened, fresh_outcome}
 use Rattle.node.specs.Fresh as fresh
 use Rattle.terms.specs.declared.Ask.{Ask}
-use Rattle.rounds.specs.declared.Bound.{Bound}
+use Rattle.terms.specs.declared.Timestamp.{Timestamp}
 use Rattle.standing.specs.declared.Operation.{Operation}
 use Rattle.session.specs.declared.Session.{Session}
 use Rattle.session.specs.Session as session
@@ -42,7 +41,7 @@ pub record RefusedOne (p : Plan) : Type 0 where
   pub outside : plan_ok p ≡ false
   pub node : (f b y : List ℕ) → served p f b y ≡ served_outcome (refused 1) b y
   pub fresh : (node : ℕ) (b : List ℕ) → freshened p node b ≡ fresh_outcome (fresh.refused 1) b
-  pub opening : (op : Operation) (b : Bound) (a : Ask) → open_with op b p a ≡ opens 1 (no_session op)
+  pub opening : (op : Operation) (b : Option Timestamp) (a : Ask) → open_with op b p a ≡ opens 1 (no_session op)
   pub owed : (s : Session) (node : ℕ) (d q : List ℕ) → owed_to p s node d q ≡ dues (owed.refused 1) q
   pub write : (s : Session) (f d i : List ℕ) → write_reply p s f d i ≡ leaves (session.refused 1) s d
   pub read : (s : Session) (f d i : List ℕ) → read_reply p s f d i ≡ reader.outcome (session.refused 1) s d i

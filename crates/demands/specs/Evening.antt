@@ -9,14 +9,13 @@
 --   is_frame_number, all_numbers   what a frame's number may be
 -- Assumes nothing.
 use Prim.{Unit}
-use Rattle.std.specs.Prelude.{ℕ, ◌+◌, ◌≤◌, ◌<◌, ◌≡◌, Bool, true, cond, List, [], ◌∷◌, ◌++◌, length, eqb}
+use Rattle.std.specs.Prelude.{ℕ, ◌+◌, ◌≤◌, ◌<◌, ◌≡◌, Bool, true, cond, List, [], ◌∷◌, ◌++◌, length, eqb, Ok}
 use Rattle.terms.specs.Ladder.{◌and◌}
 use Rattle.terms.specs.Terms.{plan_ok}
 use Rattle.terms.specs.declared.Plan.{Plan}
 use Rattle.frame.specs.Frame.{rest_of, one_of}
-use Rattle.runs.specs.declared.Ran.TheVariants.{Did}
 use Rattle.runs.specs.Cuts.{cut_run}
-use Rattle.runs.specs.Runs.{RunCall}
+use Rattle.runs.specs.Runs.{RunCall, ran_of}
 use Rattle.store.specs.Deliver.{Among, passes, Ready}
 
 pub record RunDelivery : Type 0 where
@@ -41,7 +40,7 @@ delivered_by_runs (d ∷ ds) books = delivered_by_runs ds (books_after_run d boo
 abbrev pub RunsCalled : Plan → (ℕ → List ℕ) → List RunDelivery → Type 0
 RunsCalled p books [] = Unit {0}
 RunsCalled p books (d ∷ ds) =
-    RunCall p d.run (books d.node) d.reply d.numbers (Did d.frames d.written d.ended) d.book_left d.reply_left d.numbers_left
+    RunCall p d.run (books d.node) d.reply d.numbers (Ok (ran_of d.frames d.written d.ended)) d.book_left d.reply_left d.numbers_left
     × RunsCalled p (books_after_run d books) ds
 
 unfoldable pub frames_to : ℕ → List RunDelivery → List (List ℕ)

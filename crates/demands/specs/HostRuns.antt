@@ -9,11 +9,10 @@
 --   RunBelow           the whole run below
 --   HostOwes           what the request owed to a node is, by its number and the buffer
 -- Assumes nothing.
-use Prim.{Unit}
-use Rattle.std.specs.Prelude.{ℕ, ◌≡◌, cond, List, [], ◌∷◌, ◌⊎◌, eqb, length}
+use Prim.{Unit, tt}
+use Rattle.std.specs.Prelude.{ℕ, ◌≡◌, cond, List, [], ◌∷◌, ◌⊎◌, eqb, length, Ok}
 use Rattle.octets.specs.Bytes.{Octets}
 use Rattle.session.specs.declared.opening.Opened.{Opened}
-use Rattle.session.specs.declared.opening.Opening.TheVariants.{Accepted}
 use Rattle.standing.specs.declared.Operation.{Operation}
 use Rattle.session.specs.declared.Session.{Session}
 use Rattle.session.specs.Opening.{OpenCall}
@@ -54,7 +53,7 @@ HostCalls C s d (t ∷ ts) = C s d t × HostCalls C t.session_left t.desk_left t
 
 -- ---- the calls below
 abbrev pub opened_of : List ℕ → Opened
-opened_of s = record { answer = Accepted; session = session_of s }
+opened_of s = record { answer = (Ok tt); session = session_of s }
 
 abbrev pub turn_of : HostTurn → Turn
 turn_of t =

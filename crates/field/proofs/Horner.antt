@@ -211,11 +211,6 @@ passed_by b ws from k z ne j l u = go (ℕ_discrete j k)
     go (yes q) = rw q (bit (get_or ws k 0 / 2 ^ b) ne)
     go (no q) = z j l (omega arith)
 
-pub not_found : (b : ℕ) (ws : List ℕ) (from k : ℕ) → (from ≤ length ws → k ≤ length ws) → length ws ≤ k
-    → ((j : ℕ) → from ≤ j → j < k → bit_of b ws j ≡ 0) → Next b ws from (length ws)
-not_found b ws from k m h z =
-    record { within = omega arith; past = λ u. u; between = λ j l u. z j l (omega arith); here = λ u. absurd (omega arith); none = λ u. refl }
-
 -- the search goes on behind what it found
 pub further : (b : ℕ) (ws : List ℕ) (k r s : ℕ) → k < length ws → Next b ws (k + 1) r → Next b ws (r + 1) s → length ws - s < length ws - k
 further b ws k r s h n o =

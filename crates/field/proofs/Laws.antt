@@ -1,8 +1,9 @@
 -- The laws of the field. Assumes nothing.
 use mathlib.Core.Path.{◌≡◌, refl, sym, ap, ap₂, ◌∙◌}
 use mathlib.Core.Bool.{Bool}
-use Prim.Native.Nat.{ℕ, zero, suc, ◌+◌, ◌-◌, ◌*◌, ◌/◌, ◌%◌, ◌≤◌, ◌<◌}
-use native.Mathlib.Nat.{mod-lt, mod-eq_of_lt, mul-zero, mul-one}
+use Prim.Native.Nat.{ℕ, zero, suc, ◌+◌, ◌-◌, ◌*◌, ◌/◌, ◌%◌, ◌^◌, ◌≤◌, ◌<◌}
+use native.Mathlib.Numerals.{add-one}
+use native.Mathlib.Nat.{pow-suc, div-div-eq-div-mul, mod-lt, mod-eq_of_lt, mul-zero, mul-one}
 use native.Mathlib.Omega.{arith}
 use lib.Dec.{T, eqb, eqb→eq, lit<}
 use lib.Bits.{bit_xor, xor_shr, xor_mod, xor_lt, xor_block, xor_zero_l, xor_zero_r}
@@ -195,18 +196,20 @@ pub mul_left_comm : (a b c : ℕ) → mul a (mul b c) ≡ mul b (mul a c)
 mul_left_comm a b c = sym (mul_assoc_f a b c) ∙ ap (λ (x : ℕ). mul x c) (mul_comm_f a b) ∙ mul_assoc_f b a c
 
 -- ---- the loop of a product: the sum so far, and the places that are left
-pub product_start : (a b : ℕ) → a < 256 → b < 256 → bit_xor 0 (mul_n 8 a b) ≡ mul a b
+pub product_start : (a b : ℕ) → a < 256 → b < 256 → bit_xor 0 (mul_n 8 a (b / 2 ^ 0)) ≡ mul a b
 unfolding mul
-product_start a b ha hb = xor_zero_l (mul_n 8 a b) ∙ sym (ap₂ (mul_n 8) (mod-eq_of_lt ha) (mod-eq_of_lt hb))
+product_start a b ha hb = let z : b / 1 ≡ b = omega arith in rw z (xor_zero_l (mul_n 8 a b) ∙ sym (ap₂ (mul_n 8) (mod-eq_of_lt ha) (mod-eq_of_lt hb)))
 
-pub product_turn : (i s a x b R : ℕ) → i < 8 → x ≡ xtime a → bit_xor s (mul_n (8 - i) a b) ≡ R
-    → bit_xor (bit_xor s (a * (b % 2))) (mul_n (8 - (i + 1)) x (b / 2)) ≡ R
+pub product_turn : (i s a x b R : ℕ) → i < 8 → x ≡ xtime a → bit_xor s (mul_n (8 - i) a (b / 2 ^ i)) ≡ R
+    → bit_xor (bit_xor s (a * (b / 2 ^ i % 2))) (mul_n (8 - (i + 1)) x (b / 2 ^ (i + 1))) ≡ R
 unfolding mul_n
 product_turn i s a x b R h e q =
     let n : 8 - i ≡ suc (8 - (i + 1)) = omega arith in
-    xor_assoc s (a * (b % 2)) (mul_n (8 - (i + 1)) x (b / 2))
-    ∙ ap (λ (y : ℕ). bit_xor s (bit_xor (a * (b % 2)) (mul_n (8 - (i + 1)) y (b / 2)))) e
-    ∙ sym (ap (λ (k : ℕ). bit_xor s (mul_n k a b)) n) ∙ q
+    let y = b / 2 ^ i in
+    let d : b / 2 ^ (i + 1) ≡ y / 2 = rw (add-one, pow-suc) (sym (div-div-eq-div-mul b (2 ^ i) 2)) in
+    rw d (xor_assoc s (a * (y % 2)) (mul_n (8 - (i + 1)) x (y / 2))
+    ∙ ap (λ (z : ℕ). bit_xor s (bit_xor (a * (y % 2)) (mul_n (8 - (i + 1)) z (y / 2)))) e
+    ∙ sym (ap (λ (k : ℕ). bit_xor s (mul_n k a y)) n) ∙ q)
 
 pub product_end : (i s a b R : ℕ) → 8 ≤ i → bit_xor s (mul_n (8 - i) a b) ≡ R → s ≡ R
 unfolding mul_n

@@ -1,11 +1,16 @@
 -- What only the functions below `combine` need: weights bit by bit. Assumes nothing.
 use Rattle.std.specs.Prelude.{cond, List, ◌≡◌, ℕ, ◌+◌, ◌-◌, ◌*◌, ◌/◌, ◌%◌, ◌^◌, ◌≤◌, ◌<◌, ltb, length, get_or}
 use Rattle.std.specs.Int.Bits.{bit_xor}
+use Rattle.field.specs.declared.sums.Factor.{Factor}
+use Rattle.field.specs.declared.sums.Factor.TheVariants.{Zero, One, Two, Four}
 use Rattle.field.specs.Sums.{sum_from}
 
 -- what a pass multiplies by
-abbrev pub Factor : ℕ → Type 0
-Factor g = (g < 5) × (g ≡ 3 → ⊥)
+abbrev pub number : Factor → ℕ
+number Zero = 0
+number One = 1
+number Two = 2
+number Four = 4
 
 -- bit b of weight k
 unfoldable pub bit_of : ℕ → List ℕ → ℕ → ℕ

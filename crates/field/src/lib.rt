@@ -2,7 +2,7 @@
 // bytes are added by exclusive or; everything else here is made of one step, doubling. `sums` does that step to whole strips of bytes.
 #![tactic(auto)]
 
-ghost use Rattle.std.specs.Prelude.{◌≡◌, ℕ, ◌<◌, length, get_or};
+ghost use Rattle.std.specs.Prelude.{◌≡◌, ℕ, ◌<◌, get_or};
 ghost use Rattle.field.specs.Field.{xtime, mul, inv};
 
 pub mod sums;
@@ -29,15 +29,10 @@ pub fn product(a: u8, b: u8) -> u8
 {
     let mut sum: u8 = 0;
     let mut doubled = a;
-    let mut bits = b;
-    let mut i: usize = 0;
-    while i < 8 {
-        // This multiple of a belongs to the sum where the lowest bit that is left of b is 1.
-        sum = sum ^ (doubled * (bits % 2));
-        // The next multiple is twice this one, and the next bit of b becomes the lowest.
+    for i in 0u32..8 {
+        // This multiple of a belongs to the sum where bit i of b is 1; the next one is twice this one.
+        sum ^= doubled * ((b >> i) % 2);
         doubled = double(doubled);
-        bits = bits / 2;
-        i += 1;
     }
     sum
 }
@@ -61,12 +56,9 @@ pub fn inverse(a: u8) -> u8
 
 // Each byte of a row replaced by its inverse, side by side: a row is as wide as a vector of the processor.
 pub fn invert(row: &mut [u8; 16])
-    requires { length row.old ≡ 16 }
-    ensures { (length row.new ≡ 16) × ((k : ℕ) → k < 16 → get_or row.new k 0 ≡ inv (get_or row.old k 0)) }
+    ensures { (k : ℕ) → k < 16 → get_or row.new k 0 ≡ inv (get_or row.old k 0) }
 {
-    let mut k: usize = 0;
-    while k < 16 {
-        row[k] = inverse(row[k]);
-        k += 1;
+    for x in row.iter_mut() {
+        *x = inverse(*x);
     }
 }

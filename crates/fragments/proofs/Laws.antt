@@ -1,6 +1,6 @@
 -- One law for each hard need of the functions. Assumes nothing.
 use mathlib.Core.Path.{◌≡◌, refl, sym, ap, ap₂, ◌∙◌}
-use mathlib.Core.Bool.{Bool, true, false, cond}
+use mathlib.Core.Bool.{Bool, true, false, cond, ◌||◌}
 use mathlib.Core.List.{List, [], ◌∷◌, ◌++◌}
 use Prim.Native.Nat.{ℕ, zero, suc, ◌+◌, ◌-◌, ◌*◌, ◌≤◌, ◌<◌}
 use native.Mathlib.Nat.{le_of_suc-le-suc, not-suc-le-zero, add-zero, add-suc, suc-add}
@@ -9,8 +9,9 @@ use native.Mathlib.Numerals.{add-one}
 use native.Mathlib.Omega.{arith}
 use borrow.Author.Tests.{eq-eqb, ne_eqb, eqb-true, ltb-true, ltb-false}
 use lib.Dec.{eqb, ltb}
-use lib.ListN.{length, get_or, take, drop, drop_of_length-le, length-drop}
-use lib.Seq.{drop-cons, length-take-le}
+use lib.ListN.{length, get_or, take, drop, length-drop}
+use lib.Seq.{length-take-le}
+use Rattle.std.specs.List.{list_any}
 use Rattle.octets.specs.Bytes.{part, put}
 use Rattle.octets.proofs.Laws.{length_part, part_part, put_lent, slot_fits}
 use Rattle.octets.proofs.Meaning.{put_whole, get_d_part}
@@ -21,18 +22,15 @@ use Rattle.fragments.specs.Inside.{strip_of}
 use Rattle.fragments.proofs.Lists.{length_tabulate, get_d_tabulate, tabulate_ext, to_tabulate, all_at}
 use Rattle.fragments.proofs.Interp.{all, value_ext}
 
--- ---- among: what is left to look at
-pub among_here : (qs : List ℕ) (x k : ℕ) (w : Bool) → k < length qs → w ≡ among x (drop k qs) → get_or qs k 0 ≡ x → true ≡ w
+-- ---- among
+pub among_any : (x : ℕ) (qs : List ℕ) → list_any (λ y. eqb y x) qs ≡ among x qs
 unfolding among
-among_here qs x k w h e t = sym (e ∙ rw (drop-cons qs k 0 h, eq-eqb _ _ t))
-
-pub among_on : (qs : List ℕ) (x k : ℕ) (w : Bool) → k < length qs → w ≡ among x (drop k qs) → (get_or qs k 0 ≡ x → ⊥) → w ≡ among x (drop (k + 1) qs)
-unfolding among
-among_on qs x k w h e t = e ∙ rw (drop-cons qs k 0 h, ne_eqb _ _ t, add-one)
-
-pub among_end : (qs : List ℕ) (x k : ℕ) (w : Bool) → length qs ≤ k → w ≡ among x (drop k qs) → false ≡ w
-unfolding among
-among_end qs x k w h e = sym (e ∙ ap (among x) (drop_of_length-le qs h))
+among_any x [] = refl
+among_any x (q ∷ qs) = go (eqb q x) (among_any x qs)
+  where
+    go : (b : Bool) → list_any (λ y. eqb y x) qs ≡ among x qs → (b || list_any (λ y. eqb y x) qs) ≡ cond b true (among x qs)
+    go true h = refl
+    go false h = h
 
 -- what holds of every point of qs holds of one among them
 pub among_all : (P : ℕ → Type 0) (x : ℕ) (qs : List ℕ) → ((k : ℕ) → k < length qs → P (get_or qs k 0)) → among x qs ≡ true → P x

@@ -1,7 +1,7 @@
 -- A weight in two parts: the product of x's distances from the other points, and the inverse of that of the point's own. Assumes nothing.
 use mathlib.Core.Path.{◌≡◌, refl, sym, ap, ap₂, ◌∙◌}
 use mathlib.Core.Bool.{Bool, true, false, cond}
-use mathlib.Core.List.{List, [], ◌∷◌}
+use mathlib.Core.List.{List, [], ◌∷◌, ◌++◌}
 use Prim.Native.Nat.{ℕ, suc, ◌+◌, ◌≤◌, ◌<◌}
 use native.Mathlib.Nat.{add-zero}
 use native.Mathlib.Numerals.{add-one}
@@ -10,17 +10,18 @@ use borrow.Author.Tests.{eq-eqb, ne_eqb, ltb-true, ltb-false}
 use lib.Dec.{eqb, ltb, lit<}
 use lib.Bits.{bit_xor}
 use lib.ListN.{length, get_or, take, drop, replicate, get_or-replicate, drop_of_length-le, get_or-eq_default}
-use lib.Seq.{drop-cons, length-take-le, get_or-take}
-use Rattle.octets.specs.Bytes.{part, put, Octets}
-use Rattle.octets.proofs.Laws.{length_put, part_all, part_put_same}
+use lib.Seq.{drop-cons, length-take-le, get_or-take, take_at}
+use Rattle.octets.specs.Bytes.{part, Octets}
+use Rattle.octets.proofs.Laws.{length_put, put_lent}
 use Rattle.octets.proofs.Meaning.{octets_part, octets_put}
 use Rattle.field.specs.Field.{mul, inv, div}
 use Rattle.field.specs.Sums.{sum_from, weighted}
 use Rattle.field.proofs.Laws.{mul_lt, mul_comm_f, mul_assoc_f, one_mul, mul_one_f}
 use Rattle.field.proofs.Division.{inv_lt, div_inv, div_one, div_times}
 use Rattle.fragments.specs.Fragments.{ratio, weight_of, blend, value}
-use Rattle.fragments.specs.Inside.{distance_of, distances_of, Row, points_of, Ready}
-use Rattle.fragments.specs.declared.Basis.{Basis}
+use Rattle.fragments.specs.Basis.{distance_of, distances_of, Row, Ready}
+use Rattle.fragments.specs.Inside.{points_of}
+use Rattle.fragments.specs.declared.basis.Basis.{Basis}
 use Rattle.terms.specs.declared.Slots.{Slots}
 use Rattle.terms.specs.Terms.{fragment_at}
 use Rattle.fragments.proofs.Interp.{Bytes, plus_lt}
@@ -119,24 +120,22 @@ sixteen x = replicate 16 x
 pub row_of : (x : ℕ) → x < 256 → Row (sixteen x)
 row_of x h = row_by (sixteen x) (λ k. x) refl (λ k l. get_or-replicate 16 k x 0 l) (λ k. h)
 
-pub points_row : (qs new : List ℕ) → length qs ≤ 16 → Octets qs → new ≡ put (sixteen 0) 0 (part qs 0 (length qs)) → Row new
-points_row qs new few h e =
-    let e : new ≡ put (sixteen 0) 0 qs = e ∙ ap (put (sixteen 0) 0) (part_all qs) in
-    rw e
+-- the points: qs, and 0 past its end
+pub points_row : (qs s : List ℕ) → length qs ≤ 16 → Octets qs → s ≡ qs → Row (s ++ drop (length qs) (sixteen 0))
+points_row qs s few h e =
+    rw (put_lent (sixteen 0) 0 (length qs) s (ap length e), e)
     (record {
       wide = length_put (sixteen 0) 0 qs (omega arith);
       bytes = octets_put (sixteen 0) 0 qs (row_of 0 (lit< tt)).bytes h;
     })
 
-pub points_kept : (qs new : List ℕ) → length qs ≤ 16 → new ≡ put (sixteen 0) 0 (part qs 0 (length qs)) → take (length qs) new ≡ qs
-unfolding part
-points_kept qs new few e =
-    ap (take (length qs)) (e ∙ ap (put (sixteen 0) 0) (part_all qs)) ∙ part_put_same (sixteen 0) 0 qs (length qs) refl (omega arith)
+pub points_kept : (qs s : List ℕ) → s ≡ qs → take (length qs) (s ++ drop (length qs) (sixteen 0)) ≡ qs
+points_kept qs s e = take_at s (drop (length qs) (sixteen 0)) (length qs) (ap length e) ∙ e
 
 pub basis_ready : (m : ℕ) (points row scales : List ℕ) → m ≤ 16 → Row points
     → ((k : ℕ) → k < 16 → get_or row k 0 ≡ mul (get_or (sixteen 1) k 0) (distances_of (take m points) (get_or points k 0) (get_or points k 0)))
     → length scales ≡ 16 → ((k : ℕ) → k < 16 → get_or scales k 0 ≡ inv (get_or row k 0))
-    → Ready (record { points = points; scales = scales; size = m })
+    → Ready points scales m
 basis_ready m points row scales few p e l f =
     record {
       few = few;
@@ -148,27 +147,27 @@ basis_ready m points row scales few p e l f =
     }
 
 -- ---- a basis, used
-module _ (b : Basis) (ready : Ready b) where
+module _ (b : Basis) where
   pub points_length : length (points_of b) ≡ b.size
-  points_length = length-take-le b.size b.points (omega (arith, ready.few, ready.points.wide))
+  points_length = length-take-le b.size b.points (omega (arith, b.ready.few, b.ready.points.wide))
 
   -- the start of another row has as many
   pub start_length : (row : List ℕ) → length row ≡ 16 → b.size ≡ length (take b.size row)
-  start_length row l = sym (length-take-le b.size row (omega (arith, ready.few)))
+  start_length row l = sym (length-take-le b.size row (omega (arith, b.ready.few)))
 
   point : (k : ℕ) → k < b.size → get_or (points_of b) k 0 ≡ get_or b.points k 0
   point k h = get_or-take b.size b.points k 0 h
 
   points_bytes : Bytes (points_of b)
-  points_bytes = octets_bytes (points_of b) (unfold part in octets_part b.points 0 b.size ready.points.bytes)
+  points_bytes = octets_bytes (points_of b) (unfold part in octets_part b.points 0 b.size b.ready.points.bytes)
 
   pub weights_are : (x : ℕ) (row : List ℕ)
       → ((k : ℕ) → k < 16 → get_or row k 0 ≡ mul (get_or b.scales k 0) (distances_of (points_of b) (get_or (sixteen x) k 0) (get_or b.points k 0)))
       → (k : ℕ) → k < b.size → get_or row k 0 ≡ weight_of (points_of b) x (get_or (points_of b) k 0)
   weights_are x row e k h =
-      let h16 : k < 16 = omega (arith, ready.few) in
+      let h16 : k < 16 = omega (arith, b.ready.few) in
       let p = get_or b.points k 0 in
-      weight_by (points_of b) x p (get_or b.scales k 0) (get_or row k 0) (ready.points.bytes k) points_bytes (ready.right k h16)
+      weight_by (points_of b) x p (get_or b.scales k 0) (get_or row k 0) (b.ready.points.bytes k) points_bytes (b.ready.right k h16)
       (e k h16 ∙ ap (λ (n : ℕ). mul (get_or b.scales k 0) (distances_of (points_of b) n p)) (get_or-replicate 16 k x 0 h16))
       ∙ ap (weight_of (points_of b) x) (sym (point k h))
 

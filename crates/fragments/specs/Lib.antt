@@ -1,2 +1,3 @@
 pub mod Fragments
+pub mod Basis
 pub mod Inside

@@ -6,8 +6,12 @@ ghost use Rattle.std.specs.Prelude.{◌≡◌, ℕ, ◌+◌, ◌*◌, ◌^◌, �
 ghost use Rattle.field.specs.Field.{mul};
 ghost use Rattle.terms.specs.Terms.{fragment_at, runs_of};
 ghost use Rattle.fragments.specs.Fragments.{among, weight_of, value, tabulate, regenerated, Sources, Room, laid, encoded, from};
-ghost use Rattle.fragments.specs.Inside.{distance_of, distances_of, Row, points_of, Ready};
+ghost use Rattle.fragments.specs.Basis.{distance_of, distances_of};
+ghost use Rattle.fragments.specs.Inside.{points_of};
 
+pub mod basis;
+
+pub use basis::Basis;
 use terms::Slots;
 
 // The points of fragments 0 to 15.
@@ -17,24 +21,7 @@ const POINTS: [u8; 16] = [0, 1, 2, 3, 4, 5, 6, 7, 8, 9, 10, 11, 12, 13, 14, 15];
 pub fn is_among(qs: &[u8], x: u8) -> bool
     ensures { result ≡ among x qs.now }
 {
-    let mut k: usize = 0;
-    while k < qs.len() {
-        if qs[k] == x {
-            return true;
-        }
-        k += 1;
-    }
-    false
-}
-
-// The points of some sources, the first `size` of `points`, and for each the part of its weight that is the same for every value. The weight of
-// the source at p for the value at x is the product of (x + q) / (p + q) over the other points q: of that the scale holds what p alone
-// decides, the inverse of the product of p + q. A row is 16 wide, as a vector of the processor is.
-#[derive(Clone, Copy)]
-pub struct Basis {
-    pub points: [u8; 16],
-    pub scales: [u8; 16],
-    pub size: usize,
+    qs.contains(&x)
 }
 
 // x + q, the distance of x from q, or 1 where q is p itself.
@@ -46,65 +33,46 @@ fn distance(x: u8, p: u8, q: u8) -> u8
 
 // Each of a row times the distance of its x in `at` from q; the one whose own point is q stays.
 fn times_distance(q: u8, at: &[u8; 16], points: &[u8; 16], row: &mut [u8; 16])
-    requires { Row row.old }
-    ensures { (Row row.new) × ((k : ℕ) → k < 16
-        → get_or row.new k 0 ≡ mul (distance_of (get_or at.now k 0) (get_or points.now k 0) q) (get_or row.old k 0)) }
+    ensures { (k : ℕ) → k < 16
+        → get_or row.new k 0 ≡ mul (distance_of (get_or at.now k 0) (get_or points.now k 0) q) (get_or row.old k 0) }
 {
-    let mut k: usize = 0;
-    while k < 16 {
+    for k in 0..16 {
         row[k] = field::product(distance(at[k], points[k], q), row[k]);
-        k += 1;
     }
 }
 
 // Each of a row times the distances of its x in `at` from the first m points but its own.
 fn times_distances(m: usize, at: &[u8; 16], points: &[u8; 16], row: &mut [u8; 16])
-    requires { (m ≤ 16) × (Row points.now) × (Row row.old) }
-    ensures { (Row row.new) × ((k : ℕ) → k < 16 → get_or row.new k 0
-        ≡ mul (get_or row.old k 0) (distances_of (take m points.now) (get_or at.now k 0) (get_or points.now k 0))) }
+    requires { m ≤ 16 }
+    ensures { (k : ℕ) → k < 16 → get_or row.new k 0
+        ≡ mul (get_or row.old k 0) (distances_of (take m points.now) (get_or at.now k 0) (get_or points.now k 0)) }
 {
-    let mut k: usize = 0;
-    while k < m {
-        times_distance(points[k], at, points, row);
-        k += 1;
+    for q in &points[..m] {
+        times_distance(*q, at, points, row);
     }
 }
 
 // The basis of the points qs.
 pub fn basis_of(qs: &[u8]) -> Basis
     requires { length qs.now ≤ 16 }
-    ensures { (Ready result) × (points_of result ≡ qs.now) }
+    ensures { points_of result ≡ qs.now }
 {
-    let m = qs.len();
+    let size = qs.len();
     let mut points = [0u8; 16];
-    octets::copy(qs, 0, m, &mut points, 0);
-    let at = points;
+    points[..size].copy_from_slice(qs);
     let mut scales = [1u8; 16];
-    times_distances(m, &at, &points, &mut scales);
+    times_distances(size, &points, &points, &mut scales);
     field::invert(&mut scales);
     Basis {
-        points: points,
-        scales: scales,
-        size: m,
-    }
-}
-
-impl Basis {
-    // Whether x is one of its points.
-    pub fn has(self, x: u8) -> bool
-        requires { Ready self }
-        ensures { result ≡ among x (points_of self) }
-    {
-        let points = self.points;
-        let m = self.size;
-        is_among(&points[..m], x)
+        points,
+        scales,
+        size,
     }
 }
 
 // The weight of each point for the value at x.
 fn weights(b: Basis, x: u8) -> [u8; 16]
-    requires { Ready b }
-    ensures { (length result ≡ 16) × ((k : ℕ) → k < b.size → get_or result k 0 ≡ weight_of (points_of b) x (get_or (points_of b) k 0)) }
+    ensures { (k : ℕ) → k < b.size → get_or result k 0 ≡ weight_of (points_of b) x (get_or (points_of b) k 0) }
 {
     let points = b.points;
     let at = [x; 16];
@@ -115,26 +83,24 @@ fn weights(b: Basis, x: u8) -> [u8; 16]
 
 // The place of the fragment of each point, in the slots s.
 fn places(b: Basis, s: Slots) -> [usize; 16]
-    requires { (Ready b) × ((k : ℕ) → k < b.size → fragment_at s (get_or (points_of b) k 0) < 2 ^ 64) }
-    ensures { (length result ≡ 16) × ((k : ℕ) → k < b.size → get_or result k 0 ≡ fragment_at s (get_or (points_of b) k 0)) }
+    requires { (k : ℕ) → k < b.size → fragment_at s (get_or (points_of b) k 0) < 2 ^ 64 }
+    ensures { (k : ℕ) → k < b.size → get_or result k 0 ≡ fragment_at s (get_or (points_of b) k 0) }
 {
     let first = s.head;
     let stride = s.size;
     let points = b.points;
     let m = b.size;
     let mut r = [0usize; 16];
-    let mut k: usize = 0;
-    while k < m {
+    for k in 0..m {
         let p = points[k] as usize;
         r[k] = first + p * stride;
-        k += 1;
     }
     r
 }
 
 // The value at x, for each byte of out, through the fragments of the basis: the sources added up, each times its weight.
 fn combine(src: &[u8], s: Slots, b: Basis, x: u8, out: &mut [u8])
-    requires { (Ready b) × (Sources src.now s (points_of b)) × (length out.old ≡ s.fragment) }
+    requires { (Sources src.now s (points_of b)) × (length out.old ≡ s.fragment) }
     ensures { out.new
         ≡ tabulate s.fragment (λ i. value (points_of b) (λ p. get_or src.now (fragment_at s p + i) 0) x) }
 {
@@ -146,7 +112,7 @@ fn combine(src: &[u8], s: Slots, b: Basis, x: u8, out: &mut [u8])
 
 // Fragment x, from those of the basis in the slots s, as the whole of out.
 pub fn regenerate(src: &[u8], s: Slots, b: Basis, x: u8, out: &mut [u8])
-    requires { (Ready b) × (Sources src.now s (points_of b)) × (length out.old ≡ s.fragment) }
+    requires { (Sources src.now s (points_of b)) × (length out.old ≡ s.fragment) }
     ensures { out.new ≡ regenerated src.now s (points_of b) x }
 {
     if b.has(x) {
@@ -158,15 +124,13 @@ pub fn regenerate(src: &[u8], s: Slots, b: Basis, x: u8, out: &mut [u8])
 
 // A fragment for each of the slots to, from those of the basis in the slots s.
 fn lay(src: &[u8], s: Slots, b: Basis, out: &mut [u8], to: Slots)
-    requires { (Ready b) × (Sources src.now s (points_of b)) × (s.fragment ≡ to.fragment) × (to.n ≤ 16) × (Room to to.n out.old) }
+    requires { (Sources src.now s (points_of b)) × (s.fragment ≡ to.fragment) × (to.n ≤ 16) × (Room to to.n out.old) }
     ensures { out.new ≡ laid src.now s (points_of b) to to.n out.old }
 {
-    let mut k: usize = 0;
-    while k < to.n {
+    for k in 0..to.n {
         let a = to.head + k * to.size;
         let e = a + to.fragment;
         regenerate(src, s, b, k as u8, &mut out[a..e]);
-        k += 1;
     }
 }
 

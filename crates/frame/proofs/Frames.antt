@@ -1,5 +1,6 @@
 -- What refusal 4 asks of a frame, as plain facts: `FrameIs`, `RequestIs`, `ReplyIs`, each with its laws `is`, `back` and `last`
 -- (the last rule decides); the length of a frame by its kind; the kinds of a party. Assumes nothing.
+use Rattle.std.specs.Prelude.{Option, Some, None}
 use mathlib.Core.Path.{◌≡◌, refl, sym, ap, ◌∙◌}
 use mathlib.Core.Bool.{Bool, true, false, cond}
 use mathlib.Core.List.{List, [], ◌∷◌}
@@ -19,9 +20,6 @@ use Rattle.terms.proofs.Plans.{not_ok}
 use Rattle.terms.proofs.Picks.{itself}
 use Rattle.frame.specs.Frame.{time_reply_kind, write_request_kind, write_reply_kind, read_previous_kind, head_bytes, framed, rest_of, version_of, kind_of, frame_node, header_in, shaped, body_fits, one_of, kinds_for, for_party, suits, good_frame, good_request, good_reply, door, request_in, reply_in, cut_at}
 use Rattle.frame.specs.declared.Header.{Header}
-use Rattle.frame.specs.declared.Door.{Door}
-use Rattle.frame.specs.declared.Door.TheVariants.{Bad, Open}
-use Rattle.frame.specs.declared.Cut.TheVariants.{EndsAt, NoFrame}
 use Rattle.frame.specs.declared.Party.{Party}
 use Rattle.frame.specs.declared.Party.TheVariants.{Node, Client}
 
@@ -137,33 +135,33 @@ pub reply_back : (p : Plan) (f : List ℕ) → ReplyIs p f → good_reply p f �
 reply_back p f q = sym (reply_last p f _ (frame_back Client p f q.frame_is) refl) ∙ lt-ltb _ _ q.node_low
 
 -- ---- the door of a call
-pub door_shut : (g : Bool) (f : List ℕ) → g ≡ false → Bad ≡ door g f
+pub door_shut : (g : Bool) (f : List ℕ) → g ≡ false → None ≡ door g f
 door_shut g f e = rw e
 
-pub door_open : (g : Bool) (f : List ℕ) (h : Header) → g ≡ true → h ≡ header_in f → Open h ≡ door g f
-door_open g f h e k = rw e (ap Open k)
+pub door_open : (g : Bool) (f : List ℕ) (h : Header) → g ≡ true → h ≡ header_in f → Some h ≡ door g f
+door_open g f h e k = rw e (ap Some k)
 
 -- what the code has read of a frame, where its header fits or not
 module _ (party : Party) (p : Plan) (f : List ℕ) (h : Header) {r : Bool} (s : shaped f ≡ true) (e : h ≡ header_in f) (t : r ≡ suits party p h (length f)) where
   pub frame_read : r ≡ good_frame party p f
   frame_read = frame_last party p f r s (t ∙ ap (λ (x : Header). suits party p x (length f)) e)
 
-pub request_door : (p : Plan) (node : ℕ) (f : List ℕ) (h : Header) → good_frame Node p f ≡ true → h ≡ header_in f → h.node ≡ node → Open h ≡ request_in p node f
+pub request_door : (p : Plan) (node : ℕ) (f : List ℕ) (h : Header) → good_frame Node p f ≡ true → h ≡ header_in f → h.node ≡ node → Some h ≡ request_in p node f
 request_door p node f h g e n = door_open _ f h (sym (request_last p node f h.node g (ap (λ (x : Header). x.node) e)) ∙ eq-eqb _ _ n) e
 
-pub request_elsewhere : (p : Plan) (node : ℕ) (f : List ℕ) (h : Header) → good_frame Node p f ≡ true → h ≡ header_in f → (h.node ≡ node → ⊥) → Bad ≡ request_in p node f
+pub request_elsewhere : (p : Plan) (node : ℕ) (f : List ℕ) (h : Header) → good_frame Node p f ≡ true → h ≡ header_in f → (h.node ≡ node → ⊥) → None ≡ request_in p node f
 request_elsewhere p node f h g e n = door_shut _ f (sym (request_last p node f h.node g (ap (λ (x : Header). x.node) e)) ∙ ne_eqb _ _ n)
 
-pub request_shut : (p : Plan) (node : ℕ) (f : List ℕ) → good_frame Node p f ≡ false → Bad ≡ request_in p node f
+pub request_shut : (p : Plan) (node : ℕ) (f : List ℕ) → good_frame Node p f ≡ false → None ≡ request_in p node f
 request_shut p node f g = door_shut _ f (sym (request_ill p node f g))
 
-pub reply_door : (p : Plan) (f : List ℕ) (h : Header) → good_frame Client p f ≡ true → h ≡ header_in f → h.node < p.n → Open h ≡ reply_in p f
+pub reply_door : (p : Plan) (f : List ℕ) (h : Header) → good_frame Client p f ≡ true → h ≡ header_in f → h.node < p.n → Some h ≡ reply_in p f
 reply_door p f h g e n = door_open _ f h (sym (reply_last p f h.node g (ap (λ (x : Header). x.node) e)) ∙ lt-ltb _ _ n) e
 
-pub reply_elsewhere : (p : Plan) (f : List ℕ) (h : Header) → good_frame Client p f ≡ true → h ≡ header_in f → p.n ≤ h.node → Bad ≡ reply_in p f
+pub reply_elsewhere : (p : Plan) (f : List ℕ) (h : Header) → good_frame Client p f ≡ true → h ≡ header_in f → p.n ≤ h.node → None ≡ reply_in p f
 reply_elsewhere p f h g e n = door_shut _ f (sym (reply_last p f h.node g (ap (λ (x : Header). x.node) e)) ∙ le-ltb _ _ n)
 
-pub reply_shut : (p : Plan) (f : List ℕ) → good_frame Client p f ≡ false → Bad ≡ reply_in p f
+pub reply_shut : (p : Plan) (f : List ℕ) → good_frame Client p f ≡ false → None ≡ reply_in p f
 reply_shut p f g = door_shut _ f (sym (reply_ill p f g))
 
 -- what it said
@@ -171,20 +169,20 @@ pub record Opened (g : Bool) (f : List ℕ) (h : Header) : Type 0 where
   pub good : g ≡ true
   pub is : h ≡ header_in f
 
-header_or : Header → Door → Header
-header_or h Bad = h
-header_or h (Open x) = x
+header_or : Header → Option Header → Header
+header_or h None = h
+header_or h (Some x) = x
 
-opens : Door → Bool
-opens Bad = false
-opens (Open h) = true
+opens : Option Header → Bool
+opens None = false
+opens (Some h) = true
 
-pub was_open : (g : Bool) (f : List ℕ) (h : Header) → Open h ≡ door g f → Opened g f h
+pub was_open : (g : Bool) (f : List ℕ) (h : Header) → Some h ≡ door g f → Opened g f h
 unfolding header_or opens
 was_open true f h e = record { good = refl; is = ap (header_or h) e }
 was_open false f h e = absurd (clash (ap opens e))
 
-pub was_shut : (g : Bool) (f : List ℕ) → Bad ≡ door g f → g ≡ false
+pub was_shut : (g : Bool) (f : List ℕ) → None ≡ door g f → g ≡ false
 unfolding opens
 was_shut true f e = absurd (clash (sym (ap opens e)))
 was_shut false f e = refl
@@ -301,19 +299,19 @@ unfolding part
 body_is h f n e = sym (take_all n (drop h f) (simp length-drop (omega arith)))
 
 -- ---- where a frame ends
-pub cut_short : (s : List ℕ) (at : ℕ) → length s - at < 4 → NoFrame ≡ cut_at s at
+pub cut_short : (s : List ℕ) (at : ℕ) → length s - at < 4 → None ≡ cut_at s at
 unfolding cut_at
 cut_short s at h = rw (lt-ltb (length s - at) 4 h)
 
 module _ (s : List ℕ) (at n : ℕ) (h : 4 ≤ length s - at) (e : n ≡ num (part s at 4)) where
-  pub cut_low : n < 11 → NoFrame ≡ cut_at s at
+  pub cut_low : n < 11 → None ≡ cut_at s at
   unfolding cut_at
   cut_low k = rw (← e, le-ltb (length s - at) 4 h, lt-ltb n 11 k)
 
-  pub cut_high : 11 ≤ n → length s - at - 4 < n → NoFrame ≡ cut_at s at
+  pub cut_high : 11 ≤ n → length s - at - 4 < n → None ≡ cut_at s at
   unfolding cut_at
   cut_high k l = rw (← e, le-ltb (length s - at) 4 h, le-ltb n 11 k, lt-ltb (length s - at - 4) n l)
 
-  pub cut_ends : 11 ≤ n → n ≤ length s - at - 4 → EndsAt (at + 4 + n) ≡ cut_at s at
+  pub cut_ends : 11 ≤ n → n ≤ length s - at - 4 → Some (at + 4 + n) ≡ cut_at s at
   unfolding cut_at
   cut_ends k l = rw (← e, le-ltb (length s - at) 4 h, le-ltb n 11 k, le-ltb (length s - at - 4) n l)

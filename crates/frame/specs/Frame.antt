@@ -18,7 +18,7 @@
 --   Wrote              a frame was written over a buffer, and its length told
 --   cut_at              where the frame that starts at a place of a run of bytes ends
 -- Assumes nothing.
-use Rattle.std.specs.Prelude.{ℕ, ◌+◌, ◌-◌, ◌≡◌, Bool, false, cond, List, [], ◌∷◌, ◌++◌, length, drop, ltb, leb, eqb}
+use Rattle.std.specs.Prelude.{ℕ, ◌+◌, ◌-◌, ◌≡◌, Bool, false, cond, List, [], ◌∷◌, ◌++◌, length, drop, ltb, leb, eqb, Option, Some, None}
 use Rattle.octets.specs.Bytes.{part, num, be, over}
 use Rattle.terms.specs.Ladder.{all, ◌and◌, ◌or◌}
 use Rattle.terms.specs.Terms.{record_length}
@@ -26,10 +26,6 @@ use Rattle.terms.specs.declared.Plan.{Plan}
 use Rattle.frame.specs.declared.Party.{Party}
 use Rattle.frame.specs.declared.Party.TheVariants.{Node, Client}
 use Rattle.frame.specs.declared.Header.{Header}
-use Rattle.frame.specs.declared.Door.{Door}
-use Rattle.frame.specs.declared.Door.TheVariants.{Bad, Open}
-use Rattle.frame.specs.declared.Cut.{Cut}
-use Rattle.frame.specs.declared.Cut.TheVariants.{EndsAt, NoFrame}
 
 -- ---- the kinds
 abbrev pub time_request_kind : ℕ
@@ -149,13 +145,13 @@ unfoldable pub good_reply : Plan → List ℕ → Bool
 good_reply p f = good_frame Client p f and ltb (frame_node f) p.n
 
 -- the door of a call: a good frame's header
-abbrev pub door : Bool → List ℕ → Door
-door good f = cond good (Open (header_in f)) Bad
+abbrev pub door : Bool → List ℕ → Option Header
+door good f = cond good (Some (header_in f)) None
 
-abbrev pub request_in : Plan → ℕ → List ℕ → Door
+abbrev pub request_in : Plan → ℕ → List ℕ → Option Header
 request_in p node f = door (good_request p node f) f
 
-abbrev pub reply_in : Plan → List ℕ → Door
+abbrev pub reply_in : Plan → List ℕ → Option Header
 reply_in p f = door (good_reply p f) f
 
 -- refusal 10, of any reply: the kind is tested apart
@@ -164,9 +160,9 @@ answers_to h ask = eqb h.ask.0 ask
 
 -- ---- cutting, apart from checking
 -- no frame where fewer than 4 bytes remain, or a length is below 11 or larger than the rest
-unfoldable pub cut_at : List ℕ → ℕ → Cut
+unfoldable pub cut_at : List ℕ → ℕ → Option ℕ
 cut_at s at =
-    cond (ltb (length s - at) 4) NoFrame
-    (cond (ltb (num (part s at 4)) 11) NoFrame
-    (cond (ltb (length s - at - 4) (num (part s at 4))) NoFrame
-    (EndsAt (at + 4 + num (part s at 4)))))
+    cond (ltb (length s - at) 4) None
+    (cond (ltb (num (part s at 4)) 11) None
+    (cond (ltb (length s - at - 4) (num (part s at 4))) None
+    (Some (at + 4 + num (part s at 4)))))

@@ -9,7 +9,7 @@ ghost use Rattle.terms.specs.Terms.{plan_ok};
 ghost use Rattle.terms.specs.Stamp.{stamp_number};
 ghost use Rattle.frame.specs.Frame.{read_latest_kind, read_previous_kind, head_bytes, framed, longest, header_in, header_of, replying, head_of, shaped, body_fits, for_party, suits, request_in, reply_in, answers_to, Wrote, cut_at};
 
-use terms::{Ask, Plan, Time, Timestamp};
+use terms::{Accepted, Ask, Time, Timestamp};
 
 // The kinds of frames.
 pub const TIME_REQUEST: u64 = 1;
@@ -30,7 +30,7 @@ pub const READ_REPLY: u64 = 7;
 const HEAD: usize = 15;
 
 // All that stands before the body of a frame, read once at the door of a call.
-#[derive(Clone, Copy)]
+#[derive(Clone, Copy, PartialEq, Eq)]
 pub struct Header {
     pub version: u64,
     pub kind: u64,
@@ -38,47 +38,33 @@ pub struct Header {
     pub ask: Ask,
 }
 
-// What the door of a call says of a lent frame: refusal 4, or its header.
-#[derive(Clone, Copy)]
-pub enum Door {
-    Bad,
-    Open(Header),
-}
-
 // Who is lent a frame: refusal 4 asks for a kind for this party.
-#[derive(Clone, Copy)]
+#[derive(Clone, Copy, PartialEq, Eq)]
 pub enum Party {
     Node,
     Client,
 }
 
-// What starts at a place of a run of bytes: a frame that ends at this place, or none.
-#[derive(Clone, Copy)]
-pub enum Cut {
-    EndsAt(usize),
-    NoFrame,
-}
-
-// Where the frame that starts at `at` ends: by its length field alone.
+// Where the frame that starts at `at` of a run of bytes ends, by its length field alone; none where no frame starts there.
 #[tactic(auto, using(crate::proofs::Frames::cut_short, crate::proofs::Frames::cut_low, crate::proofs::Frames::cut_high, crate::proofs::Frames::cut_ends))]
-pub fn cut_at(s: &[u8], at: usize) -> Cut
+pub fn cut_at(s: &[u8], at: usize) -> Option<usize>
     ensures { result ≡ cut_at s.now at }
 {
     let end = s.len();
     if end < at {
-        return Cut::NoFrame;
+        return None;
     }
     if end - at < 4 {
-        return Cut::NoFrame;
+        return None;
     }
     let n = octets::get(s, at, 4) as usize;
     if n < 11 {
-        return Cut::NoFrame;
+        return None;
     }
     if end - at - 4 < n {
-        return Cut::NoFrame;
+        return None;
     }
-    Cut::EndsAt(at + 4 + n)
+    Some(at + 4 + n)
 }
 
 // The bytes before a body, by the version.
@@ -120,9 +106,8 @@ fn shaped(f: &[u8]) -> bool
 }
 
 // Whether a frame of this kind may have a body of n bytes.
-fn body_fits(p: Plan, kind: u64, n: usize) -> bool
-    requires { plan_ok p ≡ true }
-    ensures { result ≡ body_fits p kind n }
+fn body_fits(p: Accepted, kind: u64, n: usize) -> bool
+    ensures { result ≡ body_fits p.plan kind n }
 {
     let r = terms::record_length(p);
     match kind {
@@ -157,9 +142,9 @@ fn for_party(party: Party, kind: u64) -> bool
 }
 
 // Whether a frame of n bytes is of a kind for this party, and its body of its kind.
-fn suits(party: Party, p: Plan, h: Header, n: usize) -> bool
-    requires { (plan_ok p ≡ true) × (head_bytes h.version ≤ n) }
-    ensures { result ≡ suits party p h n }
+fn suits(party: Party, p: Accepted, h: Header, n: usize) -> bool
+    requires { head_bytes h.version ≤ n }
+    ensures { result ≡ suits party p.plan h n }
 {
     let kind = h.kind;
     if !for_party(party, kind) {
@@ -169,44 +154,42 @@ fn suits(party: Party, p: Plan, h: Header, n: usize) -> bool
     body_fits(p, kind, n - head)
 }
 
-// Refusal 4 at a node: the header of a request, and for this node.
+// The door of a node: the header of a request for it. Where there is none, that is refusal 4.
 #[tactic(auto, using(crate::proofs::Frames::request_door, crate::proofs::Frames::request_elsewhere, crate::proofs::Frames::frame_read))]
-pub fn request_at(p: Plan, node: u64, f: &[u8]) -> Door
-    requires { plan_ok p ≡ true }
-    ensures { result ≡ request_in p node f.now }
+pub fn request_at(p: Accepted, node: u64, f: &[u8]) -> Option<Header>
+    ensures { result ≡ request_in p.plan node f.now }
 {
     if !shaped(f) {
-        return Door::Bad;
+        return None;
     }
     let h = header_of(f);
     if !suits(Party::Node, p, h, f.len()) {
-        return Door::Bad;
+        return None;
     }
     let here = h.node;
     if here == node {
-        return Door::Open(h);
+        return Some(h);
     }
-    Door::Bad
+    None
 }
 
-// Refusal 4 at a client: the header of a reply of a node of this plan.
-pub fn reply_at(p: Plan, f: &[u8]) -> Door
-    requires { plan_ok p ≡ true }
-    ensures { result ≡ reply_in p f.now }
+// The door of a client: the header of a reply of a node of this plan. Where there is none, that is refusal 4.
+pub fn reply_at(p: Accepted, f: &[u8]) -> Option<Header>
+    ensures { result ≡ reply_in p.plan f.now }
 {
     if !shaped(f) {
-        return Door::Bad;
+        return None;
     }
     let h = header_of(f);
     if !suits(Party::Client, p, h, f.len()) {
-        return Door::Bad;
+        return None;
     }
     let here = h.node;
-    let n = p.n;
+    let n = p.plan.n;
     if here < n {
-        return Door::Open(h);
+        return Some(h);
     }
-    Door::Bad
+    None
 }
 
 // Whether a frame has the ask number that a client awaits: part of refusal 10. Its kind is tested apart.
@@ -218,18 +201,16 @@ pub fn answers(h: Header, ask: Ask) -> bool
 }
 
 // The most bytes that a frame of this version and plan has: R+15.
-pub fn longest(version: u64, p: Plan) -> usize
-    requires { plan_ok p ≡ true }
-    ensures { (result ≡ longest version p) × (result ≤ 1591) }
+pub fn longest(version: u64, p: Accepted) -> usize
+    ensures { (result ≡ longest version p.plan) × (result ≤ 1591) }
 {
     let r = terms::record_length(p);
     r + head_bytes(version)
 }
 
 // Refusal 2: whether a buffer of n bytes holds any frame of this version and plan.
-pub fn holds_any(version: u64, p: Plan, n: usize) -> bool
-    requires { plan_ok p ≡ true }
-    ensures { result ≡ leb (longest version p) n }
+pub fn holds_any(version: u64, p: Accepted, n: usize) -> bool
+    ensures { result ≡ leb (longest version p.plan) n }
 {
     longest(version, p) <= n
 }

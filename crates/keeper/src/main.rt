@@ -16,94 +16,74 @@ mod input;
 mod planned;
 mod serve;
 
-ghost use Rattle.std.specs.Prelude.{◌≤◌, ◌≡◌, length};
+ghost use Rattle.std.specs.Prelude.{◌≤◌};
 
-use book::Shape;
-use book_file::say;
-use input::Stand;
-use node::Made;
-use plan_text::{Numeral, Reading};
+use book_file::say::Said;
+use book_file::{Named, say};
+use input::Input;
+use serve::{Keeper, Room};
 use std::env::{Env, FillError};
 use std::io;
 use std::io::Print;
-use terms::{Plan, Refusal};
+use terms::{Accepted, Plan, Refusal};
+
+// The most bytes of a book.
+const BOOK: usize = 65536;
 
 // ---- the two ways to run
 
-// Whether a book is one of this plan; else a line says why.
-fn good(rt: &HostRuntime, p: Plan, book: &[u8]) -> bool {
+// Sees that a book is one of this plan.
+#[tactic(auto, using(book::proofs::Laws::lent_is))]
+fn good(rt: &HostRuntime, p: Plan, book: &[u8]) -> Result<(), Said> {
     if !terms::plan_ok(p) {
-        say::refused(rt, Refusal::OutsidePlan);
-        return false;
+        return Err(say::refused(rt, Refusal::OutsidePlan));
     }
     if !book::lent(book.len()) {
-        say::refused(rt, Refusal::WrongLength);
-        return false;
+        return Err(say::refused(rt, Refusal::WrongLength));
     }
-    let shape = book::good(p, book);
-    match shape {
-        Shape::Bad => {
-            say::refused(rt, Refusal::WrongBook);
-            false
-        }
-        Shape::Good(_) => true,
+    match book::good(Accepted { plan: p }, book) {
+        None => Err(say::refused(rt, Refusal::WrongBook)),
+        Some(_) => Ok(()),
     }
 }
 
-// Whether the book can be had, and is one; else a line says why.
-fn book_ok(rt: &HostRuntime, p: Plan, path: &[u8]) -> bool {
-    let mut area = [0u8; 65536];
-    let got = book_file::load(rt, path, &mut area);
-    if !got.is {
-        return false;
-    }
-    let n = got.length;
-    good(rt, p, &area[..n])
+// Sees that the book can be had, and is one. Its area is off the stack again before the requests come.
+#[inline(never)]
+fn book_ok(p: Plan, book: Named) -> Result<(), Said> {
+    let mut area = [0u8; BOOK];
+    let n = book.load(&mut area)?;
+    good(book.rt, p, &area[..n])
 }
 
-fn say_made(rt: &HostRuntime) {
-    if let Err(e) = Print::write_all(&rt.stdout(), b"made\n") {
-        say::failed(rt, b"standard output", e);
-    }
+fn say_made(rt: &HostRuntime) -> Result<(), Said> {
+    let made = Print::write_all(&rt.stdout(), b"made\n");
+    made.map_err(|e| say::failed(rt, b"standard output", e))
 }
 
-// A fresh book on the disk, where nothing has its name.
-fn lay_down(rt: &HostRuntime, path: &[u8], book: &[u8], text: &[u8]) {
-    let Some(file) = book_file::hold(rt, path, false) else {
-        return;
-    };
-    if book_file::make(rt, file, path, book, text) {
-        say_made(rt);
-    }
-}
-
-// A fresh book, and its file.
-fn fill(rt: &HostRuntime, p: Plan, path: &[u8], text: &[u8], node: u64, book: &mut [u8]) {
-    let made = node::fresh(p, node, book);
-    match made {
-        Made::Refused(r) => say::refused(rt, r),
-        Made::Fresh => lay_down(rt, path, book, text),
-    }
+// A fresh book, and its file, where nothing has its name.
+fn fill(p: Plan, book: Named, text: &[u8], node: u64, bytes: &mut [u8]) -> Result<(), Said> {
+    node::fresh(p, node, bytes).map_err(|r| say::refused(book.rt, r))?;
+    book.hold(false)?.make(bytes, text)?;
+    say_made(book.rt)
 }
 
 // What is wrong with a book that is longer than any: 1 comes before 2.
-fn too_large(rt: &HostRuntime, p: Plan) {
+fn too_large(p: Plan) -> Refusal {
     if terms::plan_ok(p) {
-        say::refused(rt, Refusal::WrongLength);
+        Refusal::WrongLength
     } else {
-        say::refused(rt, Refusal::OutsidePlan);
+        Refusal::OutsidePlan
     }
 }
 
-// The first bytes of an area of zeros are the book.
-fn make(rt: &HostRuntime, p: Plan, path: &[u8], text: &[u8], node: u64, bytes: u64) {
-    if bytes > 65536 {
-        too_large(rt, p);
-        return;
+// The first bytes of an area of zeros are the book. The area is on no other way's stack.
+#[inline(never)]
+fn make(p: Plan, book: Named, text: &[u8], node: u64, bytes: u64) -> Result<(), Said> {
+    if bytes > BOOK as u64 {
+        return Err(say::refused(book.rt, too_large(p)));
     }
-    let mut area = [0u8; 65536];
-    let n = bytes as usize;
-    fill(rt, p, path, text, node, &mut area[0..n]);
+    let mut area = [0u8; BOOK];
+    fill(p, book, text, node, &mut area[..bytes as usize])
 }
 
 // ---- the arguments
@@ -119,13 +99,25 @@ fn arg_count(rt: &HostRuntime) -> usize {
     usize::MAX
 }
 
-// Argument i at the start of a buffer, and its length; 0 where there is none, or it is longer.
-fn short_arg(rt: &HostRuntime, i: usize, text: &mut [u8]) -> usize
-    ensures { result ≤ length text.new }
-{
-    match rt.arg(i, text) {
-        Ok(n) => n,
-        Err(_) => 0,
+// The room for an argument: no path of the system is longer.
+const ARG: usize = 4096;
+
+#[derive(Drop)]
+struct Arg {
+    bytes: [u8; ARG],
+    len: usize,
+    ghost within: { len ≤ 4096 },
+}
+
+impl Arg {
+    fn get(rt: &HostRuntime, i: usize) -> Result<Arg, FillError> {
+        let mut bytes = [0u8; ARG];
+        let len = rt.arg(i, &mut bytes)?;
+        Ok(Arg { bytes, len })
+    }
+
+    fn as_slice(&self) -> &[u8] {
+        &self.bytes[..self.len]
     }
 }
 
@@ -135,208 +127,151 @@ const INVALID: i32 = 22;
 const NAME_TOO_LONG: i32 = 36;
 
 // What is said of an argument that is not to be had.
-fn say_arg(rt: &HostRuntime, what: &[u8], e: FillError) {
+fn say_arg(rt: &HostRuntime, what: &[u8], e: FillError) -> Said {
     let number = match e {
         FillError::TooLong => NAME_TOO_LONG,
         FillError::NotPresent => INVALID,
     };
-    say::failed(rt, what, io::Error::from_raw_os_error(number));
+    say::failed(rt, what, io::Error::from_raw_os_error(number))
 }
 
-fn usage(rt: &HostRuntime) {
+fn usage(rt: &HostRuntime) -> Said {
     say::line(
         rt,
-        b"usage: keeper PLAN BOOK [locked], or keeper PLAN BOOK new NODE BYTES",
-    );
+        "usage: keeper PLAN BOOK [locked], or keeper PLAN BOOK new NODE BYTES",
+    )
 }
 
 // Argument i as a number.
-fn number_arg(rt: &HostRuntime, i: usize) -> Numeral {
-    let mut text = [0u8; 4096];
-    let n = short_arg(rt, i, &mut text);
-    plan_text::number_in(&text[..n], 0, n)
+fn number_arg(rt: &HostRuntime, i: usize) -> Result<u64, Said> {
+    let arg = Arg::get(rt, i).map_err(|_| usage(rt))?;
+    plan_text::number_in(arg.as_slice()).ok_or_else(|| usage(rt))
 }
 
-// Whether argument 3 is this word.
-fn is_word(rt: &HostRuntime, word: &[u8]) -> bool {
-    let mut text = [0u8; 4096];
-    let n = short_arg(rt, 3, &mut text);
-    if n != word.len() {
-        return false;
+// Sees that argument 3 is this word.
+fn expect_word(rt: &HostRuntime, word: &[u8]) -> Result<(), Said> {
+    let arg = Arg::get(rt, 3).map_err(|_| usage(rt))?;
+    if arg.as_slice() == word {
+        Ok(())
+    } else {
+        Err(usage(rt))
     }
-    octets::same(&text, 0, word, 0, n)
 }
 
 // The numbers of `new NODE BYTES`, and the fresh book.
-fn run_new(rt: &HostRuntime, p: Plan, path: &[u8], text: &[u8]) {
-    if !is_word(rt, b"new") {
-        usage(rt);
-        return;
-    }
-    let a = number_arg(rt, 4);
-    let b = number_arg(rt, 5);
-    let Numeral::Is(node) = a else {
-        usage(rt);
-        return;
-    };
-    let Numeral::Is(bytes) = b else {
-        usage(rt);
-        return;
-    };
-    make(rt, p, path, text, node, bytes);
+fn run_new(p: Plan, book: Named, text: &[u8]) -> Result<(), Said> {
+    expect_word(book.rt, b"new")?;
+    let node = number_arg(book.rt, 4)?;
+    let bytes = number_arg(book.rt, 5)?;
+    make(p, book, text, node, bytes)
 }
 
 // ---- the requests of the input
 
 // The areas of the input, of the replies and of the numbers of a run, made once. The longest reply of a plan has 88 to 1,591 bytes: 329 of the
-// longest fit, and no run has more frames than there are numbers. Each `ensures` gives only the length, which lending needs.
+// longest fit, and no run has more frames than there are numbers.
 const AREA: usize = 524288;
 
 const NUMBERS: usize = 5957;
 
-fn frame_area() -> [u8; AREA]
-    ensures { 524288 ≡ length result }
-{
-    [0u8; AREA]
+// An area of zeros. A proof of its caller sees its length, and not so many zeros.
+fn zeros<const N: usize>() -> [u8; N] {
+    [0u8; N]
 }
 
-fn number_area() -> [u8; NUMBERS]
-    ensures { 5957 ≡ length result }
-{
-    [0u8; NUMBERS]
-}
-
-// The next run of what waits, or a read where no whole request does.
-fn turn(
-    rt: &HostRuntime,
-    p: Plan,
-    path: &[u8],
-    locked: bool,
-    most: usize,
-    at: Stand,
-    area: &mut [u8],
-    reply: &mut [u8],
-    numbers: &mut [u8],
-) -> Stand
-    requires { at.held ≤ length area.old }
-    ensures { result.held ≤ length area.new }
-{
-    let held = at.held;
-    let cut = input::run_end(area, held, most);
-    if cut == 0 {
-        return input::more(rt, area, held, at.passed);
+impl Keeper<'_> {
+    // The next run of what waits, or a read where no whole request does. Whether the input goes on.
+    fn turn(self, most: usize, input: &mut Input, room: &mut Room) -> Result<bool, Said> {
+        let run = input.run(most);
+        let cut = run.len();
+        if cut == 0 {
+            return input.more(self.book.rt);
+        }
+        self.answer(run, room)?;
+        input.pass(cut);
+        Ok(true)
     }
-    let on = serve::answer(rt, p, path, locked, &area[..cut], reply, numbers);
-    input::rest(area, cut, held, at.passed, on)
-}
 
-// A proved loop has to end, and nothing says that an input does: the turns are counted down from a number that no run uses up.
-fn turns(
-    rt: &HostRuntime,
-    p: Plan,
-    path: &[u8],
-    locked: bool,
-    area: &mut [u8],
-    reply: &mut [u8],
-    numbers: &mut [u8],
-) {
-    let most = serve::most(p, reply.len(), numbers.len());
-    let mut at = input::start();
-    let mut left = u64::MAX;
-    while left > 0 && at.on {
-        at = turn(rt, p, path, locked, most, at, area, reply, numbers);
-        left -= 1;
+    // A proved loop has to end, and nothing says that an input does: no input has as many turns.
+    fn turns(self, input: &mut Input, room: &mut Room) -> Result<(), Said> {
+        let most = self.most(room);
+        for _ in 0..u64::MAX {
+            if !self.turn(most, input, room)? {
+                break;
+            }
+        }
+        Ok(())
     }
-}
 
-fn serve_all(rt: &HostRuntime, p: Plan, path: &[u8], locked: bool) {
-    let mut area = frame_area();
-    let mut reply = frame_area();
-    let mut numbers = number_area();
-    turns(rt, p, path, locked, &mut area, &mut reply, &mut numbers);
+    // The requests of the input, where the book is good.
+    fn serve(self) -> Result<(), Said> {
+        book_ok(self.plan, self.book)?;
+        let mut area = zeros::<AREA>();
+        let mut reply = zeros::<AREA>();
+        let mut numbers = zeros::<NUMBERS>();
+        let mut input = Input::new(&mut area);
+        let mut room = Room {
+            reply: &mut reply,
+            numbers: &mut numbers,
+        };
+        self.turns(&mut input, &mut room)
+    }
 }
 
 // ---- what the arguments ask for
 
-// The requests of the input, where the book is good.
-fn run_turns(rt: &HostRuntime, p: Plan, path: &[u8], locked: bool) {
-    if book_ok(rt, p, path) {
-        serve_all(rt, p, path, locked);
-    }
+// The requests of the input, by who holds the lock of the book, once the book is on the disk: it stays there, since no other changes it.
+fn run_locked(plan: Plan, book: Named) -> Result<(), Said> {
+    expect_word(book.rt, b"locked")?;
+    book.sync()?;
+    let keeper = Keeper {
+        plan,
+        book,
+        locked: true,
+    };
+    keeper.serve()
 }
 
-// The same by who holds the lock of the book, once the book is on the disk: it stays there, since no other changes it.
-fn run_durable(rt: &HostRuntime, p: Plan, path: &[u8]) {
-    if book_file::sync(rt, path) {
-        run_turns(rt, p, path, true);
-    }
-}
-
-// The requests of the input, by who holds the lock of the book.
-fn run_locked(rt: &HostRuntime, p: Plan, path: &[u8]) {
-    if !is_word(rt, b"locked") {
-        usage(rt);
-        return;
-    }
-    run_durable(rt, p, path);
-}
-
-// What these arguments ask for, of a book that is there.
-fn run_served(rt: &HostRuntime, p: Plan, path: &[u8], count: usize) {
-    if count == 3 {
-        run_turns(rt, p, path, false);
-    } else {
-        run_locked(rt, p, path);
-    }
-}
-
-// What these arguments ask for. `text` is the plan's.
-fn run(rt: &HostRuntime, p: Plan, plan_path: &[u8], path: &[u8], text: &[u8], count: usize) {
-    if count > 4 {
-        run_new(rt, p, path, text);
-    } else if planned::plan_kept(rt, p, plan_path, path) {
-        run_served(rt, p, path, count);
-    }
-}
-
-// The plan that the file PLAN says. Where it cannot be had, a line says why.
-fn run_plan(rt: &HostRuntime, plan_path: &[u8], path: &[u8], count: usize) {
+// What these arguments ask for, of the plan that the file PLAN says.
+fn run_plan(file: Named, book: Named, count: usize) -> Result<(), Said> {
     let mut area = [0u8; 4096];
-    let got = book_file::load(rt, plan_path, &mut area);
-    if !got.is {
-        return;
+    let n = file.load(&mut area)?;
+    let plan = planned::read(file, &area[..n])?;
+    if count > 4 {
+        return run_new(plan, book, &area[..n]);
     }
-    let n = got.length;
-    let r = plan_text::read_plan(&area[..n]);
-    match r {
-        Reading::Wrong(line, k) => planned::say_wrong(rt, plan_path, line, k),
-        Reading::Good(p) => run(rt, p, plan_path, path, &area[..n], count),
+    planned::kept(plan, file, book)?;
+    if count > 3 {
+        return run_locked(plan, book);
     }
+    let keeper = Keeper {
+        plan,
+        book,
+        locked: false,
+    };
+    keeper.serve()
 }
 
-// Argument 2, the name BOOK.
-fn run_book(rt: &HostRuntime, plan_path: &[u8], count: usize) {
-    let mut path = [0u8; 4096];
-    match rt.arg(2, &mut path) {
-        Ok(n) => run_plan(rt, plan_path, &path[..n], count),
-        Err(e) => say_arg(rt, b"BOOK", e),
-    }
-}
-
-// Argument 1, the name PLAN.
-fn run_args(rt: &HostRuntime, count: usize) {
-    let mut plan_path = [0u8; 4096];
-    match rt.arg(1, &mut plan_path) {
-        Ok(n) => run_book(rt, &plan_path[..n], count),
-        Err(e) => say_arg(rt, b"PLAN", e),
-    }
-}
-
-fn main(rt: HostRuntime) {
-    let count = arg_count(&rt);
+// Argument 1 is the name PLAN, argument 2 the name BOOK.
+fn run(rt: &HostRuntime) -> Result<(), Said> {
+    let count = arg_count(rt);
     if count != 3 && count != 4 && count != 6 {
-        usage(&rt);
-        return;
+        return Err(usage(rt));
     }
-    run_args(&rt, count);
+    let plan = Arg::get(rt, 1).map_err(|e| say_arg(rt, b"PLAN", e))?;
+    let book = Arg::get(rt, 2).map_err(|e| say_arg(rt, b"BOOK", e))?;
+    let file = Named {
+        rt,
+        name: plan.as_slice(),
+    };
+    let book = Named {
+        rt,
+        name: book.as_slice(),
+    };
+    run_plan(file, book, count)
+}
+
+// A line has said what was wrong; the status is 0 all the same.
+fn main(rt: HostRuntime) {
+    let _ = run(&rt);
 }

@@ -7,8 +7,6 @@
 --   looks_refused looks_as                the contract of `look`, by the case of the run's answer
 --   refuses_as steps_as                   the contract of `step`
 --   counted_due       what is due counts bytes of the replies and of the numbers
---   tells_none tells_some waits_as   what replies wait for, by the cases
---   due_as synced_as  what is due, by the case of a step and of what was done since
 -- Assumes nothing.
 use mathlib.Core.Path.{◌≡◌, refl, sym, ap, ◌∙◌, subst}
 use mathlib.Core.Bool.{Bool, true, false, cond}
@@ -29,18 +27,18 @@ use Rattle.node.specs.Node.{writes, answered, served, node_ladder}
 use Rattle.node.proofs.Laws as nodes
 use Rattle.store.proofs.One as one
 use Rattle.runs.specs.Cuts.{next_place, Cutting, cut_run}
-use Rattle.runs.specs.Runs.{singly, run_ladder, SaidRan, said_ran, refused, did, RunOutcome, run_outcome, run_of, ran_over, RunCall}
+use Rattle.runs.specs.Runs.{singly, run_ladder, SaidRan, said_ran, ran_of, refused, did, RunOutcome, run_outcome, run_of, ran_over, RunCall}
 use Rattle.runs.specs.declared.Ran.{Ran}
-use Rattle.runs.specs.declared.Ran.TheVariants.{Refused, Did}
 use Rattle.runs.proofs.Cuts as cuts
 use Rattle.runs.proofs.Unique as unique
 use Rattle.io.specs.Counts.{IsPrefixLen}
 use Rattle.io.proofs.Counting.{prefix_len_of_le}
 use Rattle.keeper_step.specs.declared.Next.{Next}
-use Rattle.keeper_step.specs.declared.Next.TheVariants as next
 use Rattle.keeper_step.specs.declared.Due.{Due}
-use Rattle.keeper_step.specs.declared.Due.TheVariants as due
-use Rattle.keeper_step.specs.Step.{some_writes, asks_to_write, answer_of, may_tell, waiting, next_of, frames_of, written_of, Looked, Stepped, due_after}
+use Rattle.keeper_step.specs.declared.Waits.{Waits}
+use Rattle.keeper_step.specs.declared.Waits.TheVariants.{Nothing, Sync, Store}
+use Rattle.keeper_step.specs.Step.{some_writes, asks_to_write, answer_of, may_tell, waiting, next_after, next_of, frames_of, written_of, Looked, Stepped, due_of, goes_out, due_after}
+use Rattle.std.specs.Prelude.{Option, Some, None, Result, Ok, Err}
 
 -- ---- the search for a write request: none stands before the place at, and the next frame ends at e
 pub record Seeking (s : List ℕ) (at e : ℕ) : Type 0 where
@@ -112,7 +110,7 @@ all_stay p (f ∷ fs) b y e =
     let q = neither (writes (header_in f)) (some_writes fs) e in
     all_stay p fs (served p f b y).book y q.1 ∙ one_stays p f b y q.0
 
-look_stays : (p : Plan) (s b y z : List ℕ) (a : Ran) (b₂ y₂ z₂ : List ℕ) → asks_to_write s ≡ false → RunCall p s b y z a b₂ y₂ z₂ → b₂ ≡ b
+look_stays : (p : Plan) (s b y z : List ℕ) (a : Result Ran Refusal) (b₂ y₂ z₂ : List ℕ) → asks_to_write s ≡ false → RunCall p s b y z a b₂ y₂ z₂ → b₂ ≡ b
 unfolding asks_to_write ran_over
 look_stays p s b y z a b₂ y₂ z₂ w c =
     ap (λ (o : RunOutcome). o.book) c.is
@@ -129,11 +127,11 @@ unfolding singly
 as_many p [] b y = refl
 as_many p (f ∷ fs) b y = ap suc (as_many p fs (served p f b y).book y)
 
-pub record Within (a : Ran) (y z : List ℕ) : Type 0 where
+pub record Within (a : Result Ran Refusal) (y z : List ℕ) : Type 0 where
   pub fits : written_of a ≤ length y
   pub numbered : frames_of a ≤ length z
 
-did_within : (p : Plan) (s b y z : List ℕ) (n w e : ℕ) (b₂ y₂ z₂ : List ℕ) → run_outcome (did n w e) b₂ y₂ z₂ ≡ run_of p s b y z → Within (Did n w e) y₂ z₂
+did_within : (p : Plan) (s b y z : List ℕ) (n w e : ℕ) (b₂ y₂ z₂ : List ℕ) → run_outcome (did n w e) b₂ y₂ z₂ ≡ run_of p s b y z → Within (Ok (ran_of n w e)) y₂ z₂
 did_within p s b y z n w e b₂ y₂ z₂ q =
     let l = singly p (cut_run s).frames b y in
     let g : did n w e ≡ did (length (cut_run s).frames) (length l.replies) (cut_run s).ended = ap (λ (o : RunOutcome). o.answer) q in
@@ -147,11 +145,14 @@ did_within p s b y z n w e b₂ y₂ z₂ q =
       numbered = subst (λ (x : List ℕ). n ≤ length x) (sym v) (omega (arith, over_long l.numbers z, m, i));
     }
 
-pub within : (p : Plan) (s b y z : List ℕ) (a : Ran) (b₂ y₂ z₂ : List ℕ) → RunCall p s b y z a b₂ y₂ z₂ → Within a y₂ z₂
+pub within : (p : Plan) (s b y z : List ℕ) (a : Result Ran Refusal) (b₂ y₂ z₂ : List ℕ) → RunCall p s b y z a b₂ y₂ z₂ → Within a y₂ z₂
 unfolding ran_over
-within p s b y z (Refused r) b₂ y₂ z₂ c = record { fits = omega arith; numbered = omega arith }
-within p s b y z (Did n w e) b₂ y₂ z₂ c =
-    ladders.by_ladder (λ (o : RunOutcome). run_outcome (did n w e) b₂ y₂ z₂ ≡ o → Within (Did n w e) y₂ z₂) (run_ladder p s b y z) (λ (k : ℕ). run_outcome (refused k) b y z) (run_of p s b y z)
+within p s b y z (Err r) b₂ y₂ z₂ c = record { fits = omega arith; numbered = omega arith }
+within p s b y z (Ok x) b₂ y₂ z₂ c =
+    let n = x.frames in
+    let w = x.written in
+    let e = x.ended in
+    ladders.by_ladder (λ (o : RunOutcome). run_outcome (did n w e) b₂ y₂ z₂ ≡ o → Within (Ok (ran_of n w e)) y₂ z₂) (run_ladder p s b y z) (λ (k : ℕ). run_outcome (refused k) b y z) (run_of p s b y z)
     (λ k g h. absurd (unique.not_did k n w e (sym (ap (λ (o : RunOutcome). o.answer) h))))
     (λ g h. did_within p s b y z n w e b₂ y₂ z₂ h)
     c.is
@@ -167,97 +168,67 @@ told b b₂ d d₂ n t g e l m h =
     e ∙ ap (λ (q : List ℕ). alike q (part d₂ 0 n)) z ∙ ap (alike b₂) x
 
 -- ---- the contracts
-waiting_of : (n w e : ℕ) (s t : Bool) → answer_of (waiting n w e s t) ≡ Did n w e
-waiting_of n w e true true = refl
-waiting_of n w e true false = refl
-waiting_of n w e false t = refl
+answer_of_lem : (a : Result Ran Refusal) (e d : Bool) → answer_of (next_of a e d) ≡ a
+answer_of_lem (Err r) e d = refl
+answer_of_lem (Ok x) e d = refl
 
-answer_of_lem : (a : Ran) (e d : Bool) → answer_of (next_of a e d) ≡ a
-answer_of_lem (Refused r) e d = refl
-answer_of_lem (Did n w at) e d = waiting_of n w at e (may_tell w d)
-
-looks : (p : Plan) (d : Bool) (f b y z : List ℕ) (a : Ran) (x : Next) (b₂ y₂ z₂ : List ℕ) → asks_to_write f ≡ false → RunCall p f b y z a b₂ y₂ z₂ → x ≡ next_of a true d → Looked p d f b y z x b₂ y₂ z₂
+looks : (p : Plan) (d : Bool) (f b y z : List ℕ) (a : Result Ran Refusal) (x : Result Next Refusal) (b₂ y₂ z₂ : List ℕ) → asks_to_write f ≡ false → RunCall p f b y z a b₂ y₂ z₂ → x ≡ next_of a true d → Looked p d f b y z x b₂ y₂ z₂
 looks p d f b y z a x b₂ y₂ z₂ w c e =
-    let s : answer_of x ≡ a = ap (λ (z : Next). answer_of z) e ∙ answer_of_lem a true d in
+    let s : answer_of x ≡ a = ap (λ (z : Result Next Refusal). answer_of z) e ∙ answer_of_lem a true d in
     let i = within p f b y z a b₂ y₂ z₂ c in
     record {
-      call = subst (λ (r : Ran). RunCall p f b y z r b₂ y₂ z₂) (sym s) c;
+      call = subst (λ (r : Result Ran Refusal). RunCall p f b y z r b₂ y₂ z₂) (sym s) c;
       stays = look_stays p f b y z a b₂ y₂ z₂ w c;
-      next = e ∙ ap (λ (r : Ran). next_of r true d) (sym s);
-      fits = subst (λ (r : Ran). written_of r ≤ length y₂) (sym s) i.fits;
-      numbered = subst (λ (r : Ran). frames_of r ≤ length z₂) (sym s) i.numbered;
+      next = e ∙ ap (λ (r : Result Ran Refusal). next_of r true d) (sym s);
+      fits = subst (λ (r : Result Ran Refusal). written_of r ≤ length y₂) (sym s) i.fits;
+      numbered = subst (λ (r : Result Ran Refusal). frames_of r ≤ length z₂) (sym s) i.numbered;
     }
 
-steps : (p : Plan) (d : Bool) (f b y z : List ℕ) (a : Ran) (x : Next) (b₂ y₂ z₂ : List ℕ) → RunCall p f b y z a b₂ y₂ z₂ → x ≡ next_of a (alike b₂ b) d → Stepped p d f b y z x b₂ y₂ z₂
+steps : (p : Plan) (d : Bool) (f b y z : List ℕ) (a : Result Ran Refusal) (x : Result Next Refusal) (b₂ y₂ z₂ : List ℕ) → RunCall p f b y z a b₂ y₂ z₂ → x ≡ next_of a (alike b₂ b) d → Stepped p d f b y z x b₂ y₂ z₂
 steps p d f b y z a x b₂ y₂ z₂ c e =
-    let s : answer_of x ≡ a = ap (λ (z : Next). answer_of z) e ∙ answer_of_lem a (alike b₂ b) d in
+    let s : answer_of x ≡ a = ap (λ (z : Result Next Refusal). answer_of z) e ∙ answer_of_lem a (alike b₂ b) d in
     let i = within p f b y z a b₂ y₂ z₂ c in
     record {
-      call = subst (λ (r : Ran). RunCall p f b y z r b₂ y₂ z₂) (sym s) c;
-      next = e ∙ ap (λ (r : Ran). next_of r (alike b₂ b) d) (sym s);
-      fits = subst (λ (r : Ran). written_of r ≤ length y₂) (sym s) i.fits;
-      numbered = subst (λ (r : Ran). frames_of r ≤ length z₂) (sym s) i.numbered;
+      call = subst (λ (r : Result Ran Refusal). RunCall p f b y z r b₂ y₂ z₂) (sym s) c;
+      next = e ∙ ap (λ (r : Result Ran Refusal). next_of r (alike b₂ b) d) (sym s);
+      fits = subst (λ (r : Result Ran Refusal). written_of r ≤ length y₂) (sym s) i.fits;
+      numbered = subst (λ (r : Result Ran Refusal). frames_of r ≤ length z₂) (sym s) i.numbered;
     }
 
--- an answer by its case, as a match tells it
-pub looks_refused : (p : Plan) (d : Bool) (f b y z : List ℕ) (a : Ran) (r : Refusal) (b₂ y₂ z₂ : List ℕ) → asks_to_write f ≡ false → a ≡ Refused r → RunCall p f b y z a b₂ y₂ z₂
-    → Looked p d f b y z (next.Refused r) b₂ y₂ z₂
-looks_refused p d f b y z a r b₂ y₂ z₂ w e c = looks p d f b y z a (next.Refused r) b₂ y₂ z₂ w c (sym (ap (λ (x : Ran). next_of x true d) e))
+-- an answer by its case, as a `?` tells it
+pub looks_refused : (p : Plan) (d : Bool) (f b y z : List ℕ) (a : Result Ran Refusal) (r : Refusal) (b₂ y₂ z₂ : List ℕ) → asks_to_write f ≡ false → a ≡ Err r
+    → RunCall p f b y z a b₂ y₂ z₂ → Looked p d f b y z (Err r) b₂ y₂ z₂
+looks_refused p d f b y z a r b₂ y₂ z₂ w e c = looks p d f b y z a (Err r) b₂ y₂ z₂ w c (sym (ap (λ (x : Result Ran Refusal). next_of x true d) e))
 
-pub looks_as : (p : Plan) (d : Bool) (f b y z : List ℕ) (a : Ran) (n k at : ℕ) (x : Next) (b₂ y₂ z₂ : List ℕ) → asks_to_write f ≡ false → a ≡ Did n k at → x ≡ next_of (Did n k at) true d → RunCall p f b y z a b₂ y₂ z₂
-    → Looked p d f b y z x b₂ y₂ z₂
-looks_as p d f b y z a n k at x b₂ y₂ z₂ w e u c = looks p d f b y z a x b₂ y₂ z₂ w c (u ∙ sym (ap (λ (r : Ran). next_of r true d) e))
+pub looks_as : (p : Plan) (d : Bool) (f b y z : List ℕ) (a : Result Ran Refusal) (n : Ran) (x : Next) (b₂ y₂ z₂ : List ℕ) → asks_to_write f ≡ false → a ≡ Ok n
+    → x ≡ next_after n true d → RunCall p f b y z a b₂ y₂ z₂ → Looked p d f b y z (Ok x) b₂ y₂ z₂
+looks_as p d f b y z a n x b₂ y₂ z₂ w e u c = looks p d f b y z a (Ok x) b₂ y₂ z₂ w c (ap Ok u ∙ sym (ap (λ (r : Result Ran Refusal). next_of r true d) e))
 
-pub refuses_as : (p : Plan) (d : Bool) (f b y z : List ℕ) (a : Ran) (r : Refusal) (b₂ y₂ z₂ : List ℕ) → a ≡ Refused r → RunCall p f b y z a b₂ y₂ z₂ → Stepped p d f b y z (next.Refused r) b₂ y₂ z₂
-refuses_as p d f b y z a r b₂ y₂ z₂ e c = steps p d f b y z a (next.Refused r) b₂ y₂ z₂ c (sym (ap (λ (x : Ran). next_of x (alike b₂ b) d) e))
+pub refuses_as : (p : Plan) (d : Bool) (f b y z : List ℕ) (a : Result Ran Refusal) (r : Refusal) (b₂ y₂ z₂ : List ℕ) → a ≡ Err r → RunCall p f b y z a b₂ y₂ z₂
+    → Stepped p d f b y z (Err r) b₂ y₂ z₂
+refuses_as p d f b y z a r b₂ y₂ z₂ e c = steps p d f b y z a (Err r) b₂ y₂ z₂ c (sym (ap (λ (x : Result Ran Refusal). next_of x (alike b₂ b) d) e))
 
-pub steps_as : (p : Plan) (d : Bool) (f b y z : List ℕ) (a : Ran) (n k at : ℕ) (t : Bool) (x : Next) (b₂ y₂ z₂ : List ℕ) → a ≡ Did n k at → x ≡ next_of (Did n k at) t d → RunCall p f b y z a b₂ y₂ z₂ → t ≡ alike b₂ b
-    → Stepped p d f b y z x b₂ y₂ z₂
-steps_as p d f b y z a n k at t x b₂ y₂ z₂ e u c q =
-    steps p d f b y z a x b₂ y₂ z₂ c (u ∙ ap (λ (s : Bool). next_of (Did n k at) s d) q ∙ sym (ap (λ (r : Ran). next_of r (alike b₂ b) d) e))
+pub steps_as : (p : Plan) (d : Bool) (f b y z : List ℕ) (a : Result Ran Refusal) (n : Ran) (t : Bool) (x : Next) (b₂ y₂ z₂ : List ℕ) → a ≡ Ok n → x ≡ next_after n t d
+    → RunCall p f b y z a b₂ y₂ z₂ → t ≡ alike b₂ b → Stepped p d f b y z (Ok x) b₂ y₂ z₂
+steps_as p d f b y z a n t x b₂ y₂ z₂ e u c q =
+    steps p d f b y z a (Ok x) b₂ y₂ z₂ c
+    (ap Ok u ∙ ap (λ (s : Bool). Ok (next_after n s d)) q ∙ sym (ap (λ (r : Result Ran Refusal). next_of r (alike b₂ b) d) e))
 
 -- ---- what is due counts bytes
-reply_not_said : (n k : ℕ) (r : Refusal) → due.Reply n k ≡ due.Say r → ⊥
-reply_not_said n k r e = let z : ◌≡◌ {A = ℕ} 0 1 = cc in omega arith
-
-reply_not_nothing : (n k : ℕ) → due.Reply n k ≡ due.Nothing → ⊥
-reply_not_nothing n k e = let z : ◌≡◌ {A = ℕ} 0 1 = cc in omega arith
-
-pub counted_due : (x : Next) (s : Bool) (d : Due) (n k : ℕ) (y z : List ℕ) → d ≡ due_after x s → d ≡ due.Reply n k → written_of (answer_of x) ≤ length y → frames_of (answer_of x) ≤ length z
-    → IsPrefixLen k y × IsPrefixLen n z
-counted_due x s d n k y z e f h g = go x s (sym f ∙ e) h g
+pub counted_due : (x : Result Next Refusal) (s : Bool) (d : Result (Option Due) Refusal) (e : Due) (y z : List ℕ) → d ≡ due_after x s → d ≡ Ok (Some e)
+    → written_of (answer_of x) ≤ length y → frames_of (answer_of x) ≤ length z → IsPrefixLen e.written y × IsPrefixLen e.frames z
+counted_due x s d u y z e f h g = go x (sym f ∙ e) h g
   where
-    both : (i j : ℕ) → due.Reply n k ≡ due.Reply i j → j ≤ length y → i ≤ length z → IsPrefixLen k y × IsPrefixLen n z
-    both i j e h g =
-        let a : n ≡ i = cc in
-        let b : k ≡ j = cc in
-        (prefix_len_of_le k y (omega arith), prefix_len_of_le n z (omega arith))
+    both : (v : Due) → u ≡ v → v.written ≤ length y → v.frames ≤ length z → IsPrefixLen u.written y × IsPrefixLen u.frames z
+    both v e h g =
+        (subst (λ (w : Due). IsPrefixLen w.written y) (sym e) (prefix_len_of_le v.written y h), subst (λ (w : Due). IsPrefixLen w.frames z) (sym e) (prefix_len_of_le v.frames z g))
 
-    go : (x : Next) (s : Bool) → due.Reply n k ≡ due_after x s → written_of (answer_of x) ≤ length y → frames_of (answer_of x) ≤ length z → IsPrefixLen k y × IsPrefixLen n z
-    go (next.Refused r) s e h g = absurd (reply_not_said n k r e)
-    go (next.Send i j at) s e h g = both i j e h g
-    go (next.Sync i j at) true e h g = both i j e h g
-    go (next.Sync i j at) false e h g = absurd (reply_not_nothing n k e)
-    go (next.Store i j at) true e h g = both i j e h g
-    go (next.Store i j at) false e h g = absurd (reply_not_nothing n k e)
+    by_waits : (t : Bool) (v : Due) → ◌≡◌ {A = Result (Option Due) Refusal} (Ok (Some u)) (Ok (cond t (Some v) None)) → v.written ≤ length y → v.frames ≤ length z
+        → IsPrefixLen u.written y × IsPrefixLen u.frames z
+    by_waits true v e h g = both v (cc) h g
+    by_waits false v e h g = absurd (let z : ◌≡◌ {A = ℕ} 0 1 = cc in omega arith)
 
--- ---- what is due
-pub due_as : (x : Next) (s : Bool) (y : Next) (t : Bool) (d : Due) → x ≡ y → s ≡ t → d ≡ due_after y t → d ≡ due_after x s
-due_as x s y t d e f h = h ∙ sym (ap (λ (z : Next). due_after z s) e ∙ ap (due_after y) f)
-
--- replies over a book that has to get to the disk wait like those over a book that is to be stored
-pub synced_as : (x : Next) (n k at : ℕ) (s : Bool) (d : Due) → x ≡ next.Sync n k at → d ≡ due_after (next.Store n k at) s → d ≡ due_after x s
-synced_as x n k at true d e h = h ∙ sym (ap (λ (z : Next). due_after z true) e)
-synced_as x n k at false d e h = h ∙ sym (ap (λ (z : Next). due_after z false) e)
-
--- whether replies may go out over a book that is as it came, by whether there are any
-pub tells_none : (w : ℕ) (d : Bool) → w ≡ 0 → true ≡ may_tell w d
-tells_none w d e = sym (ap (λ (t : Bool). cond t true d) (eq-eqb w 0 e))
-
-pub tells_some : (w : ℕ) (d : Bool) → ¬ (w ≡ 0) → d ≡ may_tell w d
-tells_some w d e = sym (ap (λ (t : Bool). cond t true d) (ne_eqb w 0 e))
-
--- what replies wait for, by what is known
-pub waits_as : (n w at : ℕ) (d e g t u : Bool) (x : Next) → g ≡ may_tell w d → e ≡ t → g ≡ u → x ≡ waiting n w at t u → x ≡ next_of (Did n w at) e d
-waits_as n w at d e g t u x m p q h =
-    h ∙ sym (ap (λ (z : Bool). waiting n w at z (may_tell w d)) p ∙ ap (λ (z : Bool). waiting n w at t z) (sym m ∙ q))
+    go : (x : Result Next Refusal) → ◌≡◌ {A = Result (Option Due) Refusal} (Ok (Some u)) (due_after x s) → written_of (answer_of x) ≤ length y
+        → frames_of (answer_of x) ≤ length z → IsPrefixLen u.written y × IsPrefixLen u.frames z
+    go (Err r) e h g = absurd (let z : ◌≡◌ {A = ℕ} 0 1 = cc in omega arith)
+    go (Ok x) e h g = by_waits (goes_out x.waits s) (due_of x.ran) e h g

@@ -6,29 +6,32 @@
 ghost use Rattle.std.specs.Prelude.{◌≡◌, false, ◌≤◌, length};
 ghost use Rattle.frame.specs.Frame.{head_bytes, header_in};
 ghost use Rattle.node.specs.Node.{writes};
-ghost use Rattle.runs.specs.declared.Ran.TheVariants.{Did};
-ghost use Rattle.keeper_step.specs.declared.Next.TheVariants.{Store};
-ghost use Rattle.keeper_step.specs.Step.{asks_to_write, may_tell, next_of, Looked, Stepped, due_after};
+ghost use Rattle.keeper_step.specs.Step.{asks_to_write, may_tell, next_after, Looked, Stepped, due_after};
 
 use runs::Ran;
 use terms::{Plan, Refusal};
 
-// Refused; or frames cut, bytes of replies and place where the run ended, of replies over a book that is as it was and may be told of; over
-// one that is as it was, and has to get to the disk; or over one that has changed, and is to be stored.
-#[derive(Clone, Copy)]
-pub enum Next {
-    Refused(Refusal),
-    Send(usize, usize, usize),
-    Sync(usize, usize, usize),
-    Store(usize, usize, usize),
+// What the replies of a run wait for: nothing, over a book that is as it was and may be told of; that a book that is as it was gets to the disk; or
+// that one that has changed is stored.
+#[derive(Clone, Copy, PartialEq, Eq)]
+pub enum Waits {
+    Nothing,
+    Sync,
+    Store,
 }
 
-// What is due: a line that says the refusal of the run; the numbers of so many frames and so many bytes of replies; or nothing.
-#[derive(Clone, Copy)]
-pub enum Due {
-    Say(Refusal),
-    Reply(usize, usize),
-    Nothing,
+// What a run came to, and what its replies wait for.
+#[derive(Clone, Copy, PartialEq, Eq)]
+pub struct Next {
+    pub ran: Ran,
+    pub waits: Waits,
+}
+
+// What goes out: the numbers of so many frames, and so many bytes of replies.
+#[derive(Clone, Copy, PartialEq, Eq)]
+pub struct Due {
+    pub frames: usize,
+    pub written: usize,
 }
 
 // Whether a frame that was cut is a write request.
@@ -68,17 +71,16 @@ fn may_tell(written: usize, durable: bool) -> bool
 }
 
 // What the replies of a run wait for. `same` says whether the book is as it came, `durable` whether it was on the disk then.
-fn waits_for(frames: usize, written: usize, ended: usize, same: bool, durable: bool) -> Next
-    ensures { result ≡ next_of (Did frames written ended) same durable }
+fn waits_for(ran: Ran, same: bool, durable: bool) -> Next
+    ensures { result ≡ next_after ran same durable }
 {
-    let tell = may_tell(written, durable);
-    if !same {
-        return Next::Store(frames, written, ended);
-    }
-    if !tell {
-        return Next::Sync(frames, written, ended);
-    }
-    Next::Send(frames, written, ended)
+    let tell = may_tell(ran.written, durable);
+    let waits = match (same, tell) {
+        (true, true) => Waits::Nothing,
+        (true, false) => Waits::Sync,
+        (false, _) => Waits::Store,
+    };
+    Next { ran, waits }
 }
 
 // A run that may not change the book, and does not.
@@ -89,15 +91,12 @@ pub fn look(
     book: &mut [u8],
     reply: &mut [u8],
     numbers: &mut [u8],
-) -> Next
+) -> Result<Next, Refusal>
     requires { asks_to_write run.now ≡ false }
     ensures { Looked p durable run.now book.old reply.old numbers.old result book.new reply.new numbers.new }
 {
-    let said = runs::serve_run(p, run, book, reply, numbers);
-    match said {
-        Ran::Refused(r) => Next::Refused(r),
-        Ran::Did(n, w, e) => waits_for(n, w, e, true, durable),
-    }
+    let looked = runs::serve_run(p, run, book, reply, numbers)?;
+    Ok(waits_for(looked, true, durable))
 }
 
 // Any run. `before` is lent to hold the book as it came.
@@ -109,20 +108,15 @@ fn step_with(
     before: &mut [u8],
     reply: &mut [u8],
     numbers: &mut [u8],
-) -> Next
+) -> Result<Next, Refusal>
     requires { length book.old ≤ length before.old }
     ensures { Stepped p durable run.now book.old reply.old numbers.old result book.new reply.new numbers.new }
 {
     let n = book.len();
     octets::copy(book, 0, n, before, 0);
-    let a = runs::serve_run(p, run, book, reply, numbers);
-    match a {
-        Ran::Refused(r) => Next::Refused(r),
-        Ran::Did(k, w, e) => {
-            let same = octets::same(book, 0, before, 0, n);
-            waits_for(k, w, e, same, durable)
-        }
-    }
+    let ran = runs::serve_run(p, run, book, reply, numbers)?;
+    let same = octets::same(book, 0, before, 0, n);
+    Ok(waits_for(ran, same, durable))
 }
 
 // Any run, against a book that is no longer than document 01 allows.
@@ -133,7 +127,7 @@ pub fn step(
     book: &mut [u8],
     reply: &mut [u8],
     numbers: &mut [u8],
-) -> Next
+) -> Result<Next, Refusal>
     requires { length book.old ≤ 65536 }
     ensures { Stepped p durable run.now book.old reply.old numbers.old result book.new reply.new numbers.new }
 {
@@ -141,24 +135,17 @@ pub fn step(
     step_with(p, durable, run, book, &mut before, reply, numbers)
 }
 
-// The replies of a run, where the book is on the disk.
-fn reply_over(frames: usize, written: usize, ended: usize, safe: bool) -> Due
-    ensures { result ≡ due_after (Store frames written ended) safe }
-{
-    if !safe {
-        return Due::Nothing;
-    }
-    Due::Reply(frames, written)
-}
-
-// What is due, once it is known whether the book has got to the disk: replies go out only over one that is there.
-pub fn due_after(x: Next, safe: bool) -> Due
+// What is due once it is known whether the book has got to the disk: replies go out only over one that is there.
+pub fn due_after(x: Result<Next, Refusal>, safe: bool) -> Result<Option<Due>, Refusal>
     ensures { result ≡ due_after x safe }
 {
-    match x {
-        Next::Refused(r) => Due::Say(r),
-        Next::Send(n, w, _) => Due::Reply(n, w),
-        Next::Sync(n, w, e) => reply_over(n, w, e, safe),
-        Next::Store(n, w, e) => reply_over(n, w, e, safe),
+    let next = x?;
+    let due = Due {
+        frames: next.ran.frames,
+        written: next.ran.written,
+    };
+    match next.waits {
+        Waits::Nothing => Ok(Some(due)),
+        Waits::Sync | Waits::Store => Ok(if safe { Some(due) } else { None }),
     }
 }

@@ -78,9 +78,6 @@ lane_other s l r m h hm q =
 
 -- ---- a loop over the lanes
 
-pub each_start : (f : ℕ → State) (s : List ℕ) → length s ≡ 64 → EachLane f 0 s s
-each_start f s z = record { long = z; done = λ l h. absurd (omega arith); left = λ l h b. refl }
-
 pub each_next : (f : ℕ → State) (n : ℕ) (old s new : List ℕ) (r : State) → n < 8 → EachLane f n old s → r ≡ f n → new ≡ with_lane s n r → EachLane f (n + 1) old new
 each_next f n old s new r h u e q =
     record {

@@ -11,7 +11,7 @@ use Rattle.sha256.specs.declared.State.{State}
 use Rattle.sha256.specs.Sha256.{K, round_of, rounds_of, schedule_of, added_of, compress_of, words, after}
 use Rattle.sha256.proofs.Laws.{schedule_word, schedule_block, words_length, after_more}
 use Rattle.lanes.specs.Lanes.{lane_of, EachLane}
-use Rattle.lanes.specs.Inside.{rounds_at, next_in, Window, Kept, Onward, Rolled, AllRolled, Loaded, AllLoaded, Standing, Rounded, Blocked}
+use Rattle.lanes.specs.Inside.{rounds_at, next_in, Window, Kept, Rolled, AllRolled, Loaded, AllLoaded, Standing, Rounded, Blocked}
 
 -- a word written in lane l leaves every other lane
 set_kept : (w : List ℕ) (l j t x : ℕ) → l < 8 → j < 8 → (j ≡ l → ⊥) → Kept j w (set w (8 * t + l) x)
@@ -81,26 +81,6 @@ rolling_next l i old w new hl hi u q =
 pub rolled : (l : ℕ) (old new : List ℕ) → Rolling l 16 old new → Rolled l old new
 rolled l old new u = record { long = u.long; onward = λ m t y b v i h. u.made m t y b v i h; others = u.others }
 
--- ---- of every lane
-
-pub rolls_start : (w : List ℕ) → length w ≡ 128 → AllRolled 0 w w
-rolls_start w z = record { long = z; onward = λ l h. absurd (omega arith); left = λ l h b i. refl }
-
-pub rolls_next : (n : ℕ) (old w new : List ℕ) → n < 8 → AllRolled n old w → Rolled n w new → AllRolled (n + 1) old new
-rolls_next n old w new h u v =
-    record {
-      long = v.long;
-      onward = λ l k. onward l k (ℕ_discrete l n);
-      left = λ l k b i. v.others l b (λ z. off l k z) i ∙ u.left l (omega arith) b i;
-    }
-  where
-    off : (l : ℕ) → n + 1 ≤ l → l ≡ n → ⊥
-    off l k z = omega arith
-
-    onward : (l : ℕ) → l < n + 1 → Dec (l ≡ n) → Onward l old new
-    onward l k (yes z) = rw z (λ m t y b p. v.onward m t y b (λ i g. u.left n (omega arith) h i ∙ p i g))
-    onward l k (no z) = λ m t y b p i g. v.others l (omega arith) z i ∙ u.onward l (omega arith) m t y b p i g
-
 -- ---- rounds by the words at hand
 
 pub rounds_first : (w : List ℕ) (l t : ℕ) (s r : State) → r ≡ round_of s (get_or K t 0) (get_or w (8 * (t % 16) + l) 0) → r ≡ rounds_at w l t 1 s
@@ -129,9 +109,6 @@ pub record Loading (m : List ℕ) (l i : ℕ) (old new : List ℕ) : Type 0 wher
   pub same : (j : ℕ) → j < i → get_or new (8 * j + l) 0 ≡ get_or m j 0
   pub others : (j : ℕ) → j < 8 → (j ≡ l → ⊥) → Kept j old new
 
-pub loading_start : (m : List ℕ) (l : ℕ) (w : List ℕ) → length w ≡ 128 → Loading m l 0 w w
-loading_start m l w z = record { long = z; same = λ j h. absurd (omega arith); others = λ j h q i. refl }
-
 pub loading_next : (m : List ℕ) (l i x : ℕ) (old w : List ℕ) → i < 16 → l < 8 → x ≡ get_or m i 0 → Loading m l i old w → Loading m l (i + 1) old (set w (8 * i + l) x)
 loading_next m l i x old w h hl q u =
     let y : length w ≡ 128 = u.long in
@@ -145,14 +122,8 @@ loading_next m l i x old w h hl q u =
     same j b (yes e) = let y : length w ≡ 128 = u.long in rw e (get_or-set_same w (8 * i + l) x 0 (omega arith) ∙ q)
     same j b (no e) = set_past w l j i _ e ∙ u.same j (omega arith)
 
-pub loading_end : (m : List ℕ) (l i : ℕ) (old w : List ℕ) → i ≡ 16 → Loading m l i old w → Loaded m l old w
-loading_end m l i old w e u = record { long = u.long; same = λ j h. u.same j (omega arith); others = u.others }
-
 pub loaded_as : (m k : List ℕ) (l : ℕ) (old new : List ℕ) → m ≡ k → Loaded m l old new → Loaded k l old new
 loaded_as m k l old new e u = record { long = u.long; same = λ i h. u.same i h ∙ ap (λ (x : List ℕ). get_or x i 0) e; others = u.others }
-
-pub loads_start : (f : ℕ → List ℕ) (w : List ℕ) → length w ≡ 128 → AllLoaded f 0 w
-loads_start f w z = record { long = z; done = λ l h. absurd (omega arith) }
 
 pub loads_next : (f : ℕ → List ℕ) (n : ℕ) (w new : List ℕ) → n < 8 → length (f n) ≡ 16 → AllLoaded f n w → Loaded (f n) n w new → AllLoaded f (n + 1) new
 loads_next f n w new h y u v = record { long = v.long; done = λ l k. done l k (ℕ_discrete l n) }
@@ -162,9 +133,6 @@ loads_next f n w new h y u v = record { long = v.long; done = λ l k. done l k (
     done l k (no z) = λ i g. v.others l (omega arith) z i ∙ u.done l (omega arith) i g
 
 -- ---- all rounds, four after four
-
-pub standing_still : (n t : ℕ) (w : List ℕ) → (t - 1) / 16 * 16 ≡ t / 16 * 16 → length w ≡ 128 → Standing t n w w
-standing_still n t w e z = record { long = z; done = λ l h m y v. subst (λ (k : ℕ). Window m k w l) e v }
 
 pub standing_rolled : (n t : ℕ) (w v : List ℕ) → 0 < t → t < 64 → t % 16 ≡ 0 → AllRolled n w v → Standing t n w v
 standing_rolled n t w v p h q u =

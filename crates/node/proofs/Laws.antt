@@ -1,4 +1,7 @@
 -- What the node's functions ensure, each need a law. Assumes nothing.
+use Rattle.terms.specs.declared.Refusal.{Refusal}
+use Prim.{Unit}
+use Rattle.std.specs.Prelude.{Result, Err}
 use mathlib.Core.Path.{◌≡◌, refl, sym, ap, subst, ◌∙◌}
 use mathlib.Core.Bool.{Bool, true, false, not}
 use mathlib.Core.List.{List, []}
@@ -32,9 +35,6 @@ use Rattle.book.proofs.Lists as lists
 use Rattle.book.proofs.Laws as books
 use Rattle.book.proofs.Back.{long}
 use Rattle.node.specs.declared.Asked.{Asked}
-use Rattle.node.specs.declared.Answer.{Answer}
-use Rattle.node.specs.declared.Answer.TheVariants.{Refused}
-use Rattle.node.specs.declared.Made.{Made}
 use Rattle.node.specs.Fresh.{fresh_ladder, fresh_outcome, freshened, said_made, made, FreshCall}
 use Rattle.node.specs.Fresh.{refused as not_made}
 use Rattle.node.specs.Inside.{finished, Fitting, Admitted}
@@ -210,12 +210,12 @@ module _ (p : Plan) (h : Header) (body b y : List ℕ) where
         rungs.go_on 7 _ _ _ (no_other o)
         (rungs.go_on 8 _ _ _ (rw (eq-eqb h.kind write_request_kind k, g)) (rungs.passed _ _ (sent_out write_reply_kind _ n b y₂ (reply_3 k) (after_held g) q)))
 
-    pub write_other : fates.Other ≡ fate_of body (records_of p b) → served_outcome (said_served (Refused OtherBytes)) b y ≡ finished p h body b y
+    pub write_other : fates.Other ≡ fate_of body (records_of p b) → served_outcome (said_served (Err OtherBytes)) b y ≡ finished p h body b y
     unfolding finished other_held
     write_other e = rungs.stop 7 _ _ _ (rw (eq-eqb h.kind write_request_kind k) (lists.fate_other body (records_of p b) e)) refl
 
     pub write_full : (i : ℕ) → fates.Free i ≡ fate_of body (records_of p b) → leb (used_of p b + record_length p) (length b) ≡ false
-        → served_outcome (said_served (Refused NoRoom)) b y ≡ finished p h body b y
+        → served_outcome (said_served (Err NoRoom)) b y ≡ finished p h body b y
     unfolding finished no_room
     write_full i e full =
         let q = lists.fate_free body (records_of p b) i e in
@@ -302,7 +302,7 @@ pub is_responded : {z : ServedOutcome} (p : Plan) (h g : Header) (body b y : Lis
 unfolding responded
 is_responded p h g body b y e q = q ∙ ap (λ (x : Header). first (work_ladder p x body b) (λ (k : ℕ). served_outcome (refused k) b y) (answered p x body b y)) e
 
-pub called : (p : Plan) (f b y : List ℕ) (a : Answer) (b₂ y₂ : List ℕ)
+pub called : (p : Plan) (f b y : List ℕ) (a : Result ℕ Refusal) (b₂ y₂ : List ℕ)
     → served_outcome (said_served a) b₂ y₂ ≡ first (node_ladder p f b y) (λ (k : ℕ). served_outcome (refused k) b y) (answered p (header_in f) (body_of f) b y)
     → NodeCall p f b y a b₂ y₂
 unfolding served
@@ -333,7 +333,7 @@ admitted p f b y k h node pk l S en o =
     }
 
 -- ---- a fresh book
-pub fresh_called : (p : Plan) (node : ℕ) (b : List ℕ) (m : Made) (b₂ : List ℕ)
+pub fresh_called : (p : Plan) (node : ℕ) (b : List ℕ) (m : Result (Unit {0}) Refusal) (b₂ : List ℕ)
     → fresh_outcome (said_made m) b₂ ≡ first (fresh_ladder p node b) (λ (k : ℕ). fresh_outcome (not_made k) b) (fresh_outcome made (over (laid_out p node []) b)) → FreshCall p node b m b₂
 unfolding freshened
 fresh_called p node b m b₂ e = record { is = e }

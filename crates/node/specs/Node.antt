@@ -10,7 +10,8 @@
 --   responded          the second part of the call: what is after the door
 --   served, NodeCall   the call, and its contract
 -- Assumes nothing.
-use Rattle.std.specs.Prelude.{ℕ, ◌+◌, ◌≡◌, Bool, cond, not, List, [], ◌∷◌, ◌++◌, length, ltb, leb, eqb}
+use Rattle.terms.specs.declared.Refusal.{Refusal}
+use Rattle.std.specs.Prelude.{ℕ, ◌+◌, ◌≡◌, Bool, cond, not, List, [], ◌∷◌, ◌++◌, length, ltb, leb, eqb, Result, Ok, Err}
 use Rattle.octets.specs.Bytes.{be, over}
 use Rattle.terms.specs.Ladder.{Rung, on, first, ◌and◌, ◌or◌}
 use Rattle.terms.specs.Stamp.{stamp, time}
@@ -21,8 +22,6 @@ use Rattle.frame.specs.Frame.{time_request_kind, time_reply_kind, write_request_
 use Rattle.record.specs.Record.{hashes_ok, time_zero, stamp_of}
 use Rattle.book.specs.Records.{last_of, last_below, holds, holds_other}
 use Rattle.book.specs.Book.{good_book, node_of, records_of, used_of, grown, book_lent}
-use Rattle.node.specs.declared.Answer.{Answer}
-use Rattle.node.specs.declared.Answer.TheVariants.{Refused, Replied}
 
 -- ---- the conditions of the refusals
 -- 2: "Lent book: 11 to 65,536 bytes", "a reply buffer of at least R+15 bytes"
@@ -71,9 +70,9 @@ pub data SaidServed : Type 0 where
   refused : ℕ → SaidServed
   replied : ℕ → SaidServed
 
-abbrev pub said_served : Answer → SaidServed
-said_served (Refused r) = refused (refusal_number r)
-said_served (Replied n) = replied n
+abbrev pub said_served : Result ℕ Refusal → SaidServed
+said_served (Err r) = refused (refusal_number r)
+said_served (Ok n) = replied n
 
 pub record ServedOutcome : Type 0 where
   pub answer : SaidServed
@@ -124,5 +123,5 @@ unfoldable pub served : Plan → List ℕ → List ℕ → List ℕ → ServedOu
 served p f b y = first (node_ladder p f b y) (λ (k : ℕ). served_outcome (refused k) b y) (answered p (header_in f) (body_of f) b y)
 
 -- the contract of the call: its inputs, then its outcome
-pub record NodeCall (p : Plan) (f b y : List ℕ) (a : Answer) (b₂ y₂ : List ℕ) : Type 0 where
+pub record NodeCall (p : Plan) (f b y : List ℕ) (a : Result ℕ Refusal) (b₂ y₂ : List ℕ) : Type 0 where
   pub is : served_outcome (said_served a) b₂ y₂ ≡ served p f b y

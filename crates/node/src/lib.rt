@@ -14,35 +14,20 @@ ghost use Rattle.node.specs.Inside.{finished, Open, Fitting, Admitted};
 ghost use Rattle.node.specs.Node.{book_reply_ok, time_fails, hash_fails, served_outcome, said_served, responded, NodeCall};
 ghost use Rattle.node.specs.Fresh.{FreshCall};
 
-use book::{Book, Fate, Shape, Span};
-use frame::{Door, Header};
-use terms::{Plan, Refusal};
-
-// What a node answers: a refusal, or the length of the reply frame written.
-#[derive(Clone, Copy)]
-pub enum Answer {
-    Refused(Refusal),
-    Replied(usize),
-}
-
-// What the making of a book answers.
-#[derive(Clone, Copy)]
-pub enum Made {
-    Refused(Refusal),
-    Fresh,
-}
+use book::{Book, Fate, Span};
+use frame::Header;
+use terms::{Accepted, Plan, Refusal};
 
 // What was read at the door of a call: the header of the request, and that of the book that it is for.
-#[derive(Clone, Copy)]
+#[derive(Clone, Copy, PartialEq, Eq)]
 pub struct Asked {
     pub frame: Header,
     pub book: Book,
 }
 
 // 2: the lengths of the lent book and reply buffer.
-fn lengths_ok(p: Plan, book: usize, reply: usize) -> bool
-    requires { plan_ok p ≡ true }
-    ensures { result ≡ book_reply_ok p book reply }
+fn lengths_ok(p: Accepted, book: usize, reply: usize) -> bool
+    ensures { result ≡ book_reply_ok p.plan book reply }
 {
     if !book::lent(book) {
         return false;
@@ -51,8 +36,8 @@ fn lengths_ok(p: Plan, book: usize, reply: usize) -> bool
 }
 
 // 5: time 0 in a record or a bound.
-fn zero_time(p: Plan, h: Header, request: &[u8]) -> bool
-    requires { (plan_ok p ≡ true) × Fitting p h request.now }
+fn zero_time(p: Accepted, h: Header, request: &[u8]) -> bool
+    requires { Fitting p.plan h request.now }
     ensures { result ≡ time_fails h (body_of request.now) }
 {
     let at = frame::head_bytes(h.version);
@@ -64,9 +49,9 @@ fn zero_time(p: Plan, h: Header, request: &[u8]) -> bool
 }
 
 // 6: a hash check of a record to write fails.
-fn hash_fails(p: Plan, h: Header, request: &[u8]) -> bool
-    requires { (plan_ok p ≡ true) × Fitting p h request.now }
-    ensures { result ≡ hash_fails p h (body_of request.now) }
+fn hash_fails(p: Accepted, h: Header, request: &[u8]) -> bool
+    requires { Fitting p.plan h request.now }
+    ensures { result ≡ hash_fails p.plan h (body_of request.now) }
 {
     let kind = h.kind;
     if kind != frame::WRITE_REQUEST {
@@ -126,31 +111,43 @@ fn previous(a: Asked, request: &[u8], book: &[u8], reply: &mut [u8]) -> usize
 }
 
 // A write. The record finds its place once: refusals 7 and 8, the acknowledgement and the insertion go by that one fate.
-fn write(p: Plan, a: Asked, request: &[u8], book: &mut [u8], reply: &mut [u8]) -> Answer
-    requires { Admitted p a request.now book.old reply.old × (a.frame.kind ≡ write_request_kind) }
-    ensures { served_outcome (said_served result) book.new reply.new ≡ finished p a.frame (body_of request.now) book.old reply.old }
+fn write(
+    p: Accepted,
+    a: Asked,
+    request: &[u8],
+    book: &mut [u8],
+    reply: &mut [u8],
+) -> Result<usize, Refusal>
+    requires { Admitted p.plan a request.now book.old reply.old × (a.frame.kind ≡ write_request_kind) }
+    ensures { served_outcome (said_served result) book.new reply.new ≡ finished p.plan a.frame (body_of request.now) book.old reply.old }
 {
     let h = a.frame;
     let k = a.book;
     let at = frame::head_bytes(h.version);
     let fate = book::fate_of(k, book, request, at);
     match fate {
-        Fate::Held => Answer::Replied(acknowledge(h, request, reply)),
-        Fate::Other => Answer::Refused(Refusal::OtherBytes),
+        Fate::Held => Ok(acknowledge(h, request, reply)),
+        Fate::Other => Err(Refusal::OtherBytes),
         Fate::Free(i) => {
             if !book::room(k, book.len()) {
-                return Answer::Refused(Refusal::NoRoom);
+                return Err(Refusal::NoRoom);
             }
             book::insert(k, book, i, request, at);
-            Answer::Replied(acknowledge(h, request, reply))
+            Ok(acknowledge(h, request, reply))
         }
     }
 }
 
 // A request that refusals 5 and 6 do not meet, by its kind.
-fn by_kind(p: Plan, a: Asked, request: &[u8], book: &mut [u8], reply: &mut [u8]) -> Answer
-    requires { Admitted p a request.now book.old reply.old }
-    ensures { served_outcome (said_served result) book.new reply.new ≡ finished p a.frame (body_of request.now) book.old reply.old }
+fn by_kind(
+    p: Accepted,
+    a: Asked,
+    request: &[u8],
+    book: &mut [u8],
+    reply: &mut [u8],
+) -> Result<usize, Refusal>
+    requires { Admitted p.plan a request.now book.old reply.old }
+    ensures { served_outcome (said_served result) book.new reply.new ≡ finished p.plan a.frame (body_of request.now) book.old reply.old }
 {
     let h = a.frame;
     let kind = h.kind;
@@ -158,75 +155,84 @@ fn by_kind(p: Plan, a: Asked, request: &[u8], book: &mut [u8], reply: &mut [u8])
         return write(p, a, request, book, reply);
     }
     if kind == frame::TIME_REQUEST {
-        return Answer::Replied(tell_time(a, book, reply));
+        return Ok(tell_time(a, book, reply));
     }
     if kind == frame::READ_LATEST {
-        return Answer::Replied(latest(a, book, reply));
+        return Ok(latest(a, book, reply));
     }
-    Answer::Replied(previous(a, request, book, reply))
+    Ok(previous(a, request, book, reply))
 }
 
 // The second part of the node's call, from refusal 5 on: a request whose frame and book passed the door.
-pub fn respond(p: Plan, a: Asked, request: &[u8], book: &mut [u8], reply: &mut [u8]) -> Answer
-    requires { Admitted p a request.now book.old reply.old }
-    ensures { served_outcome (said_served result) book.new reply.new ≡ responded p a.frame (body_of request.now) book.old reply.old }
+pub fn respond(
+    p: Accepted,
+    a: Asked,
+    request: &[u8],
+    book: &mut [u8],
+    reply: &mut [u8],
+) -> Result<usize, Refusal>
+    requires { Admitted p.plan a request.now book.old reply.old }
+    ensures { served_outcome (said_served result) book.new reply.new ≡ responded p.plan a.frame (body_of request.now) book.old reply.old }
 {
     let h = a.frame;
     if zero_time(p, h, request) {
-        return Answer::Refused(Refusal::TimeZero);
+        return Err(Refusal::TimeZero);
     }
     if hash_fails(p, h, request) {
-        return Answer::Refused(Refusal::HashFails);
+        return Err(Refusal::HashFails);
     }
     by_kind(p, a, request, book, reply)
 }
 
 // The node's call from refusal 4 on: a request at a good book, whose header is k. A run of frames is served by this, frame by frame.
-pub fn serve_at(p: Plan, k: Book, request: &[u8], book: &mut [u8], reply: &mut [u8]) -> Answer
-    requires { Open p k book.old reply.old }
-    ensures { NodeCall p request.now book.old reply.old result book.new reply.new }
+pub fn serve_at(
+    p: Accepted,
+    k: Book,
+    request: &[u8],
+    book: &mut [u8],
+    reply: &mut [u8],
+) -> Result<usize, Refusal>
+    requires { Open p.plan k book.old reply.old }
+    ensures { NodeCall p.plan request.now book.old reply.old result book.new reply.new }
 {
-    let door = frame::request_at(p, k.node, request);
-    match door {
-        Door::Bad => Answer::Refused(Refusal::WrongFrame),
-        Door::Open(h) => {
-            let a = Asked { frame: h, book: k };
-            respond(p, a, request, book, reply)
-        }
-    }
+    let Some(h) = frame::request_at(p, k.node, request) else {
+        return Err(Refusal::WrongFrame);
+    };
+    let a = Asked { frame: h, book: k };
+    respond(p, a, request, book, reply)
 }
 
 // The node's call: one request frame, the book and a reply buffer. Its first part is the door, refusals 1 to 4.
-pub fn serve(p: Plan, request: &[u8], book: &mut [u8], reply: &mut [u8]) -> Answer
+pub fn serve(p: Plan, request: &[u8], book: &mut [u8], reply: &mut [u8]) -> Result<usize, Refusal>
     ensures { NodeCall p request.now book.old reply.old result book.new reply.new }
 {
     if !terms::plan_ok(p) {
-        return Answer::Refused(Refusal::OutsidePlan);
+        return Err(Refusal::OutsidePlan);
     }
-    if !lengths_ok(p, book.len(), reply.len()) {
-        return Answer::Refused(Refusal::WrongLength);
+    let accepted = Accepted { plan: p };
+    if !lengths_ok(accepted, book.len(), reply.len()) {
+        return Err(Refusal::WrongLength);
     }
-    let shape = book::good(p, book);
-    match shape {
-        Shape::Bad => Answer::Refused(Refusal::WrongBook),
-        Shape::Good(k) => serve_at(p, k, request, book, reply),
-    }
+    let Some(k) = book::good(accepted, book) else {
+        return Err(Refusal::WrongBook);
+    };
+    serve_at(accepted, k, request, book, reply)
 }
 
 // A fresh book: its header alone.
-pub fn fresh(p: Plan, node: u64, book: &mut [u8]) -> Made
+pub fn fresh(p: Plan, node: u64, book: &mut [u8]) -> Result<(), Refusal>
     ensures { FreshCall p node book.old result book.new }
 {
     if !terms::plan_ok(p) {
-        return Made::Refused(Refusal::OutsidePlan);
+        return Err(Refusal::OutsidePlan);
     }
     if !book::lent(book.len()) {
-        return Made::Refused(Refusal::WrongLength);
+        return Err(Refusal::WrongLength);
     }
     let n = p.n;
     if node >= n {
-        return Made::Refused(Refusal::WrongFrame);
+        return Err(Refusal::WrongFrame);
     }
     book::fresh(p, node, book);
-    Made::Fresh
+    Ok(())
 }

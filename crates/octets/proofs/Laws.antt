@@ -5,8 +5,8 @@ use Prim.Native.Nat.{ℕ, zero, suc, ◌+◌, ◌-◌, ◌*◌, ◌≤◌, ◌<�
 use native.Mathlib.Nat.{zero-add, add-zero, add-suc, suc-add, add_assoc, pow-suc, pow-le-pow_right, mul-le-mul_right, suc-mul}
 use native.Mathlib.Numerals.{add-one}
 use native.Mathlib.Omega.{arith}
-use lib.ListN.{length, take, drop, get_or, set, length-append, length-take, length-drop, take-append-drop, get_or-append}
-use lib.Seq.{take-suc, drop-cons, set_at, length-take-le, get_or-take, get_or-drop, take_at, drop_at, get_or-append-add, take-length, take-append-le, drop-append-le, take-take, drop-drop, take-nil, sets-eq, drop-append-add, take_all}
+use lib.ListN.{length, take, drop, get_or, set, length-append, length-take, length-drop, take-append-drop}
+use lib.Seq.{take-suc, drop-cons, set_at, length-take-le, get_or-drop, take_at, drop_at, take-length, take-append-le, drop-append-le, take-take, drop-drop, take-nil, drop-append-add, take_all}
 use Rattle.octets.specs.Bytes.{part, put, num, num_from, be, be_onto}
 use lib.Dec.{lit<}
 
@@ -46,37 +46,6 @@ part_snoc l at n h = take-suc (drop at l) n 0 (simp length-drop (omega arith)) �
 pub part_cons : (l : List ℕ) (at n : ℕ) → at < length l → part l at (suc n) ≡ get_or l at 0 ∷ part l (suc at) n
 unfolding part
 part_cons l at n h = rw (drop-cons l at 0)
-
--- what lies before it is as it was
-pub put_before : (l : List ℕ) (at : ℕ) (s : List ℕ) (i : ℕ) → i < at → at ≤ length l → get_or (put l at s) i 0 ≡ get_or l i 0
-unfolding put
-put_before l at s i h k = get_or-append (take at l) (s ++ drop (at + length s) l) 0 i (simp length-take (omega arith)) ∙ get_or-take at l i 0 h
-
--- a loop that copies upwards: its start, and its turn
-pub copy_start : (d s : List ℕ) (at from : ℕ) → d ≡ put d at (part s from 0)
-unfolding part
-copy_start d s at from = sym (put_nil d at)
-
-pub copy_turn : (d d₀ s : List ℕ) (at from i : ℕ) → at + i < length d₀ → from + i < length s → d ≡ put d₀ at (part s from i)
-    → set d (at + i) (get_or s (from + i) 0) ≡ put d₀ at (part s from (i + 1))
-copy_turn d d₀ s at from i hd hs e =
-    let l : length (part s from i) ≡ i = length_part s from i (omega arith) in
-    rw (e, add-one, part_snoc s from i hs, ← put_snoc d₀ at (part s from i) (get_or s (from + i) 0) (rw l hd), l)
-
--- a loop that copies within one list, the last first
-pub up_start : (b : List ℕ) (at by n : ℕ) → b ≡ put b (at + by + n) (part b (at + n) (n - n))
-unfolding part
-up_start b at by n = let z : n - n ≡ 0 = omega arith in rw z (sym (put_nil b (at + by + n)))
-
-pub up_turn : (b b₀ : List ℕ) (at by n i : ℕ) → 0 < i → i ≤ n → at + n + by ≤ length b₀
-    → b ≡ put b₀ (at + by + i) (part b₀ (at + i) (n - i))
-    → set b (at + by + (i - 1)) (get_or b (at + (i - 1)) 0) ≡ put b₀ (at + by + (i - 1)) (part b₀ (at + (i - 1)) (n - (i - 1)))
-up_turn b b₀ at by n i h k r e =
-    let p : at + by + i ≡ suc (at + by + (i - 1)) = omega arith in
-    let q : at + i ≡ suc (at + (i - 1)) = omega arith in
-    let m : n - (i - 1) ≡ suc (n - i) = omega arith in
-    rw (e, put_before b₀ (at + by + i) (part b₀ (at + i) (n - i)) (at + (i - 1)) (omega arith) (omega arith), m, part_cons b₀ (at + (i - 1)) (n - i) (omega arith), p, q)
-    (put_cons b₀ (at + by + (i - 1)) (part b₀ (suc (at + (i - 1))) (n - i)) (get_or b₀ (at + (i - 1)) 0) (omega arith))
 
 -- ---- numbers
 num_from_append : (a : ℕ) (l : List ℕ) (x : ℕ) → num_from a (l ++ (x ∷ [])) ≡ num_from a l * 256 + x
@@ -151,6 +120,11 @@ pub put_lent : (l : List ℕ) (at n : ℕ) (s : List ℕ) → length s ≡ n →
 unfolding put
 put_lent l at n s e = rw (← e, drop-drop (length s) at l)
 
+-- n bytes from another place of the list
+pub put_within : (l : List ℕ) (from n at : ℕ) → from + n ≤ length l → take at l ++ take n (drop from l) ++ drop (at + n) l ≡ put l at (part l from n)
+unfolding put part
+put_within l from n at h = rw (length_part l from n h) (append_assoc (take at l) (take n (drop from l)) (drop (at + n) l))
+
 -- ---- put and put, put and append
 pub put_left : (x y : List ℕ) (at : ℕ) (s : List ℕ) → at + length s ≤ length x → put (x ++ y) at s ≡ put x at s ++ y
 unfolding put
@@ -180,29 +154,6 @@ unfolding part
 part_part l a k p n h =
     let e : k ≡ p + (k - p) = omega arith in
     rw (e, drop_take p (k - p) (drop a l), take-take n (k - p) (drop p (drop a l)) (omega arith), drop-drop p a l)
-
--- what lies past it is as it was
-pub put_after : (l : List ℕ) (at : ℕ) (s : List ℕ) (i : ℕ) → at + length s ≤ i → at + length s ≤ length l → get_or (put l at s) i 0 ≡ get_or l i 0
-unfolding put
-put_after l at s i h k =
-    let h₁ : length (take at l ++ s) ≡ at + length s = simp (length-append, length-take) (omega arith) in
-    let m : ℕ = i - (at + length s) in
-    let e : i ≡ at + length s + m = omega arith in
-    let f : i ≡ length (take at l ++ s) + m = omega arith in
-    rw (← append_assoc) (ap (λ (j : ℕ). get_or (take at l ++ s ++ drop (at + length s) l) j 0) f
-    ∙ get_or-append-add (take at l ++ s) (drop (at + length s) l) m 0 ∙ get_or-drop (at + length s) l m 0 ∙ ap (λ (j : ℕ). get_or l j 0) (sym e))
-
-pub down_turn : (d d₀ : List ℕ) (at by i : ℕ) → at + by + i < length d₀ → d ≡ put d₀ at (part d₀ (at + by) i)
-    → set d (at + i) (get_or d (at + by + i) 0) ≡ put d₀ at (part d₀ (at + by) (i + 1))
-down_turn d d₀ at by i h e =
-    let l : length (part d₀ (at + by) i) ≡ i = length_part d₀ (at + by) i (omega arith) in
-    let g : get_or d (at + by + i) 0 ≡ get_or d₀ (at + by + i) 0 =
-    rw e (put_after d₀ at (part d₀ (at + by) i) (at + by + i) (omega arith) (omega arith)) in
-    rw g (copy_turn d d₀ d₀ at (at + by) i (omega arith) h e)
-
-pub two : (l : List ℕ) (at x y : ℕ) → at + 2 ≤ length l → set (set l at x) (at + 1) y ≡ put l at (x ∷ y ∷ [])
-unfolding put
-two l at x y h = rw add-one (sets-eq (x ∷ y ∷ []) l at h ∙ append_assoc (take at l) (x ∷ y ∷ []) (drop (at + 2) l))
 
 -- ---- a part read after a put: the same place, before it, after it
 pub part_put_same : (l : List ℕ) (at : ℕ) (s : List ℕ) (n : ℕ) → length s ≡ n → at ≤ length l → part (put l at s) at n ≡ s

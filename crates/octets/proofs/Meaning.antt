@@ -1,5 +1,5 @@
 -- What `num`, `be`, `alike` and `over` mean: a number written is read back (num_be, be_part), byte order is number order
--- (first_byte, less_split), n bytes are below 256 ^ n (part_small), alike is equality (alike_is, is_alike). Assumes nothing.
+-- (first_byte; `less_here` of Words), n bytes are below 256 ^ n (part_small), alike is equality (alike_is, is_alike). Assumes nothing.
 use Prim.{Unit, tt}
 use mathlib.Core.Path.{◌≡◌, refl, sym, ap, ◌∙◌}
 use mathlib.Core.Bool.{Bool, true, false, cond}
@@ -11,7 +11,7 @@ use borrow.Author.Tests.{eq-eqb, eqb-true}
 use lib.ListN.{length, take, drop, get_or, length-append, length-take, length-drop, drop_of_length-le}
 use lib.Seq.{drop-append-add, take_at, drop-drop, get_or-drop, get_or-take, take-add}
 use native.Mathlib.Numerals.{add-one}
-use Rattle.octets.proofs.Laws.{part_snoc, num_snoc, length_part, part_cons}
+use Rattle.octets.proofs.Laws.{part_snoc, num_snoc}
 use lib.Dec.{eqb, lit<}
 use Rattle.octets.specs.Bytes.{part, num, num_from, be, be_onto, alike, over, put, Octets}
 
@@ -137,28 +137,6 @@ unfolding put
 octets_put l at s h k =
     octets_append (take at l) (s ++ drop (at + length s) l) (octets_take at l h) (octets_append s (drop (at + length s) l) k (octets_drop (at + length s) l h))
 
--- two lists with an equal start, and the first bytes after it
-pub less_split : (a b : List ℕ) (i j n k : ℕ) → k < n → i + n ≤ length a → j + n ≤ length b → Bytes a → num (part a i k) ≡ num (part b j k)
-    → get_or a (i + k) 0 < get_or b (j + k) 0 → num (part a i n) < num (part b j n)
-less_split a b i j n k h p q ba e t =
-    let m : ℕ = n - suc k in
-    let z : n ≡ k + suc m = omega arith in
-    let ca : part a (i + k) (suc m) ≡ get_or a (i + k) 0 ∷ part a (suc (i + k)) m = part_cons a (i + k) m (omega arith) in
-    let cb : part b (j + k) (suc m) ≡ get_or b (j + k) 0 ∷ part b (suc (j + k)) m = part_cons b (j + k) m (omega arith) in
-    let la : length (part a (suc (i + k)) m) ≡ m = length_part a (suc (i + k)) m (omega arith) in
-    let lb : length (part b (suc (j + k)) m) ≡ m = length_part b (suc (j + k)) m (omega arith) in
-    let f : num (part a (i + k) (suc m)) < num (part b (j + k) (suc m)) =
-    rw (ca, cb) (first_byte (get_or a (i + k) 0) (get_or b (j + k) 0) (part a (suc (i + k)) m) (part b (suc (j + k)) m) t (la ∙ sym lb) (bytes_part a (suc (i + k)) m ba)) in
-    let sa : length (part a (i + k) (suc m)) ≡ suc m = length_part a (i + k) (suc m) (omega arith) in
-    let sb : length (part b (j + k) (suc m)) ≡ suc m = length_part b (j + k) (suc m) (omega arith) in
-    rw (z, part_add a i k (suc m), part_add b j k (suc m), num_append (part a i k), num_append (part b j k), sa, sb, e) (omega arith)
-
-pub less_more : (a b : List ℕ) (i j k : ℕ) → i + k < length a → j + k < length b → num (part a i k) ≡ num (part b j k)
-    → get_or b (j + k) 0 ≤ get_or a (i + k) 0 → get_or a (i + k) 0 ≤ get_or b (j + k) 0 → num (part a i (k + 1)) ≡ num (part b j (k + 1))
-less_more a b i j k h p e s t =
-    let z : get_or a (i + k) 0 ≡ get_or b (j + k) 0 = omega arith in
-    rw (add-one, part_snoc a i k h, part_snoc b j k p, num_snoc, num_snoc, e, z)
-
 -- ---- alike is equality
 pub alike_is : (a b : List ℕ) → alike a b ≡ true → a ≡ b
 unfolding alike
@@ -218,14 +196,6 @@ pub get_d_part : (l : List ℕ) (at n k : ℕ) → k < n → get_or (part l at n
 unfolding part
 get_d_part l at n k h = rw (get_or-take n (drop at l) k 0 h, get_or-drop)
 
-pub same_not : (a b : List ℕ) (i j n k : ℕ) → k < n → (get_or a (i + k) 0 ≡ get_or b (j + k) 0 → ⊥) → alike (part a i n) (part b j n) ≡ false
-same_not a b i j n k h t =
-    not_alike _ _ (λ e. t (sym (get_d_part a i n k h) ∙ ap (λ (l : List ℕ). get_or l k 0) e ∙ get_d_part b j n k h))
-
-pub same_more : (a b : List ℕ) (i j k : ℕ) → i + k < length a → j + k < length b → part a i k ≡ part b j k
-    → get_or a (i + k) 0 ≡ get_or b (j + k) 0 → part a i (k + 1) ≡ part b j (k + 1)
-same_more a b i j k h p e z = rw (add-one, part_snoc a i k h, part_snoc b j k p, e, z)
-
 -- ---- the bytes of a number that was read
 be_onto_lem : (n x : ℕ) (s : List ℕ) → be_onto n x s ≡ be n x ++ s
 unfolding be be_onto
@@ -251,7 +221,7 @@ be_zero : (x : ℕ) → be 0 x ≡ []
 unfolding be be_onto
 be_zero x = refl
 
-part_zero : (b : List ℕ) (at : ℕ) → part b at 0 ≡ []
+pub part_zero : (b : List ℕ) (at : ℕ) → part b at 0 ≡ []
 unfolding part
 part_zero b at = refl
 

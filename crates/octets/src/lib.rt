@@ -4,7 +4,6 @@
 
 ghost use Rattle.std.specs.Prelude.{◌≡◌, ◌+◌, ◌≤◌, ◌<◌, ◌^◌, ltb, length};
 ghost use Rattle.octets.specs.Bytes.{part, put, num, be, alike};
-ghost use Rattle.octets.specs.Inside.{le};
 
 // The big-endian number of the n bytes at `at`, n at most 8. The third fact is for those who write the number again.
 pub fn get(b: &[u8], at: usize, n: usize) -> u64
@@ -12,10 +11,8 @@ pub fn get(b: &[u8], at: usize, n: usize) -> u64
     ensures { (result ≡ num (part b.now at n)) × (result < 256 ^ n) × (be n result ≡ part b.now at n) }
 {
     let mut x: u64 = 0;
-    let mut i: usize = 0;
-    while i < n {
+    for i in 0..n {
         x = x * 256 + b[at + i] as u64;
-        i += 1;
     }
     x
 }
@@ -25,60 +22,38 @@ pub fn put_num(b: &mut [u8], at: usize, n: usize, x: u64)
     requires { at + n ≤ length b.old }
     ensures { b.new ≡ put b.old at (be n x) }
 {
-    let mut i = n;
     let mut y = x;
-    while i > 0 {
-        i -= 1;
+    for i in (0..n).rev() {
         b[at + i] = (y % 256) as u8;
         y = y / 256;
     }
 }
 
-// The big-endian number of the 8 bytes at `at`, as `get` gives it. In two halves it compiles to one load and one byte swap; the loop of 8
-// turns stays eight loads.
+// The big-endian number of the 8 bytes at `at`, as `get` gives it. Beside `get` for speed: it compiles to one load and one byte swap, where a loop
+// of 8 turns stays eight loads.
 pub fn word(b: &[u8], at: usize) -> u64
     requires { at + 8 ≤ length b.now }
     ensures { (result ≡ num (part b.now at 8)) × (result < 256 ^ 8) × (be 8 result ≡ part b.now at 8) }
 {
-    get(b, at, 4) * 4294967296 + get(b, at + 4, 4)
+    u64::from_be_bytes([
+        b[at],
+        b[at + 1],
+        b[at + 2],
+        b[at + 3],
+        b[at + 4],
+        b[at + 5],
+        b[at + 6],
+        b[at + 7],
+    ])
 }
 
-// x with its 8 bytes in the other order: one byte swap.
-fn turned(x: u64) -> u64
-    ensures { le 8 result ≡ be 8 x }
-{
-    let mut z: u64 = 0;
-    let mut y = x;
-    let mut i: usize = 0;
-    while i < 8 {
-        z = z * 256 + y % 256;
-        y = y / 256;
-        i += 1;
-    }
-    z
-}
-
-// The 8 bytes of z at `at`, the lowest first: one store.
-fn put_low(b: &mut [u8], at: usize, z: u64)
-    requires { at + 8 ≤ length b.old }
-    ensures { b.new ≡ put b.old at (le 8 z) }
-{
-    let mut y = z;
-    let mut i: usize = 0;
-    while i < 8 {
-        b[at + i] = (y % 256) as u8;
-        y = y / 256;
-        i += 1;
-    }
-}
-
-// x as 8 bytes, big-endian, at `at`, as `put_num` lays it out. It compiles to one byte swap and one store, several in a row too, where
-// `put_num` becomes byte stores or vector shifts.
+// x as 8 bytes, big-endian, at `at`, as `put_num` lays it out. Beside `put_num` for speed: it compiles to one byte swap and one store, several in a
+// row too, where `put_num` becomes byte stores or vector shifts.
 pub fn put_word(b: &mut [u8], at: usize, x: u64)
     requires { at + 8 ≤ length b.old }
     ensures { b.new ≡ put b.old at (be 8 x) }
 {
-    put_low(b, at, turned(x));
+    b[at..at + 8].copy_from_slice(&x.to_be_bytes());
 }
 
 // n bytes of src from `from` into dst at `at`.
@@ -86,11 +61,7 @@ pub fn copy(src: &[u8], from: usize, n: usize, dst: &mut [u8], at: usize)
     requires { (from + n ≤ length src.now) × (at + n ≤ length dst.old) }
     ensures { dst.new ≡ put dst.old at (part src.now from n) }
 {
-    let mut i: usize = 0;
-    while i < n {
-        dst[at + i] = src[from + i];
-        i += 1;
-    }
+    dst[at..at + n].copy_from_slice(&src[from..from + n]);
 }
 
 // The n bytes from `at` on, moved up by `by`: the last first.
@@ -98,11 +69,7 @@ pub fn up(b: &mut [u8], at: usize, n: usize, by: usize)
     requires { at + n + by ≤ length b.old }
     ensures { b.new ≡ put b.old (at + by) (part b.old at n) }
 {
-    let mut i = n;
-    while i > 0 {
-        i -= 1;
-        b[at + by + i] = b[at + i];
-    }
+    within(b, at, n, at + by);
 }
 
 // The n bytes from `at + by` on, moved down by `by`: the first first.
@@ -110,11 +77,7 @@ pub fn down(b: &mut [u8], at: usize, n: usize, by: usize)
     requires { at + n + by ≤ length b.old }
     ensures { b.new ≡ put b.old at (part b.old (at + by) n) }
 {
-    let mut i: usize = 0;
-    while i < n {
-        b[at + i] = b[at + by + i];
-        i += 1;
-    }
+    within(b, at + by, n, at);
 }
 
 // n bytes of b from `from` on, copied to `at` in b, whichever comes first and however they overlap.
@@ -122,29 +85,21 @@ pub fn within(b: &mut [u8], from: usize, n: usize, at: usize)
     requires { (from + n ≤ length b.old) × (at + n ≤ length b.old) }
     ensures { b.new ≡ put b.old at (part b.old from n) }
 {
-    if at <= from {
-        down(b, at, n, from - at);
-    } else {
-        up(b, from, n, at - from);
-    }
+    b.copy_within(from..from + n, at);
 }
 
-// Whether the n bytes of a from i are below the n bytes of b from j, as big-endian numbers.
+// Whether the n bytes of a from i are below the n bytes of b from j, as big-endian numbers. By hand: with `<` of slices a node looks for a record in
+// 0.51 µs where it takes 0.41.
 pub fn less(a: &[u8], i: usize, b: &[u8], j: usize, n: usize) -> bool
     requires { (i + n ≤ length a.now) × (j + n ≤ length b.now) }
     ensures { result ≡ ltb (num (part a.now i n)) (num (part b.now j n)) }
 {
-    let mut k: usize = 0;
-    while k < n {
+    for k in 0..n {
         let x = a[i + k];
         let y = b[j + k];
-        if x < y {
-            return true;
+        if x != y {
+            return x < y;
         }
-        if y < x {
-            return false;
-        }
-        k += 1;
     }
     false
 }
@@ -154,12 +109,5 @@ pub fn same(a: &[u8], i: usize, b: &[u8], j: usize, n: usize) -> bool
     requires { (i + n ≤ length a.now) × (j + n ≤ length b.now) }
     ensures { result ≡ alike (part a.now i n) (part b.now j n) }
 {
-    let mut k: usize = 0;
-    while k < n {
-        if a[i + k] != b[j + k] {
-            return false;
-        }
-        k += 1;
-    }
-    true
+    a[i..i + n] == b[j..j + n]
 }

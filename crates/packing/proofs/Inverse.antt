@@ -31,9 +31,7 @@ use Rattle.terms.proofs.Rungs.{both}
 use Rattle.terms.proofs.Stamps.{Words, stamp_bytes, stamp_at_number}
 use Rattle.rounds.specs.declared.Heard.{Heard}
 use Rattle.rounds.specs.declared.Heard.TheVariants.{Unheard, First, Record}
-use Rattle.rounds.specs.declared.Mark.{Mark}
-use Rattle.rounds.specs.declared.Bound.{Bound}
-use Rattle.rounds.specs.declared.Bound.TheVariants.{Free, Under}
+use Rattle.std.proofs.Common.{Option, None, Some}
 use Rattle.clock.specs.Clock.{zero_times}
 use Rattle.clock.proofs.Wide.{WideTimes, wide_zeros, wide_set}
 use Rattle.standing.specs.declared.Operation.{Operation}
@@ -263,9 +261,9 @@ plan_back p ok =
     (λ i. record { n = c0.0 i; t = c1.0 i; b = c2.0 i; q = c3.0 i; m = c4.0 i; f = c5.0 i; member = member i; clients = clients i; w = c9.0 i })
 
 -- ---- sessions
-abbrev pub WideBound : Bound → Type 0
-WideBound Free = Unit {0}
-WideBound (Under u) = Wide u
+abbrev pub WideBound : Option Timestamp → Type 0
+WideBound None = Unit {0}
+WideBound (Some u) = Wide u
 
 -- a session whose numbers have the widths of their fields
 pub record Fits (s : Session) : Type 0 where
@@ -277,18 +275,18 @@ pub record Fits (s : Session) : Type 0 where
   pub marks : length s.marks ≡ 16
 
 -- the bound read back, and what follows it
-pub record BoundBack (x : List ℕ) (b : Bound) (z : List ℕ) : Type 0 where
+pub record BoundBack (x : List ℕ) (b : Option Timestamp) (z : List ℕ) : Type 0 where
   pub shaped : bound_shaped (field x 4 1) (field x 5 40) ≡ true
   pub is : bound_of (field x 4 1) (stamp_at x 5) ≡ b
   pub rest : drop 45 x ≡ z
 
-cut_bound : (x : List ℕ) (b : Bound) (z : List ℕ) → drop 4 x ≡ bound_bytes b ++ z → WideBound b → BoundBack x b z
+cut_bound : (x : List ℕ) (b : Option Timestamp) (z : List ℕ) → drop 4 x ≡ bound_bytes b ++ z → WideBound b → BoundBack x b z
 unfolding bound_bytes bound_shaped bound_of
-cut_bound x Free z e w =
+cut_bound x None z e w =
     let c0 = cut x 4 1 5 0 (be 40 0 ++ z) refl (e ∙ append_assoc (be 1 0) (be 40 0) z) (omega arith) in
     let c1 = cut x 5 40 45 0 z refl c0.1 (lit< tt) in
     record { shaped = rw (c0.0, c1.0); is = rw c0.0; rest = c1.1 }
-cut_bound x (Under u) z e w =
+cut_bound x (Some u) z e w =
     let c0 = cut x 4 1 5 1 (be 40 (stamp_number u) ++ z) refl (e ∙ append_assoc (be 1 1) (be 40 (stamp_number u)) z) (omega arith) in
     let c1 = cut_stamp x 5 u z c0.1 w in
     record { shaped = rw c0.0; is = rw (c0.0, c1.0); rest = c1.1 }
@@ -301,7 +299,7 @@ bound_again x h o e = go (eqb (field x 4 1) 0) refl
     halves : part x 4 1 ++ part x 5 40 ≡ part x 4 41
     halves = sym (part_add x 4 1 40)
 
-    go : (t : Bool) → eqb (field x 4 1) 0 ≡ t → bound_bytes (cond t Free (Under (stamp_at x 5))) ≡ part x 4 41
+    go : (t : Bool) → eqb (field x 4 1) 0 ≡ t → bound_bytes (cond t None (Some (stamp_at x 5))) ≡ part x 4 41
     go true f =
         let k : field x 4 1 ≡ 0 = eqb-true (field x 4 1) 0 f in
         let u : eqb (field x 5 40) 0 ≡ true = rw k at e in
@@ -312,20 +310,20 @@ bound_again x h o e = go (eqb (field x 4 1) 0) refl
         let k : field x 4 1 ≡ 1 = eqb-true (field x 4 1) 1 u.0 in
         (λ i. field_again x 4 1 1 (omega arith) o (sym k) i ++ stamp_again x 5 h o i) ∙ halves
 
-marks_back : (ms : List Mark) → marks_of (mark_bytes ms) ≡ ms
+marks_back : (ms : List Heard) → marks_of (mark_bytes ms) ≡ ms
 unfolding marks_of mark_bytes
 marks_back [] = refl
-marks_back (m ∷ ms) = λ i. record { is = heard_back m.is i } ∷ marks_back ms i
+marks_back (m ∷ ms) = λ i. heard_back m i ∷ marks_back ms i
 
 mark_most : (h : Heard) → leb (mark_byte h) 2 ≡ true
 mark_most Unheard = refl
 mark_most First = refl
 mark_most Record = refl
 
-marks_shape : (ms : List Mark) → marks_shaped (mark_bytes ms) ≡ true
+marks_shape : (ms : List Heard) → marks_shaped (mark_bytes ms) ≡ true
 unfolding marks_shaped mark_bytes
 marks_shape [] = refl
-marks_shape (m ∷ ms) = rw (mark_most m.is) (marks_shape ms)
+marks_shape (m ∷ ms) = rw (mark_most m) (marks_shape ms)
 
 marks_again : (l : List ℕ) → marks_shaped l ≡ true → mark_bytes (marks_of l) ≡ l
 unfolding marks_shaped mark_bytes marks_of

@@ -1,14 +1,15 @@
 -- Laws of a plan and a session as bytes, for the functions that read and write them. Assumes nothing.
-use Prim.Native.Nat.{ℕ, suc, ◌+◌, ◌*◌, ◌≤◌, ◌<◌}
+use Prim.Native.Nat.{ℕ, zero, suc, ◌+◌, ◌*◌, ◌≤◌, ◌<◌}
 use mathlib.Core.Path.{◌≡◌, refl, sym, ap, ◌∙◌}
-use mathlib.Core.Bool.{Bool, true, false, cond}
+use mathlib.Core.Bool.{Bool, true, false, cond, ◌&&◌}
+use Rattle.std.specs.List.{list_all}
 use mathlib.Core.List.{List, [], ◌∷◌, ◌++◌, append_assoc, append-nil}
 use native.Mathlib.Numerals.{add-one}
 use native.Mathlib.Omega.{arith}
-use borrow.Author.Tests.{le-leb, lt-leb, eq-eqb, ne_eqb, eqb-true}
-use lib.ListN.{length, get_or, take, drop, set, drop_of_length-le, length-append}
-use lib.Seq.{drop-cons, take-suc, take_all, take-suc-set, length-take-le}
-use lib.Dec.{eqb}
+use borrow.Author.Tests.{eq-eqb, ne_eqb, eqb-true}
+use lib.ListN.{length, get_or, take, set, length-append}
+use lib.Seq.{take-suc, take_all, take-suc-set, length-take-le}
+use lib.Dec.{eqb, leb}
 use Rattle.octets.specs.Bytes.{put, be}
 use Rattle.octets.proofs.Laws.{length_be, put_snoc, put_nil, put_then}
 use Rattle.octets.proofs.Meaning.{over_start, over_whole}
@@ -18,16 +19,16 @@ use Rattle.terms.specs.declared.Time.{Time}
 use Rattle.terms.specs.declared.Timestamp.{Timestamp}
 use Rattle.terms.proofs.Rungs.{both}
 use Rattle.terms.proofs.Stamps.{stamp_at_number, zero_number}
-use Rattle.rounds.specs.declared.Mark.{Mark}
-use Rattle.rounds.specs.declared.Bound.{Bound}
-use Rattle.rounds.specs.declared.Bound.TheVariants.{Free, Under}
+use Rattle.std.proofs.Common.{Option, None, Some}
+use Rattle.std.specs.Prelude.{is_some, unwrap_or}
+use Rattle.rounds.specs.declared.Heard.{Heard}
 use Rattle.standing.specs.declared.Round.{Round}
 use Rattle.session.specs.declared.Session.{Session}
-use Rattle.standing.proofs.Rules.{or_holds, or_last, and_fails, and_last}
-use Rattle.terms.specs.declared.Member.{Member}
-use Rattle.wish.specs.declared.Wish.{Wish}
-use Rattle.packing.specs.PlanBytes.{field, member_of, plan_shaped}
-use Rattle.packing.specs.SessionBytes.{session_length, operation_byte, stage_byte, mark_byte, bound_bytes, times_bytes, mark_bytes, round_bytes, ask_bytes, heard_bytes, session_bytes, heard_of, bound_shaped, marks_shaped, marks_of, session_shaped}
+use Rattle.standing.proofs.Rules.{or_last, and_last}
+use Rattle.session.specs.Opening.{no_session}
+use Rattle.standing.specs.declared.Operation.TheVariants.{Read}
+use Rattle.packing.specs.PlanBytes.{field, plan_shaped, no_plan, plan_of}
+use Rattle.packing.specs.SessionBytes.{session_length, operation_byte, stage_byte, mark_byte, bound_bytes, times_bytes, mark_bytes, round_bytes, ask_bytes, heard_bytes, session_bytes, heard_of, bound_shaped, marks_shaped, marks_of, times_at, session_shaped, session_of}
 
 -- ---- a case by its number
 module _ {A : Type 0} (k c : ℕ) (x y : A) where
@@ -46,19 +47,27 @@ pub session_length_lem : (x : List ℕ) → session_shaped x ≡ true → length
 unfolding session_shaped all
 session_length_lem x e = eqb-true _ _ (both (eqb (length x) session_length) _ e).0
 
--- ---- the bound's shape: 1; neither 0 nor 1; 0
-module _ (k u : ℕ) where
-  pub bound_one : k ≡ 1 → true ≡ bound_shaped k u
-  unfolding bound_shaped
-  bound_one e = or_holds _ (eq-eqb k 1 e)
+-- bytes that code no session or no plan, of their length or not
+pub no_plan_coded : (x : List ℕ) → plan_shaped x ≡ false → no_plan ≡ plan_of x
+unfolding plan_of
+no_plan_coded x f = rw f
 
-  pub bound_no : (k ≡ 1 → ⊥) → (k ≡ 0 → ⊥) → false ≡ bound_shaped k u
-  unfolding bound_shaped
-  bound_no h g = or_last (ne_eqb k 1 h) (and_fails _ (ne_eqb k 0 g))
+pub no_plan_long : (x : List ℕ) → (length x ≡ 11 → ⊥) → plan_shaped x ≡ false
+unfolding plan_shaped all
+no_plan_long x h = rw (ne_eqb (length x) 11 h)
 
-  pub bound_zero : k ≡ 0 → {z : Bool} → z ≡ eqb u 0 → z ≡ bound_shaped k u
-  unfolding bound_shaped
-  bound_zero e f = or_last (ne_eqb k 1 (λ g. omega arith)) (and_last (eq-eqb k 0 e) f)
+pub no_code : (x : List ℕ) (s : Session) → s ≡ no_session Read → session_shaped x ≡ false → s ≡ session_of x
+unfolding session_of
+no_code x s e f = rw f e
+
+pub not_long : (x : List ℕ) → (length x ≡ session_length → ⊥) → session_shaped x ≡ false
+unfolding session_shaped all
+not_long x h = rw (ne_eqb (length x) session_length h)
+
+-- ---- the bound's shape, where it is 0
+pub bound_zero : (k u : ℕ) → k ≡ 0 → {z : Bool} → z ≡ eqb u 0 → z ≡ bound_shaped k u
+unfolding bound_shaped
+bound_zero k u e f = or_last (ne_eqb k 1 (λ g. omega arith)) (and_last (eq-eqb k 0 e) f)
 
 -- forty zeros, tested as a timestamp
 pub zeros_tested : (x : List ℕ) (t z : Timestamp) {r : Bool} → 45 ≤ length x → t ≡ stamp_at x 5 → z ≡ zero_stamp → r ≡ eqb (stamp_number t) (stamp_number z)
@@ -67,57 +76,44 @@ zeros_tested x t z h e f g =
     g ∙ (λ i. eqb (stamp_number (e i)) (stamp_number (f i))) ∙ (λ i. eqb (stamp_at_number x 5 h i) (zero_number i))
 
 -- ---- marks
-pub shaped_on : (l : List ℕ) (i : ℕ) → i < length l → get_or l i 0 ≤ 2 → marks_shaped l ≡ marks_shaped (drop i l) → marks_shaped l ≡ marks_shaped (drop (i + 1) l)
+pub shaped_is : (l : List ℕ) → list_all (λ (k : ℕ). leb k 2) l ≡ marks_shaped l
 unfolding marks_shaped
-shaped_on l i h k e = e ∙ ap marks_shaped (drop-cons l i 0 h) ∙ rw (le-leb (get_or l i 0) 2 k, add-one)
+shaped_is [] = refl
+shaped_is (x ∷ l) = elim (leb x 2) as (λ (b : Bool). (b && list_all (λ (k : ℕ). leb k 2) l) ≡ cond b (marks_shaped l) false) [ true ↦ shaped_is l | false ↦ refl ]
 
-pub shaped_stop : (l : List ℕ) (i : ℕ) → i < length l → 2 < get_or l i 0 → marks_shaped l ≡ marks_shaped (drop i l) → false ≡ marks_shaped l
-unfolding marks_shaped
-shaped_stop l i h k e = sym (e ∙ ap marks_shaped (drop-cons l i 0 h) ∙ rw (lt-leb (get_or l i 0) 2 k))
-
-pub shaped_end : (l : List ℕ) (i : ℕ) → length l ≤ i → marks_shaped l ≡ marks_shaped (drop i l) → true ≡ marks_shaped l
-unfolding marks_shaped
-shaped_end l i h e = sym (e ∙ ap marks_shaped (drop_of_length-le l h))
-
-marks_of_snoc : (l : List ℕ) (x : ℕ) → marks_of (l ++ (x ∷ [])) ≡ marks_of l ++ (record { is = heard_of x } ∷ [])
+marks_of_snoc : (l : List ℕ) (x : ℕ) → marks_of (l ++ (x ∷ [])) ≡ marks_of l ++ (heard_of x ∷ [])
 unfolding marks_of
 marks_of_snoc [] x = refl
 marks_of_snoc (y ∷ l) x = rw (marks_of_snoc l x)
 
-pub marks_turn : (b : List ℕ) (ms : List Mark) (i : ℕ) (m : Mark) → i < length b → i < length ms → m.is ≡ heard_of (get_or b i 0)
+pub marks_turn : (b : List ℕ) (ms : List Heard) (i : ℕ) (m : Heard) → i < length b → i < length ms → m ≡ heard_of (get_or b i 0)
     → take i ms ≡ marks_of (take i b) → take (i + 1) (set ms i m) ≡ marks_of (take (i + 1) b)
-marks_turn b ms i m h k f e =
-    let g : m ≡ record { is = heard_of (get_or b i 0) } = λ j. record { is = f j } in
-    rw (add-one, take-suc-set ms i m k, take-suc b i 0 h, marks_of_snoc, e, g)
+marks_turn b ms i m h k f e = rw (add-one, take-suc-set ms i m k, take-suc b i 0 h, marks_of_snoc, e, f)
 
-pub marks_end : (b : List ℕ) (ms : List Mark) (i : ℕ) → length b ≤ i → length ms ≤ i → take i ms ≡ marks_of (take i b) → ms ≡ marks_of b
+pub marks_end : (b : List ℕ) (ms : List Heard) (i : ℕ) → length b ≤ i → length ms ≤ i → take i ms ≡ marks_of (take i b) → ms ≡ marks_of b
 marks_end b ms i h k e = sym (take_all i ms k) ∙ e ∙ ap marks_of (take_all i b h)
 
-mark_bytes_snoc : (ms : List Mark) (m : Mark) → mark_bytes (ms ++ (m ∷ [])) ≡ mark_bytes ms ++ (mark_byte m.is ∷ [])
+mark_bytes_snoc : (ms : List Heard) (m : Heard) → mark_bytes (ms ++ (m ∷ [])) ≡ mark_bytes ms ++ (mark_byte m ∷ [])
 unfolding mark_bytes
 mark_bytes_snoc [] m = refl
 mark_bytes_snoc (x ∷ ms) m = rw (mark_bytes_snoc ms m)
 
-pub length_marks : (ms : List Mark) → length (mark_bytes ms) ≡ length ms
+pub length_marks : (ms : List Heard) → length (mark_bytes ms) ≡ length ms
 unfolding mark_bytes
 length_marks [] = refl
 length_marks (m ∷ ms) = ap suc (length_marks ms)
 
--- ---- a loop that writes a list: its start and its end
-module _ {A : Type 0} (bytes : List A → List ℕ) (x : List ℕ) (l : List A) (at : ℕ) where
-  pub write_start : bytes [] ≡ [] → x ≡ put x at (bytes (take 0 l))
-  write_start e = sym (ap (put x at) e ∙ put_nil x at)
-
-  pub write_end : (x₀ : List ℕ) (i : ℕ) → length l ≤ i → x ≡ put x₀ at (bytes (take i l)) → x ≡ put x₀ at (bytes l)
-  write_end x₀ i h e = e ∙ ap (λ (k : List A). put x₀ at (bytes k)) (take_all i l h)
+-- ---- a loop that writes a list: its start
+pub write_start : {A : Type 0} (bytes : List A → List ℕ) (x : List ℕ) (l : List A) (at : ℕ) → bytes [] ≡ [] → x ≡ put x at (bytes (take 0 l))
+write_start bytes x l at e = sym (ap (put x at) e ∙ put_nil x at)
 
 -- its turn, of marks
-pub write_turn_lem : (x x₀ : List ℕ) (ms : List Mark) (at i v : ℕ) (d : Mark) → i < length ms → at + i < length x₀ → v ≡ mark_byte (get_or ms i d).is
+pub write_turn_lem : (x x₀ : List ℕ) (ms : List Heard) (at i v : ℕ) (d : Heard) → i < length ms → at + i < length x₀ → v ≡ mark_byte (get_or ms i d)
     → x ≡ put x₀ at (mark_bytes (take i ms)) → set x (at + i) v ≡ put x₀ at (mark_bytes (take (i + 1) ms))
 write_turn_lem x x₀ ms at i v d h k f e =
     let s : List ℕ = mark_bytes (take i ms) in
     let l : length s ≡ i = length_marks (take i ms) ∙ length-take-le i ms (omega arith) in
-    rw (e, f, add-one, take-suc ms i d h, mark_bytes_snoc, ← put_snoc x₀ at s (mark_byte (get_or ms i d).is) (rw l k), l)
+    rw (e, f, add-one, take-suc ms i d h, mark_bytes_snoc, ← put_snoc x₀ at s (mark_byte (get_or ms i d)) (rw l k), l)
 
 -- ---- times
 times_bytes_snoc : (ts : List Time) (t : Time) → times_bytes (ts ++ (t ∷ [])) ≡ times_bytes ts ++ be 8 t.0
@@ -137,25 +133,32 @@ write_time x x₀ x₁ ts at i d h k e g =
     let l : length r ≡ 8 * i = length_times (take i ts) ∙ ap (λ (n : ℕ). 8 * n) (length-take-le i ts (omega arith)) in
     g ∙ rw (e, put_then x₀ at (at + 8 * i) r (be 8 (get_or ts i d).0) (ap (λ (n : ℕ). at + n) l) k, add-one, take-suc ts i d h, times_bytes_snoc)
 
+pub times_from : (x : List ℕ) (at n : ℕ) (ts : List Time) → length ts ≡ n → ((i : ℕ) → i < n → (get_or ts i (record { 0 = 0 })).0 ≡ field x (at + 8 * i) 8) → ts ≡ times_at x at n
+unfolding times_at
+times_from x at zero [] e f = refl
+times_from x at zero (t ∷ ts) e f = absurd (omega arith)
+times_from x at (suc n) [] e f = absurd (omega arith)
+times_from x at (suc n) (t ∷ ts) e f =
+    let here : at + 8 * 0 ≡ at = omega arith in
+    let h : t.0 ≡ field x at 8 = f 0 (omega arith) ∙ ap (λ (k : ℕ). field x k 8) here in
+    λ j. record { 0 = h j } ∷ times_from x (at + 8) n ts (omega arith) (λ i l. let next : at + 8 * suc i ≡ (at + 8) + 8 * i = omega arith in f (suc i) (omega arith) ∙ ap (λ (k : ℕ). field x k 8) next) j
+
 -- ---- the bound
-pub length_bound : (b : Bound) → length (bound_bytes b) ≡ 41
+pub length_bound : (b : Option Timestamp) → length (bound_bytes b) ≡ 41
 unfolding bound_bytes
-length_bound Free = simp (length-append, length_be)
-length_bound (Under u) = simp (length-append, length_be)
+length_bound None = simp (length-append, length_be)
+length_bound (Some u) = simp (length-append, length_be)
 
 pub bound_put : (x x₁ x₂ : List ℕ) (k : ℕ) (t : Timestamp) → 45 ≤ length x → x₁ ≡ put x 4 (be 1 k) → x₂ ≡ put x₁ 5 (be 40 (stamp_number t))
     → x₂ ≡ put x 4 (be 1 k ++ be 40 (stamp_number t))
 bound_put x x₁ x₂ k t h e f =
     f ∙ ap (λ (l : List ℕ). put l 5 (be 40 (stamp_number t))) e ∙ put_then x 4 5 (be 1 k) (be 40 (stamp_number t)) (simp length_be) (omega arith)
 
-pub bound_free : (x y : List ℕ) (b : Bound) (t : Timestamp) → b ≡ Free → t ≡ zero_stamp → y ≡ put x 4 (be 1 0 ++ be 40 (stamp_number t)) → y ≡ put x 4 (bound_bytes b)
+pub bound_laid : (x y : List ℕ) (b : Option Timestamp) (k : ℕ) (t z : Timestamp) → k ≡ cond (is_some b) 1 0 → t ≡ unwrap_or b z → z ≡ zero_stamp
+    → y ≡ put x 4 (be 1 k ++ be 40 (stamp_number t)) → y ≡ put x 4 (bound_bytes b)
 unfolding bound_bytes
-bound_free x y b t e f g =
-    g ∙ ap (λ (n : ℕ). put x 4 (be 1 0 ++ be 40 n)) (ap stamp_number f ∙ zero_number) ∙ ap (λ (c : Bound). put x 4 (bound_bytes c)) (sym e)
-
-pub bound_under : (x y : List ℕ) (b : Bound) (u : Timestamp) → b ≡ Under u → y ≡ put x 4 (be 1 1 ++ be 40 (stamp_number u)) → y ≡ put x 4 (bound_bytes b)
-unfolding bound_bytes
-bound_under x y b u e g = g ∙ ap (λ (c : Bound). put x 4 (bound_bytes c)) (sym e)
+bound_laid x y None k t z e f g h = h ∙ (λ i. put x 4 (be 1 (e i) ++ be 40 ((ap stamp_number (f ∙ g) ∙ zero_number) i)))
+bound_laid x y (Some u) k t z e f g h = h ∙ (λ i. put x 4 (be 1 (e i) ++ be 40 (stamp_number (f i))))
 
 -- ---- fields written one after the other
 three : (x x₁ x₂ x₃ s t u : List ℕ) (a b c : ℕ) → a + length s ≡ b → b + length t ≡ c → a ≤ length x → x₁ ≡ put x a s → x₂ ≡ put x₁ b t → x₃ ≡ put x₂ c u
@@ -202,7 +205,3 @@ session_put s x x₁ x₂ j k l e1 e2 =
     let whole : ask_bytes s ++ heard_bytes s ≡ session_bytes s = unfold session_bytes in refl in
     e2 ∙ ap (λ (y : List ℕ). put y 53 (heard_bytes s)) e1 ∙ put_then x 0 53 (ask_bytes s) (heard_bytes s) (simp length_ask) (omega arith)
     ∙ ap (put x 0) whole ∙ over_start x (session_bytes s) ∙ over_whole (session_bytes s) x (l ∙ sym (length_session s j k))
-
--- ---- a wish
-pub wish_by : (k : Member) (j t b m : ℕ) → k ≡ member_of j → ◌≡◌ {A = Wish} (record { member = k; t = t; b = b; m = m }) (record { member = member_of j; t = t; b = b; m = m })
-wish_by k j t b m e = λ i. record { member = e i; t = t; b = b; m = m }

@@ -10,7 +10,7 @@
 --   bound_of times_at marks_of round_at session_at   what they code
 --   session_of                          any bytes as a session: those that code none give one in no range, so that every call refuses it 9
 -- Assumes nothing.
-use Rattle.std.specs.Prelude.{ℕ, zero, suc, ◌+◌, Bool, true, cond, List, [], ◌∷◌, ◌++◌, length, leb, eqb}
+use Rattle.std.specs.Prelude.{ℕ, zero, suc, ◌+◌, Bool, true, cond, List, [], ◌∷◌, ◌++◌, length, leb, eqb, Option, None, Some}
 use Rattle.octets.specs.Bytes.{part, be}
 use Rattle.terms.specs.Ladder.{all, ◌and◌, ◌or◌}
 use Rattle.terms.specs.Stamp.{stamp_number, stamp_at}
@@ -18,9 +18,6 @@ use Rattle.terms.specs.declared.Time.{Time}
 use Rattle.terms.specs.declared.Timestamp.{Timestamp}
 use Rattle.rounds.specs.declared.Heard.{Heard}
 use Rattle.rounds.specs.declared.Heard.TheVariants.{Unheard, First, Record}
-use Rattle.rounds.specs.declared.Mark.{Mark}
-use Rattle.rounds.specs.declared.Bound.{Bound}
-use Rattle.rounds.specs.declared.Bound.TheVariants.{Free, Under}
 use Rattle.standing.specs.declared.Operation.{Operation}
 use Rattle.standing.specs.declared.Operation.TheVariants.{Write, Read}
 use Rattle.standing.specs.declared.Stage.{Stage}
@@ -49,18 +46,18 @@ mark_byte First = 1
 mark_byte Record = 2
 
 -- "0 and forty zeros: none; 1 and the timestamp"
-unfoldable pub bound_bytes : Bound → List ℕ
-bound_bytes Free = be 1 0 ++ be 40 0
-bound_bytes (Under u) = be 1 1 ++ be 40 (stamp_number u)
+unfoldable pub bound_bytes : Option Timestamp → List ℕ
+bound_bytes None = be 1 0 ++ be 40 0
+bound_bytes (Some u) = be 1 1 ++ be 40 (stamp_number u)
 
 -- node 0's first
 unfoldable pub times_bytes : List Time → List ℕ
 times_bytes [] = []
 times_bytes (t ∷ ts) = be 8 t.0 ++ times_bytes ts
 
-unfoldable pub mark_bytes : List Mark → List ℕ
+unfoldable pub mark_bytes : List Heard → List ℕ
 mark_bytes [] = []
-mark_bytes (m ∷ ms) = mark_byte m.is ∷ mark_bytes ms
+mark_bytes (m ∷ ms) = mark_byte m ∷ mark_bytes ms
 
 unfoldable pub round_bytes : Round → List ℕ
 round_bytes r = be 1 (stage_byte r.stage) ++ (be 2 r.number ++ bound_bytes r.bound)
@@ -89,8 +86,8 @@ heard_of k = cond (eqb k 0) Unheard (cond (eqb k 1) First Record)
 unfoldable pub bound_shaped : ℕ → ℕ → Bool
 bound_shaped k u = eqb k 1 or (eqb k 0 and eqb u 0)
 
-unfoldable pub bound_of : ℕ → Timestamp → Bound
-bound_of k u = cond (eqb k 0) Free (Under u)
+unfoldable pub bound_of : ℕ → Timestamp → Option Timestamp
+bound_of k u = cond (eqb k 0) None (Some u)
 
 -- the n times that stand from a place on, 8 bytes each
 unfoldable pub times_at : List ℕ → (at n : ℕ) → List Time
@@ -101,9 +98,9 @@ unfoldable pub marks_shaped : List ℕ → Bool
 marks_shaped [] = true
 marks_shaped (x ∷ l) = leb x 2 and marks_shaped l
 
-unfoldable pub marks_of : List ℕ → List Mark
+unfoldable pub marks_of : List ℕ → List Heard
 marks_of [] = []
-marks_of (x ∷ l) = record { is = heard_of x } ∷ marks_of l
+marks_of (x ∷ l) = heard_of x ∷ marks_of l
 
 unfoldable pub session_shaped : List ℕ → Bool
 session_shaped x =

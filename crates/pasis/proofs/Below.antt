@@ -4,6 +4,8 @@
 --   Came         what a reply call left is an outcome of the call below, and is held
 -- An ending that is not 42 bytes is refused 2, and nothing changes (read_unlent, write_unlent).
 -- Assumes nothing.
+use Rattle.terms.specs.declared.Refusal.{Refusal}
+use Rattle.std.specs.Prelude.{Result, Ok, Err}
 use Prim.{tt}
 use Prim.Native.Nat.{ℕ}
 use mathlib.Core.Path.{◌≡◌, refl, sym, ap, ◌∙◌, subst}
@@ -20,14 +22,12 @@ use Rattle.terms.proofs.Down.{clear}
 use Rattle.terms.proofs.Ladders.{by_ladder, is_passed}
 use Rattle.terms.proofs.Picks.{either}
 use Rattle.terms.proofs.Rungs as rungs
-use Rattle.rounds.specs.declared.Bound.TheVariants.{Free}
+use Rattle.std.specs.declared.option.Option.TheVariants as option
 use Rattle.standing.specs.declared.Operation.{Operation}
 use Rattle.session.specs.declared.Session.{Session}
 use Rattle.standing.specs.Standing.{is_read}
 use Rattle.session.specs.Session.{Said, said_of, is_refused}
 use Rattle.session.specs.Opening.{opening_ladder, fresh_of, no_session, Opens, opens, open_with}
-use Rattle.session.specs.declared.owed.Owed.{Owed}
-use Rattle.session.specs.declared.owed.Owed.TheVariants.{Refused, Request}
 use Rattle.session.specs.Owed as owed
 use Rattle.session.specs.Owed.{owed_ladder, due_of, Dues, dues, owed_to, OwedCall}
 use Rattle.session.specs.Reader.{Outcome, outcome, read_reply}
@@ -54,12 +54,12 @@ pub record Came (o : Outcome) (r : ℕ) (s₂ d₂ i₂ e₂ : List ℕ) : Type 
 -- ---- opening
 pub record OpenedBelow (op : Operation) (x : List ℕ) (a : ℕ) (s : List ℕ) : Type 0 where
   pub plan : plan_ok (plan_of x) ≡ true
-  pub opened : opens 0 (session_of s) ≡ open_with op Free (plan_of x) (record { 0 = a })
+  pub opened : opens 0 (session_of s) ≡ open_with op option.None (plan_of x) (record { 0 = a })
   pub held : (d : List ℕ) → (is_read op ≡ true → Octets d) → Held s d
 
 module _ (op : Operation) (x : List ℕ) (a : ℕ) (s₀ s : List ℕ) (c : OpenServes op x a s₀ 0 s) where
   abbrev fresh : Session
-  fresh = fresh_of op 1 Free (record { 0 = a })
+  fresh = fresh_of op 1 option.None (record { 0 = a })
 
   abbrev order : List Rung
   order = lent_ladder (plan_of x) (session_fits (length s₀)) ++ opening_ladder (plan_of x) a
@@ -70,14 +70,14 @@ module _ (op : Operation) (x : List ℕ) (a : ℕ) (s₀ s : List ℕ) (c : Open
   none =
       none_applies order refl
       (sym (ap (λ (o : OpenedBytes). o.number) c.is
-      ∙ first_map (λ (o : OpenedBytes). o.number) (lent_ladder (plan_of x) (session_fits (length s₀))) (λ (k : ℕ). opened_bytes k s₀) (opened_as (open_with op Free (plan_of x) (record { 0 = a })) s₀)
+      ∙ first_map (λ (o : OpenedBytes). o.number) (lent_ladder (plan_of x) (session_fits (length s₀))) (λ (k : ℕ). opened_bytes k s₀) (opened_as (open_with op option.None (plan_of x) (record { 0 = a })) s₀)
       ∙ ap (first (lent_ladder (plan_of x) (session_fits (length s₀))) (λ (k : ℕ). k))
       (first_map (λ (o : Opens). o.number) (opening_ladder (plan_of x) a) (λ (k : ℕ). opens k (no_session op)) (opens 0 fresh))))
 
   past : (k : ℕ) → rung k order ≡ false
   past = clear order none
 
-  opens_fresh : open_with op Free (plan_of x) (record { 0 = a }) ≡ opens 0 fresh
+  opens_fresh : open_with op option.None (plan_of x) (record { 0 = a }) ≡ opens 0 fresh
   unfolding open_with
   opens_fresh = is_passed (opening_ladder (plan_of x) a) (λ (k : ℕ). opens k (no_session op)) (opens 0 fresh) (past 1, (past 13, tt))
 
@@ -104,12 +104,12 @@ module _ (op : Operation) (x : List ℕ) (a : ℕ) (s₀ s : List ℕ) (c : Open
 -- ---- the request owed
 -- the answer of the call below, and its number
 pub record OwedBelow (x s : List ℕ) (n : ℕ) (d q : List ℕ) (r : ℕ) (q₂ : List ℕ) : Type 0 where
-  pub owed : Owed
+  pub owed : Result ℕ Refusal
   pub call : OwedCall (plan_of x) (session_of s) n d q owed q₂
   pub number : r ≡ due_number (due_of owed)
 
 record IsDue (o : Dues) : Type 0 where
-  answer : Owed
+  answer : Result ℕ Refusal
   is : due_of answer ≡ o.due
 
 module _ (x s : List ℕ) (n : ℕ) (d q : List ℕ) (r : ℕ) (q₂ : List ℕ) (ok : plan_ok (plan_of x) ≡ true) (long : length s ≡ session_length) (c : OwedServes x s n d q r q₂) where
@@ -117,8 +117,8 @@ module _ (x s : List ℕ) (n : ℕ) (d q : List ℕ) (r : ℕ) (q₂ : List ℕ)
   unfolding owed_to
   due =
       by_ladder IsDue (owed_ladder (plan_of x) (session_of s) n d (length q)) (λ (k : ℕ). dues (owed.refused k) q) _
-      (λ k g. record { answer = Refused (refusal_at k); is = ap owed.refused (given_refusal (owed_ladder (plan_of x) (session_of s) n d (length q)) refl k g).1 })
-      (λ z. record { answer = Request _; is = refl })
+      (λ k g. record { answer = Err (refusal_at k); is = ap owed.refused (given_refusal (owed_ladder (plan_of x) (session_of s) n d (length q)) refl k g).1 })
+      (λ z. record { answer = Ok _; is = refl })
 
   pub owed_below : OwedBelow x s n d q r q₂
   unfolding owed_bytes

@@ -5,6 +5,7 @@
 --   WideAnswer    an answer that fits its number and its 42 bytes
 --   Carried       what a call leaves of a session: such a session and such an answer, and the same session at a refusal
 -- Assumes nothing.
+use Rattle.std.specs.Prelude.{Result, Ok, Err}
 use Prim.{Unit, tt}
 use Prim.Native.Nat.{ℕ, ◌+◌, ◌*◌, ◌<◌, ◌^◌}
 use mathlib.Core.Path.{◌≡◌, refl, sym, ap, ◌∙◌}
@@ -33,11 +34,10 @@ use Rattle.terms.proofs.Plans.{plan_is}
 use Rattle.terms.proofs.Rungs.{both, clash, refusal_one}
 use Rattle.terms.proofs.Stamps.{zero_number}
 use Rattle.frame.specs.Frame.{frame_node, body_of, head_bytes, version_of}
-use Rattle.rounds.specs.declared.Bound.TheVariants.{Free}
+use Rattle.std.proofs.Common.{Option}
+use Rattle.std.specs.declared.option.Option.TheVariants as option
 use Rattle.rounds.specs.declared.Heard.{Heard}
 use Rattle.rounds.specs.declared.Heard.TheVariants.{First, Record}
-use Rattle.rounds.specs.declared.Lead.{Lead}
-use Rattle.rounds.specs.declared.Lead.TheVariants.{Nobody, Node}
 use Rattle.rounds.specs.Rounds.{Closed, lead_of, close_with}
 use Rattle.recover.specs.Records.{cross_for, stamp_for, records_for}
 use Rattle.recover.specs.Recover.{sound, decoded, collected, repaired}
@@ -73,18 +73,18 @@ pub record Lasts (s : Session) (d : List ℕ) : Type 0 where
 abbrev is_refusal : ℕ → Bool
 is_refusal k = eqb (refusal_number (refusal_at k)) k and (leb 1 k and leb k 100)
 
-abbrev pub WideAnswer : Answer → Type 0
-WideAnswer (answers.Refused r) = is_refusal (refusal_number r) ≡ true
-WideAnswer answers.Open = Unit {0}
-WideAnswer (answers.Done t n) = Wide t × (n < 256 ^ 2)
-WideAnswer (answers.NeverWritten n) = n < 256 ^ 2
-WideAnswer (answers.Aborted n) = n < 256 ^ 2
-WideAnswer (answers.RoundsSpent n) = n < 256 ^ 2
-WideAnswer answers.ClockSpent = Unit {0}
+abbrev pub WideAnswer : Result Answer Refusal → Type 0
+WideAnswer (Err r) = is_refusal (refusal_number r) ≡ true
+WideAnswer (Ok answers.Open) = Unit {0}
+WideAnswer (Ok (answers.Done t n)) = Wide t × (n < 256 ^ 2)
+WideAnswer (Ok (answers.NeverWritten n)) = n < 256 ^ 2
+WideAnswer (Ok (answers.Aborted n)) = n < 256 ^ 2
+WideAnswer (Ok (answers.RoundsSpent n)) = n < 256 ^ 2
+WideAnswer (Ok answers.ClockSpent) = Unit {0}
 
 pub record Carried (s : Session) (o : Outcome) : Type 0 where
   pub lasts : Lasts o.session o.desk
-  pub answer : Answer
+  pub answer : Result Answer Refusal
   pub said : said_of answer ≡ o.said
   pub wide : WideAnswer answer
   pub stays : is_refused o.said ≡ true → o.session ≡ s
@@ -99,7 +99,7 @@ module _ (s : Session) (w : Fits s) where
         opening = w.opening;
         times = w.times;
         stamp = w.stamp;
-        marks = length-set s.marks n (record { is = h }) ∙ w.marks;
+        marks = length-set s.marks n h ∙ w.marks;
       }
 
   fits_timed : (n t : ℕ) → t < 256 ^ 8 → Fits (timed_of s n t)
@@ -110,7 +110,7 @@ module _ (s : Session) (w : Fits s) where
         opening = w.opening;
         times = fits_set s.times n (record { 0 = t }) h w.times;
         stamp = w.stamp;
-        marks = length-set s.marks n (record { is = Record }) ∙ w.marks;
+        marks = length-set s.marks n Record ∙ w.marks;
       }
 
   fits_ended : Fits (ended_of s)
@@ -130,7 +130,7 @@ zero_wide =
 
 -- an accepted opening's: its ask number leaves room for W more
 pub opened_lasts : (op : Operation) (p : Plan) (a : ℕ) (d : List ℕ) → opening_ok p a ≡ true → (is_read op ≡ true → Octets d)
-    → Lasts (fresh_of op 1 Free (record { 0 = a })) d
+    → Lasts (fresh_of op 1 option.None (record { 0 = a })) d
 opened_lasts op p a d k o =
     let h = leb-true (a + p.w) top k in
     record {
@@ -147,9 +147,9 @@ close_wide : (p : Plan) (s : Session) (d : List ℕ) → Octets d → Wide (clos
 unfolding close_with
 close_wide p s d o = go (lead_of s.marks d (slots_of p) p.n)
   where
-    go : (l : Lead) → Wide (close_with s.marks d (slots_of p) p.member (thresholds_of p) l).stamp
-    go Nobody = zero_wide
-    go (Node a) = wide_at d (slot_at (slots_of p) a) o
+    go : (l : Option ℕ) → Wide (close_with s.marks d (slots_of p) p.member (thresholds_of p) l).stamp
+    go option.None = zero_wide
+    go (option.Some a) = wide_at d (slot_at (slots_of p) a) o
 
 -- ---- answers
 -- every refusal of a ladder is one of the document's
@@ -162,16 +162,16 @@ module _ (s : Session) where
   refuses : (l : List Rung) → numbers is_refusal l ≡ true → (d i : List ℕ) → Lasts s d → (k : ℕ) → Given l k → Carried s (outcome (refused k) s d i)
   refuses l e d i w k g =
       let q = given_refusal l e k g in
-      record { lasts = w; answer = answers.Refused (refusal_at k); said = ap refused q.1; wide = ap is_refusal q.1 ∙ q.0; stays = λ z. refl }
+      record { lasts = w; answer = Err (refusal_at k); said = ap refused q.1; wide = ap is_refusal q.1 ∙ q.0; stays = λ z. refl }
 
   opens : (u : Session) (d i : List ℕ) → Lasts u d → Carried s (outcome still_open u d i)
-  opens u d i w = record { lasts = w; answer = answers.Open; said = refl; wide = tt; stays = never }
+  opens u d i w = record { lasts = w; answer = (Ok answers.Open); said = refl; wide = tt; stays = never }
 
   -- a write or repair round opens
   stores : (u : Session) (t : Timestamp) (d i : List ℕ) → Fits u → Wide t → Carried s (outcome still_open (storing_of u t) d i)
   stores u t d i w h = opens (storing_of u t) d i (record { fits = fits_storing u w t h; desk = never })
 
-  ends : (u : Session) (a : Answer) (d i : List ℕ) → is_refused (said_of a) ≡ false → WideAnswer a → Fits u → Carried s (outcome (said_of a) (ended_of u) d i)
+  ends : (u : Session) (a : Result Answer Refusal) (d i : List ℕ) → is_refused (said_of a) ≡ false → WideAnswer a → Fits u → Carried s (outcome (said_of a) (ended_of u) d i)
   ends u a d i e h w =
       record { lasts = record { fits = fits_ended u w; desk = never }; answer = a; said = refl; wide = h; stays = λ z. never (sym e ∙ z) }
 
@@ -185,13 +185,13 @@ module _ (p : Plan) (s : Session) (i : List ℕ) where
     unfolding write_turn
     write_turn_lem =
         either Leaving (round_open p u) (opens s u d i w)
-        (ends s u (answers.Done u.stamp 0) d i refl (w.fits.stamp, omega arith) w.fits)
+        (ends s u (Ok (answers.Done u.stamp 0)) d i refl (w.fits.stamp, omega arith) w.fits)
 
     time_turn_lem : Leaving (time_turn p u d i)
     unfolding time_turn time_end
     time_turn_lem =
         either Leaving (round_open p u) (opens s u d i w)
-        (either Leaving (eqb (kth_reply p u) top) (ends s u answers.ClockSpent d i refl tt w.fits)
+        (either Leaving (eqb (kth_reply p u) top) (ends s u (Ok answers.ClockSpent) d i refl tt w.fits)
         (stores s u (stamp_for p (new_time (kth_reply p u)) i) (records_for p (new_time (kth_reply p u)) i) i w.fits (stamp_wide p (new_time (kth_reply p u)) i)))
 
   pub write_carried : (f d : List ℕ) → Octets f → Lasts s d → Carried s (with_item (write_reply p s f d i) i)
@@ -210,7 +210,7 @@ module _ (p : Plan) (ok : plan_ok p ≡ true) (s₀ s : Session) (w : Fits s) (i
     fails t h = go (leb p.w s.round.number) refl
       where
         go : (c : Bool) → leb p.w s.round.number ≡ c → Carried s₀ (cond c (outcome (rounds_spent s.round.number) (ended_of s) d i) (outcome still_open (next_of s t) d i))
-        go true e = ends s₀ s (answers.RoundsSpent s.round.number) d i refl w.round w
+        go true e = ends s₀ s (Ok (answers.RoundsSpent s.round.number)) d i refl w.round w
         go false e =
             let k : s.round.number < p.w = leb-false p.w s.round.number e in
             let q = plan_is p ok in
@@ -219,15 +219,15 @@ module _ (p : Plan) (ok : plan_ok p ≡ true) (s₀ s : Session) (w : Fits s) (i
     acts : (v : Verdict) (c : Closed) (a : ℕ) → Wide c.stamp → Carried s₀ (act_on v p s c a d i)
     unfolding act_on
     acts Complete c a h =
-        either (Carried s₀) (sound p c a d) (ends s₀ s (answers.Done c.stamp s.round.number) d (decoded p c d i) refl (h, w.round) w) (fails c.stamp h)
+        either (Carried s₀) (sound p c a d) (ends s₀ s (Ok (answers.Done c.stamp s.round.number)) d (decoded p c d i) refl (h, w.round) w) (fails c.stamp h)
     acts Repair c a h = either (Carried s₀) (sound p c a d) (stores s₀ s c.stamp (repaired p c a d) i w h) (fails c.stamp h)
-    acts Aborted c a h = ends s₀ s (answers.Aborted s.round.number) d i refl w.round w
+    acts Aborted c a h = ends s₀ s (Ok (answers.Aborted s.round.number)) d i refl w.round w
     acts Incomplete c a h = fails c.stamp h
 
-    acts_for : (l : Lead) (c : Closed) → Wide c.stamp → Carried s₀ (act_for l p s c d i)
+    acts_for : (l : Option ℕ) (c : Closed) → Wide c.stamp → Carried s₀ (act_for l p s c d i)
     unfolding act_for
-    acts_for Nobody c h = ends s₀ s (answers.NeverWritten s.round.number) d i refl w.round w
-    acts_for (Node a) c h = acts c.verdict c a h
+    acts_for option.None c h = ends s₀ s (Ok (answers.NeverWritten s.round.number)) d i refl w.round w
+    acts_for (option.Some a) c h = acts c.verdict c a h
 
     settles : Carried s₀ (settled p s d i)
     unfolding settled
@@ -239,7 +239,7 @@ module _ (p : Plan) (ok : plan_ok p ≡ true) (s₀ s : Session) (w : Fits s) (i
   unfolding stored
   rests d l =
       either (Carried s₀) (round_open p s) (opens s₀ s d i l)
-      (ends s₀ s (answers.Done s.stamp s.round.number) d (collected p d i) refl (w.stamp, w.round) w)
+      (ends s₀ s (Ok (answers.Done s.stamp s.round.number)) d (collected p d i) refl (w.stamp, w.round) w)
 
 module _ (p : Plan) (s : Session) (f d i : List ℕ) (o : Octets f) (w : Lasts s d) where
   accepts : None (read_ladder p s f d (length i)) → Carried s (accepted p s f d i)
@@ -285,22 +285,22 @@ ending_back t n h k =
 rounds_back : (n : ℕ) → n < 256 ^ 2 → field (ending_bytes 0 n) 40 2 ≡ n
 rounds_back n k = ap (λ (t : ℕ). field (ending_bytes t n) 40 2) (sym zero_number) ∙ (ending_back zero_stamp n zero_wide k).1
 
-refusal_back : (r : Refusal) (e : List ℕ) → is_refusal (refusal_number r) ≡ true → answer_of (refusal_number r) e ≡ answers.Refused r
+refusal_back : (r : Refusal) (e : List ℕ) → is_refusal (refusal_number r) ≡ true → answer_of (refusal_number r) e ≡ Err r
 unfolding answer_of
 refusal_back r e h =
     let k = refusal_number r in
     let q = both (eqb (refusal_number (refusal_at k)) k) _ h in
     let l = both (leb 1 k) (leb k 100) q.1 in
     let one = leb-true 1 k l.0 in
-    rw (ne_eqb k 0 (λ z. omega arith), l.1) (ap answers.Refused (refusal_one (refusal_at k) r (eqb-true (refusal_number (refusal_at k)) k q.0)))
+    rw (ne_eqb k 0 (λ z. omega arith), l.1) (ap Err (refusal_one (refusal_at k) r (eqb-true (refusal_number (refusal_at k)) k q.0)))
 
 -- an answer is read back from its number and its ending
-pub answer_back : (a : Answer) → WideAnswer a → (e : List ℕ) → answer_of (answer_number (said_of a)) (ending_after (said_of a) e) ≡ a
+pub answer_back : (a : Result Answer Refusal) → WideAnswer a → (e : List ℕ) → answer_of (answer_number (said_of a)) (ending_after (said_of a) e) ≡ a
 unfolding answer_of ending_after
-answer_back (answers.Refused r) h e = refusal_back r e h
-answer_back answers.Open h e = refl
-answer_back (answers.Done t n) h e = let q = ending_back t n h.0 h.1 in λ j. answers.Done (q.0 j) (q.1 j)
-answer_back (answers.NeverWritten n) h e = ap answers.NeverWritten (rounds_back n h)
-answer_back (answers.Aborted n) h e = ap answers.Aborted (rounds_back n h)
-answer_back (answers.RoundsSpent n) h e = ap answers.RoundsSpent (rounds_back n h)
-answer_back answers.ClockSpent h e = refl
+answer_back (Err r) h e = refusal_back r e h
+answer_back (Ok answers.Open) h e = refl
+answer_back (Ok (answers.Done t n)) h e = let q = ending_back t n h.0 h.1 in λ j. Ok (answers.Done (q.0 j) (q.1 j))
+answer_back (Ok (answers.NeverWritten n)) h e = ap (λ (m : ℕ). Ok (answers.NeverWritten m)) (rounds_back n h)
+answer_back (Ok (answers.Aborted n)) h e = ap (λ (m : ℕ). Ok (answers.Aborted m)) (rounds_back n h)
+answer_back (Ok (answers.RoundsSpent n)) h e = ap (λ (m : ℕ). Ok (answers.RoundsSpent m)) (rounds_back n h)
+answer_back (Ok answers.ClockSpent) h e = refl

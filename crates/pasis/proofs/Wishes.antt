@@ -12,8 +12,7 @@ use Rattle.terms.specs.Ladder.{first}
 use Rattle.terms.proofs.Ladders as ladders
 use Rattle.terms.proofs.Rungs.{stop, go_on, passed}
 use Rattle.wish.specs.declared.Wish.{Wish}
-use Rattle.wish.specs.declared.Smallest.{Smallest}
-use Rattle.wish.specs.Wish.{SaidSmallest, refused, counts, said_smallest, outside, unmet, wish_ladder, Says, SmallestCall}
+use Rattle.wish.specs.Wish.{Smallest, SaidSmallest, refused, counts, said_smallest, outside, unmet, wish_ladder, Says, SmallestCall}
 use Rattle.packing.specs.PlanBytes.{wish_of}
 use Rattle.answers.specs.Answers.{smallest_number, counts_after}
 use Rattle.pasis.specs.Plans.{counts_told, smallest_bytes, SmallestServes}

@@ -8,9 +8,8 @@
 --   open_bytes owed_bytes write_bytes read_bytes   the calls
 --   OpenServes OwedServes WriteServes ReadServes   their contracts
 -- Assumes nothing.
-use Rattle.std.specs.Prelude.{ℕ, ◌≡◌, Bool, cond, List, length, eqb}
+use Rattle.std.specs.Prelude.{ℕ, ◌≡◌, Bool, cond, List, length, eqb, None}
 use Rattle.terms.specs.Ladder.{first}
-use Rattle.rounds.specs.declared.Bound.TheVariants.{Free}
 use Rattle.standing.specs.declared.Operation.{Operation}
 use Rattle.session.specs.declared.Session.{Session}
 use Rattle.session.specs.Session.{Said, is_refused}
@@ -44,7 +43,7 @@ opened_as o s = opened_bytes o.number (cond (eqb o.number 0) (session_bytes o.se
 
 unfoldable pub open_bytes : Operation → List ℕ → ℕ → List ℕ → OpenedBytes
 open_bytes op x a s =
-    first (lent_ladder (plan_of x) (session_fits (length s))) (λ (k : ℕ). opened_bytes k s) (opened_as (open_with op Free (plan_of x) (record { 0 = a })) s)
+    first (lent_ladder (plan_of x) (session_fits (length s))) (λ (k : ℕ). opened_bytes k s) (opened_as (open_with op None (plan_of x) (record { 0 = a })) s)
 
 -- operation, plan bytes, opening ask number, session bytes; then the number answered and the session bytes as the call leaves them
 pub record OpenServes (op : Operation) (x : List ℕ) (a : ℕ) (s : List ℕ) (r : ℕ) (s₂ : List ℕ) : Type 0 where

@@ -8,8 +8,7 @@
 use Rattle.std.specs.Prelude.{ℕ, ◌≡◌, not, List, [], ◌∷◌, length, eqb}
 use Rattle.terms.specs.Ladder.{Rung, on, first}
 use Rattle.wish.specs.declared.Wish.{Wish}
-use Rattle.wish.specs.declared.Smallest.{Smallest}
-use Rattle.wish.specs.Wish.{SaidSmallest, said_smallest, outside, SmallestCall}
+use Rattle.wish.specs.Wish.{Smallest, SaidSmallest, said_smallest, outside, SmallestCall}
 use Rattle.packing.specs.PlanBytes.{wish_of}
 use Rattle.answers.specs.Answers.{smallest_number, counts_after}
 

@@ -7,7 +7,7 @@ pub fn pasis_smallest_plan(member: u8, t: u64, b: u64, m: u64, counts: &mut [u8]
 {
     let w = packing::wish_of(member, t, b, m);
     let a = wish::smallest_plan(w);
-    let k = answers::smallest_number(a);
+    let k = answers::number(a);
     let outside = k == 1;
     if outside {
         return 1;

@@ -9,17 +9,14 @@
 --   plan_from               which value goes to which field
 --   read_lines plan_text   what a text says: a plan, or the line and the value that is not to be had there
 -- Assumes nothing.
-use Rattle.std.specs.Prelude.{ℕ, ◌+◌, Bool, true, false, cond, List, [], ◌∷◌, ◌++◌, length, drop, get_or, ltb, eqb}
+use Rattle.std.specs.Prelude.{ℕ, ◌+◌, Bool, true, false, cond, List, [], ◌∷◌, ◌++◌, Option, Some, None, Result, Ok, Err, length, drop, get_or, ltb, eqb}
 use Rattle.octets.specs.Bytes.{part, alike}
 use Rattle.terms.specs.declared.Plan.{Plan}
 use Rattle.terms.specs.declared.Member.{Member}
 use Rattle.terms.specs.declared.Member.TheVariants.{Repairable, NonRepair}
 use Rattle.terms.specs.declared.Clients.{Clients}
 use Rattle.terms.specs.declared.Clients.TheVariants.{Crash, Byzantine}
-use Rattle.plan_text.specs.declared.Numeral.{Numeral}
-use Rattle.plan_text.specs.declared.Numeral.TheVariants.{Is, Not}
-use Rattle.plan_text.specs.declared.Reading.{Reading}
-use Rattle.plan_text.specs.declared.Reading.TheVariants.{Good, Wrong}
+use Rattle.plan_text.specs.declared.Wrong.{Wrong}
 use Rattle.plan_text.specs.Text.{numeral_of}
 
 -- ---- lines and words
@@ -80,25 +77,25 @@ forms =
     (98 ∷ 121 ∷ 122 ∷ 97 ∷ 110 ∷ 116 ∷ 105 ∷ 110 ∷ 101 ∷ [])
     ∷ number (87 ∷ []) ∷ []
 
-unfoldable pub chosen : List ℕ → List ℕ → List ℕ → Numeral
-chosen zero one v = cond (alike v zero) (Is 0) (cond (alike v one) (Is 1) Not)
+unfoldable pub chosen : List ℕ → List ℕ → List ℕ → Option ℕ
+chosen zero one v = cond (alike v zero) (Some 0) (cond (alike v one) (Some 1) None)
 
-unfoldable pub written : Form → List ℕ → Numeral
+unfoldable pub written : Form → List ℕ → Option ℕ
 written (number name) w = numeral_of (after_name name w)
 written (choice name zero one) w = chosen zero one (after_name name w)
-written nothing w = Not
+written nothing w = None
 
-unfoldable pub value_of : ℕ → List ℕ → Numeral
+unfoldable pub value_of : ℕ → List ℕ → Option ℕ
 value_of k w = written (get_or forms k nothing) w
 
 -- ---- a line
-abbrev pub is_not : Numeral → Bool
-is_not (Is x) = false
-is_not Not = true
+abbrev pub is_not : Option ℕ → Bool
+is_not (Some x) = false
+is_not None = true
 
-abbrev pub list_of : Numeral → List ℕ
-list_of (Is x) = x ∷ []
-list_of Not = []
+abbrev pub list_of : Option ℕ → List ℕ
+list_of (Some x) = x ∷ []
+list_of None = []
 
 unfoldable pub wrong_in : ℕ → List ℕ → Bool
 wrong_in k [] = false
@@ -129,11 +126,15 @@ plan_from v =
       w = get_or v 8 0;
     }
 
--- the lines that are left, after n lines that gave the values v
-unfoldable pub read_lines : ℕ → List ℕ → List (List ℕ) → Reading
-read_lines n v [] = cond (ltb (length v) 9) (Wrong n (length v)) (Good (plan_from v))
-read_lines n v (l ∷ ls) =
-    cond (wrong_in (length v) (words_of l)) (Wrong (n + 1) (length v)) (read_lines (n + 1) (v ++ given_by (length v) (words_of l)) ls)
+-- at line n, where value k is not to be had
+abbrev pub wrong : ℕ → ℕ → Wrong
+wrong n k = record { line = n; value = k }
 
-unfoldable pub plan_text : List ℕ → Reading
+-- the lines that are left, after n lines that gave the values v
+unfoldable pub read_lines : ℕ → List ℕ → List (List ℕ) → Result Plan Wrong
+read_lines n v [] = cond (ltb (length v) 9) (Err (wrong n (length v))) (Ok (plan_from v))
+read_lines n v (l ∷ ls) =
+    cond (wrong_in (length v) (words_of l)) (Err (wrong (n + 1) (length v))) (read_lines (n + 1) (v ++ given_by (length v) (words_of l)) ls)
+
+unfoldable pub plan_text : List ℕ → Result Plan Wrong
 plan_text s = read_lines 0 [] (lines_of s)

@@ -14,215 +14,141 @@
 // another question, and document 01's refusal 1.
 #![tactic(auto)]
 
-ghost use Rattle.std.specs.Prelude.{◌≡◌, ◌+◌, ◌-◌, ◌*◌, ◌≤◌, ◌<◌, ◌∷◌, ◌++◌, length, take, drop};
-ghost use Rattle.octets.specs.Bytes.{part, alike};
+ghost use Rattle.std.specs.Prelude.{◌≡◌, ◌+◌, ◌<◌, ◌≤◌, ◌∷◌, ◌==◌, cond, not, length, reverse, take_while};
 ghost use Rattle.plan_text.specs.Text.{numeral_of};
-ghost use Rattle.plan_text.specs.Lines.{blank, until, past, chop, lines_of, words_of, after_name, chosen, value_of, wrong_in, given_by, member_from, clients_from, plan_from, plan_text};
+ghost use Rattle.plan_text.specs.Lines.{blank, until, past, chop, lines_of, words_of, after_name, chosen, value_of, plan_from, plan_text};
 
 use terms::{Clients, Member, Plan};
 
-// A number that some bytes write, if they do.
-#[derive(Clone, Copy)]
-pub enum Numeral {
-    Is(u64),
-    Not,
+// Why a text is no plan: the line, and the number of the value that is not to be had there.
+#[derive(Clone, Copy, Debug, PartialEq, Eq)]
+pub struct Wrong {
+    pub line: u64,
+    pub value: usize,
 }
 
-// The words of a line: where they start and end, and where the next line starts.
-#[derive(Clone, Copy)]
-struct Line {
-    at: usize,
-    end: usize,
-    next: usize,
-}
-
-// What a text says: a plan, or the line and the value that is not to be had there.
-#[derive(Clone, Copy)]
-pub enum Reading {
-    Good(Plan),
-    Wrong(u64, usize),
-}
-
-// What a line gave: whether it is wrong, and how many values it has, 0 or 1.
-#[derive(Clone, Copy)]
-struct Given {
-    wrong: bool,
-    more: usize,
-}
-
-// One decimal digit more, of a number that is at most 99,999,999.
-fn digit(x: u64, d: u8) -> u64
-    requires { (x ≤ 99999999) × (48 ≤ d) × (d ≤ 57) }
-    ensures { result ≡ x * 10 + (d - 48) }
+// The number that some bytes write in decimal, of at most 999,999,999, if they do.
+#[tactic(auto, using(crate::proofs::Numbers::none, crate::proofs::Numbers::start, crate::proofs::Numbers::low, crate::proofs::Numbers::high, crate::proofs::Numbers::big, crate::proofs::Numbers::on, crate::proofs::Numbers::done))]
+pub fn number_in(s: &[u8]) -> Option<u64>
+    ensures { result ≡ numeral_of s.now }
 {
-    x * 10 + (d - 48) as u64
+    if s.is_empty() {
+        return None;
+    }
+    let mut x = 0;
+    for d in s {
+        match *d {
+            d @ b'0'..=b'9' if x <= 99999999 => x = x * 10 + (d - b'0') as u64,
+            _ => return None,
+        }
+    }
+    Some(x)
 }
 
-// The number that the bytes from `at` to `end` write in decimal, of at most 999,999,999.
-pub fn number_in(s: &[u8], at: usize, end: usize) -> Numeral
-    requires { (at ≤ end) × (end ≤ length s.now) }
-    ensures { result ≡ numeral_of (part s.now at (end - at)) }
-{
-    if at == end {
-        return Numeral::Not;
-    }
-    let mut x: u64 = 0;
-    let mut i = at;
-    while i < end {
-        let d = s[i];
-        if d < 48 {
-            return Numeral::Not;
-        }
-        if d > 57 {
-            return Numeral::Not;
-        }
-        if x > 99999999 {
-            return Numeral::Not;
-        }
-        x = digit(x, d);
-        i += 1;
-    }
-    Numeral::Is(x)
-}
-
+#[tactic(auto, using(std::proofs::lemmas::Bool::Decides::nat_tests), unfolding(crate::specs::Lines::blank))]
 fn is_blank(x: u8) -> bool
     ensures { result ≡ blank x }
 {
-    if x == 9 {
-        return true;
-    }
-    if x == 13 {
-        return true;
-    }
-    x == 32
+    matches!(x, b'\t' | b'\r' | b' ')
 }
 
-// The first place from `at` on with this byte, or `end`.
-fn first_of(s: &[u8], at: usize, end: usize, x: u8) -> usize
-    requires { (at ≤ end) × (end ≤ length s.now) }
-    ensures { (at ≤ result) × (result ≤ end) × (part s.now at (result - at) ≡ until x (part s.now at (end - at))) }
+// The place of the first byte x, or the end.
+fn place_of(s: &[u8], x: u8) -> usize
+    ensures { result ≡ length (take_while (λ y. not (y == x)) s.now) }
 {
-    let mut i = at;
-    while i < end {
-        if s[i] == x {
-            return i;
-        }
-        i += 1;
-    }
-    i
+    s.iter().take_while(|y| **y != x).count()
 }
 
-// The first place from `at` on that is not blank, or `end`.
-fn past_blanks(s: &[u8], at: usize, end: usize) -> usize
-    requires { (at ≤ end) × (end ≤ length s.now) }
-    ensures { (at ≤ result) × (result ≤ end) × (part s.now result (end - result) ≡ past (part s.now at (end - at))) }
+// The place of the first byte that is not blank, or the end.
+fn first_word(s: &[u8]) -> usize
+    ensures { result ≡ length (take_while blank s.now) }
 {
-    let mut i = at;
-    while i < end {
-        if !is_blank(s[i]) {
-            return i;
-        }
-        i += 1;
-    }
-    i
+    s.iter().take_while(|x| is_blank(**x)).count()
 }
 
-// The end, less the blanks before it.
-fn before_blanks(s: &[u8], at: usize, end: usize) -> usize
-    requires { (at ≤ end) × (end ≤ length s.now) }
-    ensures { (at ≤ result) × (result ≤ end) × (part s.now at (result - at) ≡ chop (part s.now at (end - at))) }
+// What is left without the blanks at the start.
+#[tactic(auto, using(crate::proofs::Lines::past_drop, crate::proofs::Lines::while_fits))]
+fn trim_start(s: &[u8]) -> &[u8]
+    ensures { result.now ≡ past s.now }
 {
-    let mut i = end;
-    while i > at {
-        if !is_blank(s[i - 1]) {
-            return i;
-        }
-        i -= 1;
-    }
-    i
+    &s[first_word(s)..]
 }
 
-// The line that starts at `at`.
-fn line_at(s: &[u8], at: usize) -> Line
-    requires { at < length s.now }
-    ensures within_text { (result.at ≤ result.end) × (result.end ≤ length s.now) × (at < result.next) × (result.next ≤ length s.now) }
-    ensures words_of_first_line { part s.now result.at (result.end - result.at) ≡ words_of (until 10 (drop at s.now)) }
-    ensures first_line_then_rest { lines_of (drop at s.now) ≡ until 10 (drop at s.now) ∷ lines_of (drop result.next s.now) }
+// How many blanks stand at the end.
+fn blanks_at_end(s: &[u8]) -> usize
+    ensures { result ≡ length (take_while blank (reverse s.now)) }
 {
-    let n = s.len();
-    let stop = first_of(s, at, n, b'\n');
-    let comment = first_of(s, at, stop, b'#');
-    let start = past_blanks(s, at, comment);
-    let end = before_blanks(s, start, comment);
-    if stop < n {
-        return Line {
-            at: start,
-            end: end,
-            next: stop + 1,
-        };
-    }
-    Line {
-        at: start,
-        end: end,
-        next: n,
-    }
+    s.iter().rev().take_while(|x| is_blank(**x)).count()
 }
 
-// Where the value starts in words that start with this name and a blank; their end where they do not.
-fn value_at(w: &[u8], name: &[u8]) -> usize
-    ensures { (result ≤ length w.now) × (part w.now result (length w.now - result) ≡ after_name name.now w.now) }
+// What is left without the blanks at the end.
+#[tactic(auto, using(crate::proofs::Lines::chop_take, crate::proofs::Lines::ends_fit))]
+fn trim_end(s: &[u8]) -> &[u8]
+    ensures { result.now ≡ chop s.now }
+{
+    &s[..s.len() - blanks_at_end(s)]
+}
+
+// The words of a line: what stands before its comment, without the blanks at both ends.
+#[tactic(auto, using(crate::proofs::Lines::words_are, crate::proofs::Lines::until_take, crate::proofs::Lines::while_fits))]
+fn words(line: &[u8]) -> &[u8]
+    ensures { result.now ≡ words_of line.now }
+{
+    let comment = place_of(line, b'#');
+    trim_end(trim_start(&line[..comment]))
+}
+
+// The first line of a text, and the text after it.
+#[tactic(auto, using(crate::proofs::Lines::until_take, crate::proofs::Lines::line_rest, crate::proofs::Lines::while_fits))]
+fn first_line(s: &[u8]) -> (&[u8], &[u8])
+    requires { 0 < length s.now }
+    ensures line { result.0.now ≡ until 10 s.now }
+    ensures shorter { length result.1.now < length s.now }
+    ensures then_rest { lines_of s.now ≡ until 10 s.now ∷ lines_of result.1.now }
+{
+    let end = place_of(s, b'\n');
+    let next = (end + 1).min(s.len());
+    (&s[..end], &s[next..])
+}
+
+// What follows a name and a blank; nothing where the words do not start so.
+#[tactic(auto, using(crate::proofs::Values::name_short, crate::proofs::Values::name_other, crate::proofs::Values::name_tight, crate::proofs::Values::name_is))]
+fn after_name<'a>(w: &'a [u8], name: &[u8]) -> &'a [u8]
+    ensures { result.now ≡ after_name name.now w.now }
 {
     let n = name.len();
-    let end = w.len();
-    if end <= n {
-        return end;
+    if w.len() > n && w.starts_with(name) && is_blank(w[n]) {
+        trim_start(&w[n..])
+    } else {
+        &[]
     }
-    if !octets::same(w, 0, name, 0, n) {
-        return end;
-    }
-    if !is_blank(w[n]) {
-        return end;
-    }
-    past_blanks(w, n, end)
 }
 
 // The number that has this name.
-fn named(w: &[u8], name: &[u8]) -> Numeral
+fn named(w: &[u8], name: &[u8]) -> Option<u64>
     ensures { result ≡ numeral_of (after_name name.now w.now) }
 {
-    let v = value_at(w, name);
-    number_in(w, v, w.len())
-}
-
-// Whether the words from `at` on are this one.
-fn is_word(w: &[u8], at: usize, word: &[u8]) -> bool
-    requires { at ≤ length w.now }
-    ensures { result ≡ alike (part w.now at (length w.now - at)) word.now }
-{
-    let n = word.len();
-    if w.len() - at != n {
-        return false;
-    }
-    octets::same(w, at, word, 0, n)
+    number_in(after_name(w, name))
 }
 
 // Which of two words has this name: 0 or 1.
-fn either(w: &[u8], name: &[u8], zero: &[u8], one: &[u8]) -> Numeral
+#[tactic(auto, using(crate::proofs::Values::chosen_zero, crate::proofs::Values::chosen_one, crate::proofs::Values::chosen_none))]
+fn either(w: &[u8], name: &[u8], zero: &[u8], one: &[u8]) -> Option<u64>
     ensures { result ≡ chosen zero.now one.now (after_name name.now w.now) }
 {
-    let v = value_at(w, name);
-    if is_word(w, v, zero) {
-        return Numeral::Is(0);
+    let word = after_name(w, name);
+    if word == zero {
+        Some(0)
+    } else if word == one {
+        Some(1)
+    } else {
+        None
     }
-    if is_word(w, v, one) {
-        return Numeral::Is(1);
-    }
-    Numeral::Not
 }
 
-// Value k of the nine, in the words of a line.
-fn value(w: &[u8], k: usize) -> Numeral
-    requires { k < 9 }
+// Value k of the nine, in the words of a line. They go by their numbers, as in the theorem `plan_text`, whose refusals name k.
+#[tactic(auto, unfolding(crate::specs::Lines::value_of, crate::specs::Lines::written))]
+fn value(w: &[u8], k: usize) -> Option<u64>
     ensures { result ≡ value_of k w.now }
 {
     match k {
@@ -234,103 +160,58 @@ fn value(w: &[u8], k: usize) -> Numeral
         5 => named(w, b"F"),
         6 => either(w, b"member", b"repairable", b"non-repair"),
         7 => either(w, b"clients", b"crash", b"byzantine"),
-        _ => named(w, b"W"),
+        8 => named(w, b"W"),
+        _ => None,
     }
-}
-
-// A line's value, if it has words, as value k.
-fn take_line(w: &[u8], k: usize, values: &mut [u64; 9]) -> Given
-    requires { (k ≤ 9) × (length values.old ≡ 9) }
-    ensures wrong_and_at_most_nine { (k + result.more ≤ 9) × (result.wrong ≡ wrong_in k w.now) × (length values.new ≡ 9) }
-    ensures given_appended { take (k + result.more) values.new ≡ take k values.old ++ given_by k w.now }
-{
-    if w.len() == 0 {
-        return Given {
-            wrong: false,
-            more: 0,
-        };
-    }
-    if k == 9 {
-        return Given {
-            wrong: true,
-            more: 0,
-        };
-    }
-    let v = value(w, k);
-    match v {
-        Numeral::Is(x) => {
-            values[k] = x;
-            Given {
-                wrong: false,
-                more: 1,
-            }
-        }
-        Numeral::Not => Given {
-            wrong: true,
-            more: 0,
-        },
-    }
-}
-
-// What a text says. `values` is lent to hold what its lines gave.
-fn read_lines(s: &[u8], values: &mut [u64; 9]) -> Reading
-    requires { length values.old ≡ 9 }
-    ensures { result ≡ plan_text s.now }
-{
-    let mut at = 0;
-    let mut k = 0;
-    let mut lines: u64 = 0;
-    while at < s.len() {
-        lines += 1;
-        let l = line_at(s, at);
-        let from = l.at;
-        let end = l.end;
-        let g = take_line(&s[from..end], k, values);
-        if g.wrong {
-            return Reading::Wrong(lines, k);
-        }
-        k += g.more;
-        at = l.next;
-    }
-    if k < 9 {
-        return Reading::Wrong(lines, k);
-    }
-    let p = plan_of(values);
-    Reading::Good(p)
 }
 
 // What a text says: a plan, or the line and the value that is not to be had there.
-pub fn read_plan(s: &[u8]) -> Reading
+#[tactic(auto, using(crate::proofs::Values::start, crate::proofs::Values::nine))]
+pub fn read_plan(s: &[u8]) -> Result<Plan, Wrong>
     ensures { result ≡ plan_text s.now }
 {
     let mut values = [0u64; 9];
-    read_lines(s, &mut values)
+    let mut k = 0;
+    let mut lines: u64 = 0;
+    let mut rest = s;
+    while !rest.is_empty() {
+        let (line, next) = first_line(rest);
+        let w = words(line);
+        lines += 1;
+        if !w.is_empty() {
+            let Some(x) = value(w, k) else {
+                return Err(Wrong {
+                    line: lines,
+                    value: k,
+                });
+            };
+            values[k] = x;
+            k += 1;
+        }
+        rest = next;
+    }
+    let few = k < 9;
+    if few {
+        return Err(Wrong {
+            line: lines,
+            value: k,
+        });
+    }
+    Ok(plan_of(&values))
 }
 
-fn member(x: u64) -> Member
-    ensures { result ≡ member_from x }
+// The first of two for 0, the second for any other number.
+fn which<T: Copy>(x: u64, zero: T, other: T) -> T
+    ensures { result ≡ cond (x == 0) zero other }
 {
-    match x {
-        0 => Member::Repairable,
-        _ => Member::NonRepair,
-    }
-}
-
-fn clients(x: u64) -> Clients
-    ensures { result ≡ clients_from x }
-{
-    match x {
-        0 => Clients::Crash,
-        _ => Clients::Byzantine,
-    }
+    if x == 0 { zero } else { other }
 }
 
 // The plan of nine values.
+#[tactic(auto, unfolding(crate::specs::Lines::plan_from, crate::specs::Lines::member_from, crate::specs::Lines::clients_from))]
 fn plan_of(v: &[u64; 9]) -> Plan
     ensures { result ≡ plan_from v.now }
 {
-    let who = member(v[6]);
-    let what = clients(v[7]);
     Plan {
         n: v[0],
         t: v[1],
@@ -338,8 +219,8 @@ fn plan_of(v: &[u64; 9]) -> Plan
         q: v[3],
         m: v[4],
         f: v[5],
-        member: who,
-        clients: what,
+        member: which(v[6], Member::Repairable, Member::NonRepair),
+        clients: which(v[7], Clients::Crash, Clients::Byzantine),
         w: v[8],
     }
 }

@@ -9,7 +9,7 @@ ghost use Rattle.terms.specs.Terms.{runs_of};
 ghost use Rattle.fragments.specs.Fragments.{encoded, laid};
 ghost use Rattle.primitives.specs.Calls.{Told, hash_fits, runs_fit, hashes_fit, messages, encode_fits, apart, named, decode_fits};
 
-use lanes::{Batch, Rows};
+use lanes::{Batch, Messages, Rows};
 
 // Whether p and s bytes together are below the limit of FIPS 180-4, section 1, and `out` is the length of a hash.
 fn hash_fits(p: usize, s: usize, out: usize) -> bool
@@ -95,7 +95,7 @@ pub fn primitives_hashes(
     if !hashes_fit(count, h, f, heads.len(), s.len(), out.len()) {
         return 2;
     }
-    let all = Batch {
+    let batch = Batch {
         heads: Rows {
             first: 0,
             stride: h,
@@ -108,7 +108,12 @@ pub fn primitives_hashes(
         },
         n: count,
     };
-    lanes::digests(heads, s, all, out, 0, 32);
+    let all = Messages {
+        heads,
+        bodies: s,
+        batch,
+    };
+    lanes::digests(&all, out, 0, 32);
     0
 }
 
@@ -163,12 +168,10 @@ fn are_named(nodes: &[u8], f: usize, desk: usize) -> bool
     requires { f ≤ 1024 }
     ensures { result ≡ named f desk nodes.now }
 {
-    let mut k: usize = 0;
-    while k < nodes.len() {
+    for k in 0..nodes.len() {
         if !is_apart(nodes, k, f, desk) {
             return false;
         }
-        k += 1;
     }
     true
 }

@@ -10,8 +10,8 @@ ghost use Rattle.terms.specs.Stamp.{stamp_number, stamp_at};
 ghost use Rattle.record.specs.Record.{stamp_of, cross_of, prefix_of, fragment_hash, hashes_ok, time_zero};
 ghost use Rattle.record.specs.Desk.{slot_of, fragment_in, cross_made, desk_of, stamp_made};
 
-use lanes::{Batch, Rows};
-use terms::{Hash, Plan, Slots, Time, Timestamp};
+use lanes::{Batch, Messages, Rows};
+use terms::{Accepted, Hash, Plan, Slots, Time, Timestamp};
 
 // What is hashed before the fragments of nodes 0 to 15: for each the first `size` of 16 bytes.
 #[derive(Clone, Copy)]
@@ -22,7 +22,7 @@ pub struct PrefixRows {
 
 // What is hashed before the fragment of each node: nothing, under every plan.
 pub fn prefixes(p: Plan) -> PrefixRows
-    ensures { (length result.bytes ≡ 256) × (result.size ≤ 16) × ((k : ℕ) → k < 16 → part result.bytes (16 * k) result.size ≡ prefix_of p k) }
+    ensures { (result.size ≤ 16) × ((k : ℕ) → k < 16 → part result.bytes (16 * k) result.size ≡ prefix_of p k) }
 {
     PrefixRows {
         bytes: [0; 256],
@@ -36,10 +36,9 @@ pub fn entry_ok(p: Plan, node: usize, fragment: &[u8], s: &[u8], at: usize) -> b
     ensures { result ≡ alike (fragment_hash p node fragment.now) (part s.now at 32) }
 {
     let x = prefixes(p);
-    let b = x.bytes;
     let from = 16 * node;
     let end = from + x.size;
-    sha256::matches(&b[from..end], fragment, s, at)
+    sha256::matches(&x.bytes[from..end], fragment, s, at)
 }
 
 // Whether the verifier of the record at `at` is the hash of its cross checksum, where the two and the time are `head` bytes.
@@ -54,9 +53,9 @@ fn verifier_ok(s: &[u8], at: usize, head: usize) -> bool
 }
 
 // Refusal 6: the two hash checks, for a node, of the record at `at`.
-pub fn hashes_ok(p: Plan, node: u64, s: &[u8], at: usize) -> bool
-    requires { (plan_ok p ≡ true) × (at + record_length p ≤ length s.now) × (node < p.n) }
-    ensures { result ≡ hashes_ok p node (part s.now at (record_length p)) }
+pub fn hashes_ok(p: Accepted, node: u64, s: &[u8], at: usize) -> bool
+    requires { (at + record_length p.plan ≤ length s.now) × (node < p.plan.n) }
+    ensures { result ≡ hashes_ok p.plan node (part s.now at (record_length p.plan)) }
 {
     let slots = terms::slots_of(p);
     let head = slots.head;
@@ -67,7 +66,7 @@ pub fn hashes_ok(p: Plan, node: u64, s: &[u8], at: usize) -> bool
     if !verifier_ok(s, at, head) {
         return false;
     }
-    entry_ok(p, node as usize, &s[from..end], s, entry)
+    entry_ok(p.plan, node as usize, &s[from..end], s, entry)
 }
 
 // Refusal 5: whether the time at `at`, where a record or a bound starts, is 0.
@@ -79,47 +78,48 @@ pub fn time_zero(s: &[u8], at: usize) -> bool
 }
 
 // The cross checksum of the N fragments in the slots of a desk, into out at `at`.
-pub fn cross(p: Plan, desk: &[u8], out: &mut [u8], at: usize)
-    requires { (plan_ok p ≡ true) × (length desk.now ≡ p.n * record_length p) × (at + 32 * p.n ≤ length out.old) }
-    ensures { out.new ≡ put out.old at (cross_made p (fragment_in p desk.now) p.n) }
+pub fn cross(p: Accepted, desk: &[u8], out: &mut [u8], at: usize)
+    requires { (length desk.now ≡ p.plan.n * record_length p.plan) × (at + 32 * p.plan.n ≤ length out.old) }
+    ensures { out.new ≡ put out.old at (cross_made p.plan (fragment_in p.plan desk.now) p.plan.n) }
 {
     let slots = terms::slots_of(p);
-    let x = prefixes(p);
-    let b = x.bytes;
-    let heads = Rows {
-        first: 0,
-        stride: 16,
-        size: x.size,
-    };
-    let bodies = Rows {
-        first: slots.head,
-        stride: slots.size,
-        size: slots.fragment,
-    };
-    let all = Batch {
-        heads: heads,
-        bodies: bodies,
+    let x = prefixes(p.plan);
+    let batch = Batch {
+        heads: Rows {
+            first: 0,
+            stride: 16,
+            size: x.size,
+        },
+        bodies: Rows {
+            first: slots.head,
+            stride: slots.size,
+            size: slots.fragment,
+        },
         n: slots.n,
     };
-    lanes::digests(&b, desk, all, out, at, 32);
+    let all = Messages {
+        heads: &x.bytes,
+        bodies: desk,
+        batch,
+    };
+    lanes::digests(&all, out, at, 32);
 }
 
 // Writing: the timestamp of a time and the cross checksum at `at`, whose hash is its verifier.
-pub fn stamp_of(p: Plan, time: Time, cross: &[u8], at: usize) -> Timestamp
-    requires { (plan_ok p ≡ true) × (at + 32 * p.n ≤ length cross.now) }
-    ensures { (result ≡ stamp_at (stamp_made time.0 (part cross.now at (32 * p.n))) 0)
-        × (be 40 (stamp_number result) ≡ stamp_made time.0 (part cross.now at (32 * p.n))) }
+pub fn stamp_of(p: Accepted, time: Time, cross: &[u8], at: usize) -> Timestamp
+    requires { at + 32 * p.plan.n ≤ length cross.now }
+    ensures { (result ≡ stamp_at (stamp_made time.0 (part cross.now at (32 * p.plan.n))) 0)
+        × (be 40 (stamp_number result) ≡ stamp_made time.0 (part cross.now at (32 * p.plan.n))) }
 {
-    let end = at + 32 * (p.n as usize);
+    let end = at + 32 * (p.plan.n as usize);
     let d = sha256::digest(&cross[at..end]);
     let a = octets::get(&d, 0, 8);
     let b = octets::get(&d, 8, 8);
     let c = octets::get(&d, 16, 8);
     let e = octets::get(&d, 24, 8);
-    let verifier = Hash(a, b, c, e);
     Timestamp {
-        time: time,
-        verifier: verifier,
+        time,
+        verifier: Hash(a, b, c, e),
     }
 }
 
@@ -128,28 +128,26 @@ fn heads(desk: &mut [u8], slots: Slots, a: usize)
     requires { (slots.size ≡ slots.head + slots.fragment) × (length desk.old ≡ slots.n * slots.size) × (a < slots.n) }
     ensures { desk.new ≡ desk_of (part desk.old (a * slots.size) slots.head) [] (λ k. part desk.old (fragment_at slots k) slots.fragment) slots.n }
 {
-    let mut k: usize = 0;
-    while k < slots.n {
+    for k in 0..slots.n {
         octets::within(desk, a * slots.size, slots.head, k * slots.size);
-        k += 1;
     }
 }
 
 // Repair: every slot gets the timestamp and the cross checksum of slot a, beside the fragment that it holds.
-pub fn spread(p: Plan, desk: &mut [u8], a: usize)
-    requires { (plan_ok p ≡ true) × (length desk.old ≡ p.n * record_length p) × (a < p.n) }
-    ensures { desk.new ≡ desk_of (stamp_of (slot_of p desk.old a)) (cross_of p (slot_of p desk.old a)) (fragment_in p desk.old) p.n }
+pub fn spread(p: Accepted, desk: &mut [u8], a: usize)
+    requires { (length desk.old ≡ p.plan.n * record_length p.plan) × (a < p.plan.n) }
+    ensures { desk.new ≡ desk_of (stamp_of (slot_of p.plan desk.old a)) (cross_of p.plan (slot_of p.plan desk.old a)) (fragment_in p.plan desk.old) p.plan.n }
 {
     let slots = terms::slots_of(p);
     heads(desk, slots, a);
 }
 
 // Writing: every slot gets this timestamp and the cross checksum at `at` of another buffer, beside the fragment that it holds.
-pub fn fill(p: Plan, t: Timestamp, cross: &[u8], at: usize, desk: &mut [u8])
-    requires { (plan_ok p ≡ true) × (length desk.old ≡ p.n * record_length p) × (at + 32 * p.n ≤ length cross.now) }
-    ensures { desk.new ≡ desk_of (be 40 (stamp_number t)) (part cross.now at (32 * p.n)) (fragment_in p desk.old) p.n }
+pub fn fill(p: Accepted, t: Timestamp, cross: &[u8], at: usize, desk: &mut [u8])
+    requires { (length desk.old ≡ p.plan.n * record_length p.plan) × (at + 32 * p.plan.n ≤ length cross.now) }
+    ensures { desk.new ≡ desk_of (be 40 (stamp_number t)) (part cross.now at (32 * p.plan.n)) (fragment_in p.plan desk.old) p.plan.n }
 {
-    let n = p.n as usize;
+    let n = p.plan.n as usize;
     terms::put_stamp(desk, 0, t);
     octets::copy(cross, at, 32 * n, desk, 40);
     spread(p, desk, 0);

@@ -7,7 +7,7 @@ ghost use Rattle.std.specs.Prelude.{◌≡◌, true, ◌++◌, ◌+◌, ◌*◌,
 ghost use Rattle.octets.specs.Bytes.{part, put};
 ghost use Rattle.terms.specs.Terms.{plan_ok, record_length, slots_of, slot_at};
 ghost use Rattle.fragments.specs.Fragments.{Sources};
-ghost use Rattle.fragments.specs.Inside.{points_of, Ready};
+ghost use Rattle.fragments.specs.Inside.{points_of};
 ghost use Rattle.rounds.specs.Rounds.{told};
 ghost use Rattle.recover.specs.Inside.{Usable};
 ghost use Rattle.recover.specs.Recover.{validates, slot_filled, refilled, sound, decoded, collected, repaired};
@@ -15,25 +15,20 @@ ghost use Rattle.recover.specs.Records.{stamp_for, records_for};
 
 use fragments::Basis;
 use rounds::Close;
-use terms::{Clients, Plan, Slots, Time, Timestamp};
+use terms::{Accepted, Clients, Slots, Time, Timestamp};
 
 // Validation, each fragment computed into scratch and hashed once: its hash is its entry of the cross checksum in slot a.
-fn valid(p: Plan, desk: &[u8], b: Basis, a: usize, scratch: &mut [u8]) -> bool
-    requires { (plan_ok p ≡ true) × (Sources desk.now (slots_of p) (points_of b)) × (length scratch.old ≡ p.f)
-        × (slot_at (slots_of p) a + (slots_of p).head ≤ length desk.now) × (Ready b) }
-    ensures { result ≡ validates p desk.now (points_of b) a }
+fn valid(p: Accepted, desk: &[u8], b: Basis, a: usize, scratch: &mut [u8]) -> bool
+    requires { (Sources desk.now (slots_of p.plan) (points_of b)) × (length scratch.old ≡ p.plan.f) × (slot_at (slots_of p.plan) a + (slots_of p.plan).head ≤ length desk.now) }
+    ensures { result ≡ validates p.plan desk.now (points_of b) a }
 {
     let slots = terms::slots_of(p);
-    let n = slots.n;
-    let size = slots.size;
-    let at = a * size + 40;
-    let mut i: usize = 0;
-    while i < n {
+    let at = a * slots.size + 40;
+    for i in 0..slots.n {
         fragments::regenerate(desk, slots, b, i as u8, scratch);
-        if !record::entry_ok(p, i, scratch, desk, at + 32 * i) {
+        if !record::entry_ok(p.plan, i, scratch, desk, at + 32 * i) {
             return false;
         }
-        i += 1;
     }
     true
 }
@@ -64,8 +59,7 @@ pub struct Led {
 fn fill_slot(desk: &mut [u8], set: Led, b: Basis, k: usize, scratch: &mut [u8])
     requires { (Sources desk.old set.slots (points_of b)) × (length scratch.old ≡ set.slots.fragment)
         × (set.slots.size ≡ set.slots.head + set.slots.fragment) × (k < 16)
-        × (slot_at set.slots k + set.slots.size ≤ length desk.old) × (slot_at set.slots set.lead + set.slots.size ≤ length desk.old)
-        × (Ready b) }
+        × (slot_at set.slots k + set.slots.size ≤ length desk.old) × (slot_at set.slots set.lead + set.slots.size ≤ length desk.old) }
     ensures { desk.new ≡ slot_filled desk.old set.slots (points_of b) set.lead k }
 {
     let slots = set.slots;
@@ -80,27 +74,21 @@ fn fill_slot(desk: &mut [u8], set: Led, b: Basis, k: usize, scratch: &mut [u8])
 // All slots, in place.
 fn refill(desk: &mut [u8], slots: Slots, b: Basis, a: usize, scratch: &mut [u8])
     requires { (Sources desk.old slots (points_of b)) × (length scratch.old ≡ slots.fragment) × (slots.size ≡ slots.head + slots.fragment) × (slots.n ≤ 16)
-        × (slots.n * slots.size ≤ length desk.old) × (a < slots.n) × (Ready b) }
+        × (slots.n * slots.size ≤ length desk.old) × (a < slots.n) }
     ensures { desk.new ≡ refilled desk.old slots (points_of b) a slots.n }
 {
-    let n = slots.n;
-    let set = Led {
-        slots: slots,
-        lead: a,
-    };
-    let mut k: usize = 0;
-    while k < n {
+    let set = Led { slots, lead: a };
+    for k in 0..slots.n {
         fill_slot(desk, set, b, k, scratch);
-        k += 1;
     }
 }
 
 // Whether the set of slot a validates, with room of its own for one fragment.
-fn validated(p: Plan, desk: &[u8], qs: &[u8], a: usize) -> bool
-    requires { (plan_ok p ≡ true) × (Sources desk.now (slots_of p) qs.now) × (slot_at (slots_of p) a + (slots_of p).head ≤ length desk.now) × (length qs.now ≤ 16) }
-    ensures { result ≡ validates p desk.now qs.now a }
+fn validated(p: Accepted, desk: &[u8], qs: &[u8], a: usize) -> bool
+    requires { (Sources desk.now (slots_of p.plan) qs.now) × (slot_at (slots_of p.plan) a + (slots_of p.plan).head ≤ length desk.now) × (length qs.now ≤ 16) }
+    ensures { result ≡ validates p.plan desk.now qs.now a }
 {
-    let f = p.f as usize;
+    let f = p.plan.f as usize;
     let b = fragments::basis_of(qs);
     let mut scratch = [0u8; 1024];
     valid(p, desk, b, a, &mut scratch[..f])
@@ -121,15 +109,15 @@ fn mend(desk: &mut [u8], slots: Slots, qs: &[u8], a: usize)
 }
 
 // Validation: the clients of the plan are trusted, or the cross checksum agrees.
-pub fn validate(p: Plan, c: Close, a: usize, desk: &[u8]) -> bool
-    requires { Usable p c a desk.now }
-    ensures { result ≡ sound p (told c) a desk.now }
+pub fn validate(p: Accepted, c: Close, a: usize, desk: &[u8]) -> bool
+    requires { Usable p.plan c a desk.now }
+    ensures { result ≡ sound p.plan (told c) a desk.now }
 {
-    let k = p.clients;
+    let k = p.plan.clients;
     match k {
         Clients::Crash => true,
         Clients::Byzantine => {
-            let m = p.m as usize;
+            let m = p.plan.m as usize;
             let set = c.set;
             let nodes = set.nodes;
             validated(p, desk, &nodes[..m], a)
@@ -138,45 +126,51 @@ pub fn validate(p: Plan, c: Close, a: usize, desk: &[u8]) -> bool
 }
 
 // The item, from the m lowest-numbered of the set.
-pub fn decode(p: Plan, c: Close, a: usize, desk: &[u8], item: &mut [u8])
-    requires { (Usable p c a desk.now) × (length item.old ≡ p.m * p.f) }
-    ensures { item.new ≡ decoded p (told c) desk.now item.old }
+pub fn decode(p: Accepted, c: Close, a: usize, desk: &[u8], item: &mut [u8])
+    requires { (Usable p.plan c a desk.now) × (length item.old ≡ p.plan.m * p.plan.f) }
+    ensures { item.new ≡ decoded p.plan (told c) desk.now item.old }
 {
     let slots = terms::slots_of(p);
-    let m = p.m as usize;
+    let m = p.plan.m as usize;
     let set = c.set;
     let nodes = set.nodes;
     fragments::decode(desk, slots, &nodes[..m], m, item);
 }
 
 // All N records of the set, in place.
-pub fn repair(p: Plan, c: Close, a: usize, desk: &mut [u8])
-    requires { Usable p c a desk.old }
-    ensures { desk.new ≡ repaired p (told c) a desk.old }
+pub fn repair(p: Accepted, c: Close, a: usize, desk: &mut [u8])
+    requires { Usable p.plan c a desk.old }
+    ensures { desk.new ≡ repaired p.plan (told c) a desk.old }
 {
     let slots = terms::slots_of(p);
-    let m = p.m as usize;
+    let m = p.plan.m as usize;
     let set = c.set;
     let nodes = set.nodes;
     mend(desk, slots, &nodes[..m], a);
 }
 
 // The item from the desk's first m slots, after a repair round.
-pub fn collect(p: Plan, desk: &[u8], item: &mut [u8])
-    requires { (plan_ok p ≡ true) × (length desk.now ≡ p.n * record_length p) × (length item.old ≡ p.m * p.f) }
-    ensures { item.new ≡ collected p desk.now item.old }
+pub fn collect(p: Accepted, desk: &[u8], item: &mut [u8])
+    requires { (length desk.now ≡ p.plan.n * record_length p.plan) × (length item.old ≡ p.plan.m * p.plan.f) }
+    ensures { item.new ≡ collected p.plan desk.now item.old }
 {
     let slots = terms::slots_of(p);
-    fragments::collect(desk, slots, p.m as usize, item);
+    fragments::collect(desk, slots, p.plan.m as usize, item);
 }
 
 // All N records of an item at a time, into the desk, by way of a cross checksum; their timestamp.
-pub fn write_records(p: Plan, at: Time, item: &[u8], desk: &mut [u8], cross: &mut [u8]) -> Timestamp
-    requires { (plan_ok p ≡ true) × (length item.now ≡ p.m * p.f) × (length desk.old ≡ p.n * record_length p) × (512 ≤ length cross.old) }
-    ensures { (result ≡ stamp_for p at.0 item.now) × (desk.new ≡ records_for p at.0 item.now) }
+pub fn write_records(
+    p: Accepted,
+    at: Time,
+    item: &[u8],
+    desk: &mut [u8],
+    cross: &mut [u8],
+) -> Timestamp
+    requires { (length item.now ≡ p.plan.m * p.plan.f) × (length desk.old ≡ p.plan.n * record_length p.plan) × (512 ≤ length cross.old) }
+    ensures { (result ≡ stamp_for p.plan at.0 item.now) × (desk.new ≡ records_for p.plan at.0 item.now) }
 {
     let slots = terms::slots_of(p);
-    fragments::encode(item, p.m as usize, desk, slots);
+    fragments::encode(item, p.plan.m as usize, desk, slots);
     record::cross(p, &desk[..], cross, 0);
     let t = record::stamp_of(p, at, &cross[..], 0);
     record::fill(p, t, &cross[..], 0, desk);

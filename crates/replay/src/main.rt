@@ -9,23 +9,21 @@
 // minus for each of the others.
 #![tactic(auto)]
 
-ghost use Rattle.std.specs.Prelude.{◌*◌, ◌≤◌, ◌<◌, ◌≡◌, length, IfOk};
-ghost use Rattle.io.specs.Counts.{IsPrefixLen};
+ghost use Rattle.std.specs.Prelude.{◌-◌, ◌≤◌, ◌<◌, length, IfOk, IfSome};
 
 use pasis::{client, plans, storage};
 use std::io;
 use std::io::Read;
 
-// Room for all of standard input. The ensures gives only the length, which lending the array as a slice needs.
-fn room() -> [u8; 327680]
-    ensures { 327680 ≡ length result }
-{
+// Room for all of standard input. A proof of its caller sees its length, and not so many zeros.
+fn room() -> [u8; 327680] {
     [0u8; 327680]
 }
 
 // ---- reading
 
-// Reads until the buffer is full or the input ends, and answers how many bytes are at its start.
+// Reads until the buffer is full or the input ends, and answers how many bytes are at its start. `cases` has these lines too: a crate that both
+// programs stood on would be longer than they are. A read moves the place by as many bytes as it gives, which no `for` counts.
 fn read_full(rt: &HostRuntime, text: &mut [u8]) -> io::Result<usize>
     ensures { IfOk result (λ n. n ≤ length text.new) }
 {
@@ -40,92 +38,91 @@ fn read_full(rt: &HostRuntime, text: &mut [u8]) -> io::Result<usize>
     Ok(done)
 }
 
-// The value of a hexadecimal digit; 16 for any other byte.
-fn digit(c: u8) -> u8 {
-    if c >= b'0' && c <= b'9' {
-        return c - b'0';
-    }
-    if c >= b'a' && c <= b'f' {
-        return c - b'a' + 10;
-    }
-    16
+// The text that is left, a field at a time.
+#[derive(Drop)]
+struct Fields<'a> {
+    left: &'a [u8],
 }
 
-// Puts digit number k of a field into its byte, and gives the number of the next. A byte that is no digit, or has no room, is passed over.
-fn take_digit(out: &mut [u8], k: usize, c: u8) -> usize
-    requires { k ≤ 2 * length out.old }
-    ensures { result ≤ 2 * length out.old }
-{
-    let d = digit(c);
-    let at = k / 2;
-    if d > 15 {
-        return k;
-    }
-    if at >= out.len() {
-        return k;
-    }
-    out[at] = out[at] % 16 * 16 + d;
-    k + 1
-}
-
-// How many bytes a field has, and where the next field starts.
-#[derive(Clone, Copy)]
-struct Part {
-    n: usize,
-    next: usize,
-}
-
-// The field that starts at `at`, up to a space, a line's end or the end of the text, as bytes at the start of out.
-fn field(text: &[u8], at: usize, out: &mut [u8]) -> Part
-    ensures { IsPrefixLen result.n out.new }
-{
-    let mut i = at;
-    let mut k = 0;
-    while i < text.len() {
-        let c = text[i];
-        i += 1;
-        if c <= b' ' {
-            return Part { n: k / 2, next: i };
+impl<'a> Fields<'a> {
+    // The next field, up to a space, a line's end or the end of the text.
+    fn next(&mut self) -> &'a [u8]
+        ensures { length self.new.left.now ≤ length self.old.left.now - 1 }
+    {
+        let left = self.left;
+        match left.iter().position(|c| *c <= b' ') {
+            Some(end) => {
+                self.left = &left[end + 1..];
+                &left[..end]
+            }
+            None => {
+                self.left = &[];
+                left
+            }
         }
-        k = take_digit(out, k, c);
     }
-    Part { n: k / 2, next: i }
+}
+
+// The value of a hexadecimal digit.
+fn digit(c: u8) -> Option<u8>
+    ensures { IfSome result (λ d. d < 16) }
+{
+    match c {
+        b'0'..=b'9' => Some(c - b'0'),
+        b'a'..=b'f' => Some(c - b'a' + 10),
+        _ => None,
+    }
+}
+
+// The most bytes of a field.
+const ROOM: usize = 4096;
+
+// A field, as it stands and as bytes, with zeros behind them.
+#[derive(Drop)]
+struct Bytes<'a> {
+    field: &'a [u8],
+    all: [u8; ROOM],
+    len: usize,
+    ghost within: { len ≤ 4096 },
+}
+
+impl<'a> Bytes<'a> {
+    // A byte of the field that is no digit, or has no room, is passed over.
+    fn of(field: &'a [u8]) -> Bytes<'a> {
+        let mut all = [0u8; ROOM];
+        let mut digits = 0;
+        for d in field.iter().filter_map(|c| digit(*c)) {
+            if digits < 2 * ROOM {
+                let k = digits / 2;
+                all[k] = all[k] % 16 * 16 + d;
+                digits += 1;
+            }
+        }
+        Bytes {
+            field,
+            all,
+            len: digits / 2,
+        }
+    }
+
+    fn as_slice(&self) -> &[u8] {
+        &self.all[..self.len]
+    }
 }
 
 // ---- writing
 
-fn hex(rt: &HostRuntime, x: u8) -> io::Result<()> {
-    print!(rt; "{x:02x}")
-}
-
-fn write_hex(rt: &HostRuntime, s: &[u8]) -> io::Result<()> {
-    for x in s {
-        hex(rt, *x)?;
+// A slice after the call, or a dot where it is as its field lent it.
+fn tell(rt: &HostRuntime, after: &Bytes) -> io::Result<()> {
+    print!(rt; " ")?;
+    let before = Bytes::of(after.field);
+    if after.as_slice() == before.as_slice() {
+        return print!(rt; ".");
+    }
+    for x in after.as_slice() {
+        print!(rt; "{:02x}", *x)?;
     }
     Ok(())
-}
-
-// Whether two slices have the same bytes.
-fn alike(a: &[u8], b: &[u8]) -> bool {
-    let n = a.len();
-    if b.len() != n {
-        return false;
-    }
-    octets::same(a, 0, b, 0, n)
-}
-
-// A slice after the call, or a dot where it is as the field at `at` lent it; and where the next field starts.
-fn tell(rt: &HostRuntime, text: &[u8], at: usize, after: &[u8]) -> io::Result<usize> {
-    let mut old = [0u8; 4096];
-    let f = field(text, at, &mut old);
-    let n = f.n;
-    print!(rt; " ")?;
-    if alike(after, &old[..n]) {
-        print!(rt; ".")?;
-    } else {
-        write_hex(rt, after)?;
-    }
-    Ok(f.next)
 }
 
 // ---- a call
@@ -141,7 +138,7 @@ fn smallest(wish: &[u8], counts: &mut [u8]) -> u32 {
     plans::pasis_smallest_plan(wish[0], t, b, m, counts)
 }
 
-// Makes the call of this number on its slices.
+// Makes the call of this number on its slices, which stand apart, as the calls for C take them.
 fn make(
     call: u8,
     plan: &[u8],
@@ -166,139 +163,45 @@ fn make(
     }
 }
 
-// The line of a call that was made: its answer, and the five slices after it. Gives the start of the next line.
-fn told(
-    rt: &HostRuntime,
-    answer: u32,
-    text: &[u8],
-    at: usize,
-    a: &[u8],
-    b: &[u8],
-    c: &[u8],
-    d: &[u8],
-    e: &[u8],
-) -> io::Result<usize> {
+// Makes the call of the next line, and writes its line: its answer, and the five slices after it.
+fn line(rt: &HostRuntime, fields: &mut Fields) -> io::Result<()>
+    ensures { length fields.new.left.now ≤ length fields.old.left.now - 1 }
+{
+    let call = Bytes::of(fields.next());
+    let number = Bytes::of(fields.next());
+    let plan = Bytes::of(fields.next());
+    let mut a = Bytes::of(fields.next());
+    let mut b = Bytes::of(fields.next());
+    let mut c = Bytes::of(fields.next());
+    let mut d = Bytes::of(fields.next());
+    let mut e = Bytes::of(fields.next());
+    let which = call.all[0];
+    let (to_a, to_b, to_c, to_d, to_e) = (a.len, b.len, c.len, d.len, e.len);
+    let node = octets::get(&number.all, 0, 8);
+    let answer = make(
+        which,
+        plan.as_slice(),
+        node,
+        &mut a.all[..to_a],
+        &mut b.all[..to_b],
+        &mut c.all[..to_c],
+        &mut d.all[..to_d],
+        &mut e.all[..to_e],
+    );
     print!(rt; "{answer}")?;
-    let to_b = tell(rt, text, at, a)?;
-    let to_c = tell(rt, text, to_b, b)?;
-    let to_d = tell(rt, text, to_c, c)?;
-    let to_e = tell(rt, text, to_d, d)?;
-    let end = tell(rt, text, to_e, e)?;
-    print!(rt; "\n")?;
-    Ok(end)
-}
-
-// Makes the call, and writes its line.
-fn made(
-    rt: &HostRuntime,
-    text: &[u8],
-    start: usize,
-    call: u8,
-    plan: &[u8],
-    number: u64,
-    a: &mut [u8],
-    b: &mut [u8],
-    c: &mut [u8],
-    d: &mut [u8],
-    e: &mut [u8],
-) -> io::Result<usize> {
-    let answer = make(call, plan, number, a, b, c, d, e);
-    told(rt, answer, text, start, a, b, c, d, e)
-}
-
-// A field as bytes, how many it has, and where the next field starts.
-#[derive(Clone, Copy)]
-struct Lent {
-    bytes: [u8; 4096],
-    n: usize,
-    next: usize,
-}
-
-fn read(text: &[u8], at: usize) -> Lent
-    ensures { (result.n ≤ length result.bytes) × (length result.bytes ≡ 4096) }
-{
-    let mut bytes = [0u8; 4096];
-    let f = field(text, at, &mut bytes);
-    let n = f.n;
-    Lent {
-        bytes: bytes,
-        n: n,
-        next: f.next,
-    }
-}
-
-// Reads the five slices of a call from the field at `start` on, makes the call, and writes its line. Gives the start of the next line.
-fn lend(
-    rt: &HostRuntime,
-    text: &[u8],
-    start: usize,
-    call: u8,
-    plan: &[u8],
-    number: u64,
-) -> io::Result<usize> {
-    let fa = read(text, start);
-    let fb = read(text, fa.next);
-    let fc = read(text, fb.next);
-    let fd = read(text, fc.next);
-    let fe = read(text, fd.next);
-    let mut a = fa.bytes;
-    let mut b = fb.bytes;
-    let mut c = fc.bytes;
-    let mut d = fd.bytes;
-    let mut e = fe.bytes;
-    let to_a = fa.n;
-    let to_b = fb.n;
-    let to_c = fc.n;
-    let to_d = fd.n;
-    let to_e = fe.n;
-    made(
-        rt,
-        text,
-        start,
-        call,
-        plan,
-        number,
-        &mut a[0..to_a],
-        &mut b[0..to_b],
-        &mut c[0..to_c],
-        &mut d[0..to_d],
-        &mut e[0..to_e],
-    )
-}
-
-// The call on the line that starts at `at`, and the start of the next line.
-fn line(rt: &HostRuntime, text: &[u8], at: usize) -> io::Result<usize> {
-    let call = read(text, at);
-    let number = read(text, call.next);
-    let plan = read(text, number.next);
-    let which = call.bytes;
-    let x = number.bytes;
-    let p = plan.bytes;
-    let n = plan.n;
-    lend(
-        rt,
-        text,
-        plan.next,
-        which[0],
-        &p[0..n],
-        octets::get(&x, 0, 8),
-    )
-}
-
-// The place to go on at: past `at` in any case, so that the program ends.
-fn later(at: usize, next: usize, end: usize) -> usize
-    requires { at < end }
-    ensures { at < result }
-{
-    if next > at { next } else { at + 1 }
+    tell(rt, &a)?;
+    tell(rt, &b)?;
+    tell(rt, &c)?;
+    tell(rt, &d)?;
+    tell(rt, &e)?;
+    print!(rt; "\n")
 }
 
 // Every line of the text.
 fn lines(rt: &HostRuntime, text: &[u8]) -> io::Result<()> {
-    let mut at = 0;
-    while at < text.len() {
-        let next = line(rt, text, at)?;
-        at = later(at, next, text.len());
+    let mut fields = Fields { left: text };
+    while !fields.left.is_empty() {
+        line(rt, &mut fields)?;
     }
     Ok(())
 }

@@ -6,6 +6,7 @@
 --   request_passes     a request that is owed passes at its node; not_refused_there: so a call is not refused for it
 --   reply_passes       the reply to it, from a good book whose records pass, passes at the session that asked
 -- Assumes nothing.
+use Rattle.std.specs.Prelude.{Result, Ok, Err}
 use Prim.{Unit, tt}
 use Prim.Native.Nat.{ℕ, ◌+◌, ◌-◌, ◌*◌, ◌^◌, ◌≤◌, ◌<◌}
 use mathlib.Core.Path.{◌≡◌, refl, sym, ap, ◌∙◌, subst}
@@ -37,13 +38,11 @@ use Rattle.frame.proofs.Frames.{request_back, reply_back}
 use Rattle.frame.proofs.Built as built
 use Rattle.record.specs.Record.{stamp_of, hashes_ok, time_zero}
 use Rattle.record.specs.Desk.{slot_of}
-use Rattle.rounds.specs.declared.Bound.{Bound}
-use Rattle.rounds.specs.declared.Bound.TheVariants.{Free, Under}
+use Rattle.std.proofs.Common.{Option, None, Some}
 use Rattle.rounds.specs.Rounds.{under_of}
 use Rattle.standing.specs.Standing.{ask_in, awaits_in, is_ended, is_read, is_storing, read_request}
 use Rattle.standing.proofs.Rules.{room_is}
 use Rattle.session.specs.declared.Session.{Session}
-use Rattle.session.specs.declared.owed.Owed.TheVariants.{Request}
 use Rattle.session.specs.Session.{ask_now, awaits_kind}
 use Rattle.session.specs.Ranges.{in_range}
 use Rattle.session.specs.Reply.{awaited, bears}
@@ -54,8 +53,6 @@ use Rattle.book.specs.Book.{book_head, good_book, node_of, count_of, records_of}
 use Rattle.book.proofs.Laid as laid
 use Rattle.book.proofs.Laid.{Sized}
 use Rattle.book.proofs.Laws as books
-use Rattle.node.specs.declared.Answer.{Answer}
-use Rattle.node.specs.declared.Answer.TheVariants.{Refused, Replied}
 use Rattle.node.specs.Node.{time_fails, hash_fails, node_ladder, reply_to, NodeCall}
 use Rattle.store.specs.Deliver.{Among}
 use Rattle.store.specs.History.{AllPass}
@@ -192,14 +189,14 @@ module _ (p : Plan) (ok : plan_ok p ≡ true) (S ask : ℕ) (low : S < p.n) (sma
 -- ---- a request that is owed
 -- what is known of a session and its desk: a bound has a time, and in a write or repair round every slot is a record of the timestamp being written
 pub record Sendable (p : Plan) (s : Session) (d : List ℕ) : Type 0 where
-  pub bound : is_storing s.round.stage ≡ false → is_read s.operation ≡ true → (u : Timestamp) → s.round.bound ≡ Under u → (1 ≤ time (be 40 (stamp_number u))) × (stamp (be 40 (stamp_number u)) ≡ stamp_number u)
+  pub bound : is_storing s.round.stage ≡ false → is_read s.operation ≡ true → (u : Timestamp) → s.round.bound ≡ Some u → (1 ≤ time (be 40 (stamp_number u))) × (stamp (be 40 (stamp_number u)) ≡ stamp_number u)
   pub slots : is_storing s.round.stage ≡ true → (k : ℕ) → k < p.n → Passed p k (slot_of p d k) × (stamp (slot_of p d k) ≡ stamp_number s.stamp)
 
 -- the frame that is owed, by the round
 pub data Owes (p : Plan) (s : Session) (S : ℕ) (d : List ℕ) (f : List ℕ) : Type 0 where
   time_due : is_storing s.round.stage ≡ false → is_read s.operation ≡ false → f ≡ frame time_request_kind S (ask_now s) [] → Owes p s S d f
-  latest_due : is_storing s.round.stage ≡ false → is_read s.operation ≡ true → s.round.bound ≡ Free → f ≡ frame read_latest_kind S (ask_now s) [] → Owes p s S d f
-  previous_due : is_storing s.round.stage ≡ false → is_read s.operation ≡ true → (u : Timestamp) → s.round.bound ≡ Under u
+  latest_due : is_storing s.round.stage ≡ false → is_read s.operation ≡ true → s.round.bound ≡ None → f ≡ frame read_latest_kind S (ask_now s) [] → Owes p s S d f
+  previous_due : is_storing s.round.stage ≡ false → is_read s.operation ≡ true → (u : Timestamp) → s.round.bound ≡ Some u
       → f ≡ frame read_previous_kind S (ask_now s) (be 40 (stamp_number u)) → Owes p s S d f
   record_due : is_storing s.round.stage ≡ true → f ≡ frame write_request_kind S (ask_now s) (slot_of p d S) → Owes p s S d f
 
@@ -207,9 +204,9 @@ pub owes : (p : Plan) (s : Session) (S : ℕ) (d : List ℕ) → Owes p s S d (r
 unfolding request_of read_request
 owes p s S d = go (is_storing s.round.stage) refl (is_read s.operation) refl
   where
-    by_bound : is_storing s.round.stage ≡ false → is_read s.operation ≡ true → (b : Bound) → s.round.bound ≡ b → Owes p s S d (read_request b S (ask_now s))
-    by_bound x y Free e = latest_due x y e refl
-    by_bound x y (Under u) e = previous_due x y u e refl
+    by_bound : is_storing s.round.stage ≡ false → is_read s.operation ≡ true → (b : Option Timestamp) → s.round.bound ≡ b → Owes p s S d (read_request b S (ask_now s))
+    by_bound x y None e = latest_due x y e refl
+    by_bound x y (Some u) e = previous_due x y u e refl
 
     go : (t : Bool) → is_storing s.round.stage ≡ t → (r : Bool) → is_read s.operation ≡ r
         → Owes p s S d (cond t (frame write_request_kind S (ask_now s) (slot_of p d S)) (cond r (read_request s.round.bound S (ask_now s)) (frame time_request_kind S (ask_now s) [])))
@@ -227,7 +224,7 @@ pub record Written (p : Plan) (s : Session) (S : ℕ) (d : List ℕ) (f : List �
   pub ask : ask_now s < 256 ^ 8
   pub is : f ≡ request_of p s S d
 
-module _ (p : Plan) (s : Session) (S : ℕ) (d q : List ℕ) (n : ℕ) (q₂ : List ℕ) (call : OwedCall p s S d q (Request n) q₂) where
+module _ (p : Plan) (s : Session) (S : ℕ) (d q : List ℕ) (n : ℕ) (q₂ : List ℕ) (call : OwedCall p s S d q (Ok n) q₂) where
   ask_small : in_range p s d ≡ true → ask_now s < 256 ^ 8
   unfolding ask_in
   ask_small r = go (is_storing s.round.stage)
@@ -289,16 +286,16 @@ quiet_node p f b y a = (
   ((λ e. absurd (clash (sym e))), ((λ e. absurd (clash (sym e))), ((λ e. ap not a.good), ((λ e. a.timed), ((λ e. a.hashed), ((λ e. absurd (clash (sym e))), ((λ e. absurd (clash (sym e))), tt))))))),
 )
 
-pub not_refused_there : (p : Plan) (f b y : List ℕ) → AtNode p (node_of b) f → (a : Answer) (b₂ y₂ : List ℕ) → NodeCall p f b y a b₂ y₂
-    → (r : Refusal) → a ≡ Refused r → NoneOf (4 ∷ 5 ∷ 6 ∷ []) r
+pub not_refused_there : (p : Plan) (f b y : List ℕ) → AtNode p (node_of b) f → (a : Result ℕ Refusal) (b₂ y₂ : List ℕ) → NodeCall p f b y a b₂ y₂
+    → (r : Refusal) → a ≡ Err r → NoneOf (4 ∷ 5 ∷ 6 ∷ []) r
 not_refused_there p f b y at a b₂ y₂ c r e =
     quiet_given (4 ∷ 5 ∷ 6 ∷ []) (node_ladder p f b y) (quiet_node p f b y at) (refusal_number r)
-    (calls.refused_is p f b y r b₂ y₂ (subst (λ (x : Answer). NodeCall p f b y x b₂ y₂) e c)).0
+    (calls.refused_is p f b y r b₂ y₂ (subst (λ (x : Result ℕ Refusal). NodeCall p f b y x b₂ y₂) e c)).0
 
 -- THE REPLY TO IT PASSES 4, 5, 6, 10 AND 12 AT THE SESSION THAT ASKED
 module _ (p : Plan) (s : Session) (S : ℕ) (d f : List ℕ) (w : Written p s S d f) (ready : Sendable p s d)
     (b y : List ℕ) (good : good_book p b ≡ true) (node : node_of b ≡ S) (all : AllPass p b)
-    (n : ℕ) (b₂ y₂ : List ℕ) (c : NodeCall p f b y (Replied n) b₂ y₂) where
+    (n : ℕ) (b₂ y₂ : List ℕ) (c : NodeCall p f b y (Ok n) b₂ y₂) where
   abbrev rs : List (List ℕ)
   rs = records_of p b
 
@@ -339,11 +336,11 @@ module _ (p : Plan) (s : Session) (S : ℕ) (d f : List ℕ) (w : Written p s S 
   unfolding for_party one_of body_fits awaits_in reply_to under_of
   reply_passes = go (subst (Owes p s S d) (sym w.is) (owes p s S d))
     where
-      latest : s.round.bound ≡ Free → (last_of rs ≡ []) ⊎ Among (last_of rs) rs → (last_of rs ≡ []) ⊎ (Among (last_of rs) rs × (under_of s.round.bound (stamp (last_of rs)) ≡ true))
+      latest : s.round.bound ≡ None → (last_of rs ≡ []) ⊎ Among (last_of rs) rs → (last_of rs ≡ []) ⊎ (Among (last_of rs) rs × (under_of s.round.bound (stamp (last_of rs)) ≡ true))
       latest e (inl z) = inl z
       latest e (inr m) = inr (m, rw e)
 
-      previous : (u : Timestamp) (x : ℕ) → x ≡ stamp_number u → s.round.bound ≡ Under u → (last_below x rs ≡ []) ⊎ Among (last_below x rs) (those (λ (z : List ℕ). ltb (stamp z) x) rs)
+      previous : (u : Timestamp) (x : ℕ) → x ≡ stamp_number u → s.round.bound ≡ Some u → (last_below x rs ≡ []) ⊎ Among (last_below x rs) (those (λ (z : List ℕ). ltb (stamp z) x) rs)
           → (last_below x rs ≡ []) ⊎ (Among (last_below x rs) rs × (under_of s.round.bound (stamp (last_below x rs)) ≡ true))
       previous u x q e (inl z) = inl z
       previous u x q e (inr m) =

@@ -25,7 +25,7 @@ use Rattle.frame.proofs.Frames.{reply_is}
 use Rattle.record.specs.Record.{hashes_ok, time_zero}
 use Rattle.terms.proofs.Places.{record_length_lem}
 use Rattle.rounds.specs.declared.Heard.TheVariants.{Unheard, First, Record}
-use Rattle.rounds.specs.declared.Mark.{Mark}
+use Rattle.rounds.specs.declared.Heard.{Heard}
 use Rattle.rounds.specs.Rounds.{bit_of, heard_count, mark_of, under_of}
 use Rattle.rounds.proofs.Laws.{not_heard, count_set}
 use Rattle.session.specs.declared.Session.{Session}
@@ -157,12 +157,12 @@ module _ (p : Plan) (s : Session) (f d i : List ℕ) (w : Polled) where
       inside = let n16 = (plan_is p plan_is_ok).n_high in omega (arith, node_low, k.size)
 
       -- the state after a mark, with the slot as the desk has it then
-      module _ (mark : Mark) (one : bit_of mark.is ≡ 1) (e : List ℕ)
+      module _ (mark : Heard) (one : bit_of mark ≡ 1) (e : List ℕ)
           (hears : responses p (set s.marks node mark) e p.n ≡ with_it (message_of p f) before)
           (valid : validate (family p) (message_of p f) ≡ true) (timely : in_time (command_of s.round.bound) (message_of p f).Response.ts ≡ true)
           (long : length e ≡ p.n * record_length p) (bytes : Octets e)
           (passed : EverySlot (Passed p) p (set s.marks node mark) e) where
-        marked : Asks p (marked_of s node mark.is) e with_message
+        marked : Asks p (marked_of s node mark) e with_message
         marked =
             record {
               decision = k.decision;
@@ -176,9 +176,9 @@ module _ (p : Plan) (s : Session) (f d i : List ℕ) (w : Polled) where
               reads = k.reads;
             }
 
-        settled_so : AllApart p (rolled p with_message).rounds → Leaves p (settled p (marked_of s node mark.is) e i) (rolled p with_message)
+        settled_so : AllApart p (rolled p with_message).rounds → Leaves p (settled p (marked_of s node mark) e i) (rolled p with_message)
         settled_so =
-            settles p (marked_of s node mark.is) e i with_message st marked plan_is_ok lengths.item_is (rest_set s.marks p.n node mark node_low ∙ ranges.0.rest)
+            settles p (marked_of s node mark) e i with_message st marked plan_is_ok lengths.item_is (rest_set s.marks p.n node mark node_low ∙ ranges.0.rest)
             ranges.0.high
             (let n16 = (plan_is p plan_is_ok).n_high in omega (arith, count_set s.marks node mark inside unmarked one, few)) sz
 
@@ -196,7 +196,7 @@ module _ (p : Plan) (s : Session) (f d i : List ℕ) (w : Polled) where
           (r 1 refl, (r 2 refl, (r 9 refl, (r 14 refl, (r 4 refl, (r 10 refl, (h, (r 5 refl, (rw b, (rw b, tt))))))))))
           (subst (λ (x : Bool). Leaves p (cond x (settled p (marked_of s node Record) (put d (node * record_length p) (body_of f)) i) (settled p (marked_of s node First) d i)) (rolled p with_message))
           (sym b)
-          (settled_so (record { is = First }) refl d
+          (settled_so First refl d
           (first_after p s.marks d node node_low inside unmarked ∙ ap (λ (x : Message). with_it x before) (sym says))
           (ap (validate (family p)) says ∙ valid_first p node)
           (ap (λ (x : Message). in_time (command_of s.round.bound) x.Response.ts) says ∙ first_in_time s.round.bound s.round.number ranges.0.bounded)
@@ -247,7 +247,7 @@ module _ (p : Plan) (s : Session) (f d i : List ℕ) (w : Polled) where
               accepts
               (r 1 refl, (r 2 refl, (r 9 refl, (r 14 refl, (r 4 refl, (r 10 refl, (h, (r 5 refl, (rw (b, v), (rw (b, u), tt))))))))))
               (subst (λ (x : Bool). Leaves p (cond x (settled p (marked_of s node Record) desk_after i) (settled p (marked_of s node First) d i)) (rolled p with_message)) (sym b)
-              (settled_so (record { is = Record }) refl desk_after
+              (settled_so Record refl desk_after
               (record_after p s.marks d node node_low inside unmarked (body_of f) k.desk (long_body p f b) ∙ ap (λ (x : Message). with_it x before) (sym says_record))
               (valid_is ∙ v) (timely_is ∙ u)
               (length_put d (node * record_length p) (body_of f) (omega (arith, long_body p f b, slot_fits node p.n (record_length p) node_low, k.desk)) ∙ k.desk)

@@ -12,7 +12,7 @@ use Rattle.terms.specs.Ladder.{Rung, None, rung}
 use Rattle.terms.proofs.Down.{clear}
 use Rattle.terms.proofs.Rungs.{both, clash}
 use Rattle.rounds.specs.declared.Heard.TheVariants.{Unheard, Record}
-use Rattle.rounds.specs.declared.Mark.{Mark}
+use Rattle.rounds.specs.declared.Heard.{Heard}
 use Rattle.rounds.specs.Rounds.{mark_of, heard_at, heard_count, unheards}
 use Rattle.rounds.proofs.Laws.{mark_set, mark_other, count_set}
 use Rattle.report.specs.Figure2.{in_set_of, gathered}
@@ -49,7 +49,7 @@ module _ {A : Type 0} (from : A → ℕ) where
   kept_out x before e = rw e
 
   -- the set of some responses, and the marks of a round
-  pub record Marked (ms : List Mark) (R : List A) : Type 0 where
+  pub record Marked (ms : List Heard) (R : List A) : Type 0 where
     pub names : (k : ℕ) → in_set_of from k R ≡ heard_at ms k
     pub count : length R ≡ heard_count ms
 
@@ -57,12 +57,12 @@ module _ {A : Type 0} (from : A → ℕ) where
   unfolding gathered in_set_of heard_count
   marked_none = record { names = λ k. rw (mark_none 16 k); count = refl }
 
-  pub marked_more : (ms : List Mark) (R : List A) (x : A) (i : ℕ) → from x ≡ i → i < length ms → mark_of ms i ≡ Unheard → Marked ms R
-      → Marked (set ms i (record { is = Record })) (x ∷ R)
+  pub marked_more : (ms : List Heard) (R : List A) (x : A) (i : ℕ) → from x ≡ i → i < length ms → mark_of ms i ≡ Unheard → Marked ms R
+      → Marked (set ms i Record) (x ∷ R)
   unfolding in_set_of
   marked_more ms R x i e l u m =
-      record { names = λ k. go k (ℕ_discrete k i); count = ap suc m.count ∙ sym (count_set ms i (record { is = Record }) l u refl) }
+      record { names = λ k. go k (ℕ_discrete k i); count = ap suc m.count ∙ sym (count_set ms i Record l u refl) }
     where
-      go : (k : ℕ) → Dec (k ≡ i) → cond (eqb (from x) k) true (in_set_of from k R) ≡ heard_at (set ms i (record { is = Record })) k
-      go k (yes q) = rw (eq-eqb (from x) k (e ∙ sym q), q, mark_set ms i (record { is = Record }) l)
-      go k (no q) = rw (ne_eqb (from x) k (λ z. q (sym z ∙ e)), mark_other ms i k (record { is = Record }) q) (m.names k)
+      go : (k : ℕ) → Dec (k ≡ i) → cond (eqb (from x) k) true (in_set_of from k R) ≡ heard_at (set ms i Record) k
+      go k (yes q) = rw (eq-eqb (from x) k (e ∙ sym q), q, mark_set ms i Record l)
+      go k (no q) = rw (ne_eqb (from x) k (λ z. q (sym z ∙ e)), mark_other ms i k Record q) (m.names k)

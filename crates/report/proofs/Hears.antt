@@ -23,9 +23,8 @@ use Rattle.record.specs.Record.{hashes_ok}
 use Rattle.record.specs.Desk.{slot_of}
 use Rattle.rounds.specs.declared.Heard.{Heard}
 use Rattle.rounds.specs.declared.Heard.TheVariants.{Unheard, First, Record}
-use Rattle.rounds.specs.declared.Mark.{Mark}
-use Rattle.rounds.specs.declared.Bound.{Bound}
-use Rattle.rounds.specs.declared.Bound.TheVariants.{Free, Under}
+use Rattle.std.proofs.Common.{Option, None, Some}
+use Rattle.terms.specs.declared.Timestamp.{Timestamp}
 use Rattle.rounds.specs.Rounds.{bit_of, mark_of, under_of}
 use Rattle.rounds.proofs.Laws.{mark_set, mark_other}
 use Rattle.standing.specs.Standing.{bound_ok}
@@ -86,26 +85,26 @@ module _ (p : Plan) (k : ℕ) where
   valid_first = refl
 
 -- below the bound, as the client's check 12 has it
-pub in_time_is : (b : Bound) (ts : ℕ) → in_time (command_of b) ts ≡ under_of b ts
+pub in_time_is : (b : Option Timestamp) (ts : ℕ) → in_time (command_of b) ts ≡ under_of b ts
 unfolding in_time under_of
-in_time_is Free ts = refl
-in_time_is (Under u) ts = refl
+in_time_is None ts = refl
+in_time_is (Some u) ts = refl
 
 then_low : (x y : ℕ) → 1 ≤ x → 1 ≤ then x y
 unfolding then
 then_low x y h = omega arith
 
 -- the first triple is below every bound of a session in its ranges
-pub first_in_time : (b : Bound) (round : ℕ) → bound_ok b round ≡ true → in_time (command_of b) 0 ≡ true
+pub first_in_time : (b : Option Timestamp) (round : ℕ) → bound_ok b round ≡ true → in_time (command_of b) 0 ≡ true
 unfolding in_time stamp_number
-first_in_time Free round e = refl
-first_in_time (Under u) round e =
+first_in_time None round e = refl
+first_in_time (Some u) round e =
     let t : 1 ≤ u.time.0 = leb-true 1 u.time.0 (both (ltb 1 round) (leb 1 u.time.0) e).1 in
     let v = u.verifier in
     lt-ltb 0 _ (then_low _ v.3 (then_low _ v.2 (then_low _ v.1 (then_low u.time.0 v.0 t))))
 
 -- ---- the response set after a mark
-module _ (p : Plan) (ms : List Mark) (d : List ℕ) where
+module _ (p : Plan) (ms : List Heard) (d : List ℕ) where
   -- a node that is unheard has no response
   has_append : (k : ℕ) (l m : List Message) → has k (l ++ m) ≡ cond (has k l) true (has k m)
   unfolding has
@@ -194,7 +193,7 @@ module _ (p : Plan) (d : List ℕ) where
   with_one x A k First l = snoc_with x (said_first k) A l
   with_one x A k Record l = snoc_with x (said_by p k (slot_of p d k)) A l
 
-  responses_below : (ms : List Mark) (n : ℕ) → Below n (responses p ms d n)
+  responses_below : (ms : List Heard) (n : ℕ) → Below n (responses p ms d n)
   unfolding responses
   responses_below ms zero = tt
   responses_below ms (suc n) =
@@ -202,7 +201,7 @@ module _ (p : Plan) (d : List ℕ) where
       (one_below n (mark_of ms n))
 
 -- a mark is set and a desk handed back, in which the other nodes are as they were
-module _ (p : Plan) (ms ms₂ : List Mark) (d d₂ : List ℕ) (i : ℕ) (x : Message) (at : x.S ≡ i) (u : mark_of ms i ≡ Unheard)
+module _ (p : Plan) (ms ms₂ : List Heard) (d d₂ : List ℕ) (i : ℕ) (x : Message) (at : x.S ≡ i) (u : mark_of ms i ≡ Unheard)
     (own : response_of p d₂ i (mark_of ms₂ i) ≡ x ∷ [])
     (other : (k : ℕ) → k < p.n → (k ≡ i → ⊥) → response_of p d₂ k (mark_of ms₂ k) ≡ response_of p d k (mark_of ms k)) where
   before_it : (n : ℕ) → n ≤ i → n ≤ p.n → responses p ms₂ d₂ n ≡ responses p ms d n
@@ -236,20 +235,20 @@ response_slot p d d₂ k Unheard e = refl
 response_slot p d d₂ k First e = refl
 response_slot p d d₂ k Record e = ap (λ (x : List ℕ). said_by p k x ∷ []) e
 
-module _ (p : Plan) (ms : List Mark) (d : List ℕ) (i : ℕ) (hi : i < p.n) (inside : i < length ms) (u : mark_of ms i ≡ Unheard) where
-  pub first_after : responses p (set ms i (record { is = First })) d p.n ≡ with_it (said_first i) (responses p ms d p.n)
+module _ (p : Plan) (ms : List Heard) (d : List ℕ) (i : ℕ) (hi : i < p.n) (inside : i < length ms) (u : mark_of ms i ≡ Unheard) where
+  pub first_after : responses p (set ms i First) d p.n ≡ with_it (said_first i) (responses p ms d p.n)
   unfolding response_of
   first_after =
-      after_is p ms (set ms i (record { is = First })) d d i (said_first i) refl u
-      (ap (response_of p d i) (mark_set ms i (record { is = First }) inside))
-      (λ k hk q. ap (response_of p d k) (mark_other ms i k (record { is = First }) q)) p.n hi (omega arith)
+      after_is p ms (set ms i First) d d i (said_first i) refl u
+      (ap (response_of p d i) (mark_set ms i First inside))
+      (λ k hk q. ap (response_of p d k) (mark_other ms i k First q)) p.n hi (omega arith)
 
   pub record_after : (rec : List ℕ) → length d ≡ p.n * record_length p → length rec ≡ record_length p
-      → responses p (set ms i (record { is = Record })) (put d (i * record_length p) rec) p.n ≡ with_it (said_by p i rec) (responses p ms d p.n)
+      → responses p (set ms i Record) (put d (i * record_length p) rec) p.n ≡ with_it (said_by p i rec) (responses p ms d p.n)
   unfolding response_of
   record_after rec ld lr =
-      after_is p ms (set ms i (record { is = Record })) d (put d (i * record_length p) rec) i (said_by p i rec) refl u
-      (ap (response_of p (put d (i * record_length p) rec) i) (mark_set ms i (record { is = Record }) inside)
+      after_is p ms (set ms i Record) d (put d (i * record_length p) rec) i (said_by p i rec) refl u
+      (ap (response_of p (put d (i * record_length p) rec) i) (mark_set ms i Record inside)
       ∙ ap (λ (x : List ℕ). said_by p i x ∷ []) (slot_own d rec (record_length p) p.n i ld lr hi))
-      (λ k hk q. ap (response_of p (put d (i * record_length p) rec) k) (mark_other ms i k (record { is = Record }) q)
+      (λ k hk q. ap (response_of p (put d (i * record_length p) rec) k) (mark_other ms i k Record q)
       ∙ response_slot p d (put d (i * record_length p) rec) k (mark_of ms k) (slot_other d rec (record_length p) p.n i ld lr hi k q)) p.n hi (omega arith)

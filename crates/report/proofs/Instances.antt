@@ -1,6 +1,7 @@
 -- The hypotheses of the theorems can be met. One node, one fragment of one byte (N1 t0 b0 Q1 m1 F1, R = 73), and the record of the byte 7 at
 -- time 1, whose hashes antt computes. A fresh book takes it (executed); a read that hears it is done with its timestamp in one round (read_so); a
 -- write that hears a time goes on to its write round (write_so). Assumes nothing.
+use Rattle.std.specs.Prelude.{Ok, Err}
 use Prim.{tt}
 use Prim.Native.Nat.{ℕ, ◌+◌, ◌<◌}
 use mathlib.Core.Path.{◌≡◌, refl, sym, ap, ◌∙◌, subst}
@@ -25,14 +26,13 @@ use Rattle.fragments.specs.Fragments.{among, regenerated}
 use Rattle.frame.specs.Frame.{time_request_kind, time_reply_kind, body_of, write_request_kind, read_reply_kind, kind_of, frame, good_request, shaped, body_fits, for_party, one_of, suits, good_frame, good_reply}
 use Rattle.record.specs.Record.{fragment_hash, hashes_ok, time_zero, prefix_of}
 use Rattle.record.specs.Desk.{row, cross_made}
-use Rattle.rounds.specs.declared.Bound.TheVariants.{Free}
+use Rattle.std.proofs.Common.{None}
 use Rattle.rounds.specs.Rounds.{heard_count, every, slot_stamp, slots_fit, slot_fits, under_of, lead_of, step_of, ahead_of, joins_of, set_of, close_with}
 use Rattle.recover.specs.Recover.{validates, sound}
 use Rattle.session.specs.declared.Answer.TheVariants.{Done, Open}
 use Rattle.session.specs.declared.Session.{Session}
 use Rattle.standing.specs.declared.Operation.TheVariants.{Write, Read}
 use Rattle.session.specs.declared.opening.Opened.{Opened}
-use Rattle.session.specs.declared.opening.Opening.TheVariants.{Accepted}
 use Rattle.session.specs.Session.{done, still_open}
 use Rattle.session.specs.Opening.{open_with, fresh_of, OpenCall}
 use Rattle.session.specs.Ranges.{standing_rules, open_rules, in_range}
@@ -44,10 +44,8 @@ use Rattle.clock.specs.Clock.{times_heard, or_more, greatest_with}
 use Rattle.session.specs.Writer.{Leaves, leaves, kth_reply, time_end, time_turn, accepted_write, write_reply, WriteReplyCall}
 use Rattle.book.specs.Records.{timed, rising, above, some, last_of, insert_record}
 use Rattle.book.specs.Book.{book_head, records_from, header, joined, laid_as, laid_out, headed, filled, good_book, node_of}
-use Rattle.node.specs.declared.Answer.TheVariants.{Refused, Replied}
 use Rattle.node.specs.Node as node
 use Rattle.node.specs.Node.{NodeCall, served, answered, sends, reply_to, replied, time_fails, hash_fails, other_held, no_room}
-use Rattle.node.specs.declared.Made.TheVariants.{Fresh}
 use Rattle.node.specs.Fresh.{FreshCall, freshened}
 use Rattle.store.specs.History.{Call}
 use Rattle.store.proofs.Node as theorems
@@ -77,7 +75,7 @@ abbrev ask : Ask
 ask = record { 0 = 5 }
 
 abbrev start_to_write : Session
-start_to_write = fresh_of Write 1 Free ask
+start_to_write = fresh_of Write 1 None ask
 
 -- time 1; the hash of the cross checksum; the cross checksum, which is the hash of the fragment; the fragment
 rec : List ℕ
@@ -86,10 +84,10 @@ rec =
 
 -- ---- a read
 opened : Opened
-opened = record { answer = Accepted; session = fresh_of Read 1 Free ask }
+opened = record { answer = (Ok tt); session = fresh_of Read 1 None ask }
 
 abbrev start : Session
-start = fresh_of Read 1 Free ask
+start = fresh_of Read 1 None ask
 
 opens : OpenCall Read plan ask opened
 unfolding opened open_with first plan_ok counts_ok limits_ok column_of all
@@ -117,9 +115,9 @@ unfolding left reply desk rec read_reply first plan_ok counts_ok limits_ok colum
 said_is = refl
 
 pub call : turns.Turn
-call = record { reply = reply; item = 0 ∷ []; took = record { answer = Done (stamp_at rec 0) 1; session = left.session }; desk_left = left.desk; item_left = left.item }
+call = record { reply = reply; item = 0 ∷ []; took = record { answer = Ok (Done (stamp_at rec 0) 1); session = left.session }; desk_left = left.desk; item_left = left.item }
 
-met : ReadReplyCall plan start reply desk (0 ∷ []) (record { answer = Done (stamp_at rec 0) 1; session = left.session }) left.desk left.item
+met : ReadReplyCall plan start reply desk (0 ∷ []) (record { answer = Ok (Done (stamp_at rec 0) 1); session = left.session }) left.desk left.item
 unfolding left
 met = record { is = λ j. outcome (sym said_is j) left.session left.desk left.item }
 
@@ -155,7 +153,7 @@ read_so = opened_read plan ask opened desk (call ∷ []) opens refl refl (small_
 
 -- ---- a write
 opened_to_write : Opened
-opened_to_write = record { answer = Accepted; session = start_to_write }
+opened_to_write = record { answer = (Ok tt); session = start_to_write }
 
 opens_to_write : OpenCall Write plan ask opened_to_write
 unfolding opened_to_write open_with first plan_ok counts_ok limits_ok column_of all
@@ -177,9 +175,9 @@ still_is = refl
 
 pub write_call : turns.Turn
 write_call =
-    record { reply = time_reply; item = 7 ∷ []; took = record { answer = Open; session = after_time.session }; desk_left = after_time.desk; item_left = 7 ∷ [] }
+    record { reply = time_reply; item = 7 ∷ []; took = record { answer = Ok Open; session = after_time.session }; desk_left = after_time.desk; item_left = 7 ∷ [] }
 
-write_met : WriteReplyCall plan start_to_write time_reply desk (7 ∷ []) (record { answer = Open; session = after_time.session }) after_time.desk
+write_met : WriteReplyCall plan start_to_write time_reply desk (7 ∷ []) (record { answer = Ok Open; session = after_time.session }) after_time.desk
 unfolding after_time
 write_met = record { is = λ j. leaves (sym still_is j) after_time.session after_time.desk }
 
@@ -219,7 +217,7 @@ replied_is : taken.answer ≡ replied 55
 unfolding taken request book rec served first plan_ok counts_ok limits_ok column_of all record_length node.book_reply_ok good_book headed filled rising timed records_from good_request good_frame suits shaped for_party one_of body_fits time_fails hash_fails other_held no_room some fragment_hash prefix_of hashes_ok time_zero answered sends reply_to over laid_as header joined num num_from part be be_onto alike sha256 after compress_of added_of rounds_of round_of T1 T2 schedule_of words padding big_endian K
 replied_is = refl
 
-pub node_met : NodeCall plan request book (replicate 88 0) (Replied 55) taken.book taken.reply
+pub node_met : NodeCall plan request book (replicate 88 0) (Ok 55) taken.book taken.reply
 unfolding taken
 node_met = record { is = λ j. node.served_outcome (sym replied_is j) taken.book taken.reply }
 
@@ -246,13 +244,13 @@ added =
     }
 
 -- the book is a fresh one
-pub made_so : FreshCall plan 0 (replicate (book_head 1 + 73) 0) Fresh book
+pub made_so : FreshCall plan 0 (replicate (book_head 1 + 73) 0) (Ok tt) book
 unfolding book freshened first plan_ok counts_ok limits_ok column_of all
 made_so = record { is = refl }
 
 pub node_call : Call
 node_call =
-    record { plan = plan; request = request; reply = replicate 88 0; answer = Replied 55; book_left = taken.book; reply_left = taken.reply }
+    record { plan = plan; request = request; reply = replicate 88 0; answer = Ok 55; book_left = taken.book; reply_left = taken.reply }
 
 -- a request under another plan, of N2, for which the fresh book is not: refused 3
 pub other : Plan
@@ -264,7 +262,7 @@ other_said = refl
 
 pub other_call : Call
 other_call =
-    record { plan = other; request = request; reply = replicate 120 0; answer = Refused WrongBook; book_left = book; reply_left = replicate 120 0 }
+    record { plan = other; request = request; reply = replicate 120 0; answer = Err WrongBook; book_left = book; reply_left = replicate 120 0 }
 
 -- the theorem at a run of two calls, each under a plan of its own
 pub node_so : Same (history plan taken.book) (received plan 0 initialize book (other_call ∷ node_call ∷ []))
@@ -285,7 +283,7 @@ pub asked_is : (asked.answer ≡ replied 23) × (take 23 asked.reply ≡ time_re
 unfolding asked time_request time_reply small taken request book rec served first plan_ok counts_ok limits_ok column_of all record_length node.book_reply_ok good_book headed filled rising above timed records_from good_request good_frame suits shaped for_party one_of body_fits time_fails hash_fails other_held no_room some fragment_hash prefix_of hashes_ok time_zero answered sends reply_to node.book_after insert_record last_of over laid_as header joined num num_from part be be_onto alike sha256 after compress_of added_of rounds_of round_of T1 T2 schedule_of words padding big_endian K
 asked_is = (refl, refl, refl)
 
-pub asked_met : NodeCall plan time_request taken.book (replicate 88 0) (Replied 23) asked.book asked.reply
+pub asked_met : NodeCall plan time_request taken.book (replicate 88 0) (Ok 23) asked.book asked.reply
 unfolding asked
 asked_met = record { is = λ j. node.served_outcome (sym asked_is.0 j) asked.book asked.reply }
 

@@ -19,7 +19,6 @@ use Rattle.record.specs.Desk.{slot_of}
 use Rattle.terms.proofs.Places.{record_length_lem}
 use Rattle.rounds.specs.declared.Heard.{Heard}
 use Rattle.rounds.specs.declared.Heard.TheVariants.{Unheard, First, Record}
-use Rattle.rounds.specs.declared.Mark.{Mark}
 use Rattle.rounds.specs.Rounds.{mark_of}
 use Rattle.client.specs.Held.{EverySlot, Passed}
 use Rattle.report.specs.Triple.{Message, In}
@@ -31,7 +30,7 @@ use Rattle.report.proofs.Lists.{in_split}
 use Rattle.report.proofs.Triples.{stamp_low, verifier_in_lem}
 
 -- ---- the members of a response set
-module _ (p : Plan) (ms : List Mark) (d : List ℕ) where
+module _ (p : Plan) (ms : List Heard) (d : List ℕ) where
   -- either the first triple, or the slot of a node that is marked record
   pub data Member (x : Message) (n : ℕ) : Type 0 where
     of_first : x.Response ≡ initial → Member x n

@@ -3,6 +3,8 @@
 --   spent_so           node 1 tells it too, and is taken for honest: the clock is spent, by an honest reply
 -- That a node tells the time of what it executed, and the next write is above it: passed_so of Instances.antt.
 -- Assumes nothing.
+use Rattle.terms.specs.declared.Refusal.{Refusal}
+use Rattle.std.specs.Prelude.{Ok, Result}
 use Prim.{tt}
 use Prim.Native.Nat.{ℕ, ◌+◌, ◌≤◌}
 use mathlib.Core.Path.{◌≡◌, refl}
@@ -22,7 +24,7 @@ use Rattle.terms.specs.declared.Clients.TheVariants.{Byzantine}
 use Rattle.terms.proofs.Small.{small, small_octets}
 use Rattle.frame.specs.Frame.{frame, shaped, body_fits, one_of, for_party, good_frame, good_reply, time_reply_kind, suits}
 use Rattle.record.proofs.Desks.{time_made}
-use Rattle.rounds.specs.declared.Bound.TheVariants.{Free}
+use Rattle.std.proofs.Common.{None}
 use Rattle.rounds.specs.Rounds.{heard_count, every}
 use Rattle.clock.specs.Clock.{times_heard, or_more, greatest_with}
 use Rattle.standing.specs.declared.Operation.TheVariants.{Write}
@@ -31,7 +33,6 @@ use Rattle.session.specs.declared.Session.{Session}
 use Rattle.session.specs.declared.Answer.{Answer}
 use Rattle.session.specs.declared.Answer.TheVariants.{Open, ClockSpent}
 use Rattle.session.specs.declared.opening.Opened.{Opened}
-use Rattle.session.specs.declared.opening.Opening.TheVariants.{Accepted}
 use Rattle.session.specs.Session.{storing_of, ended_of}
 use Rattle.session.specs.Opening.{fresh_of, open_with, OpenCall}
 use Rattle.session.specs.Ranges.{standing_rules, open_rules, in_range}
@@ -59,13 +60,13 @@ unfoldable time_reply : ℕ → ℕ → List ℕ
 time_reply node time = frame time_reply_kind node 5 (be 8 time)
 
 abbrev opened : Opened
-opened = record { answer = Accepted; session = fresh_of Write 1 Free ask }
+opened = record { answer = (Ok tt); session = fresh_of Write 1 None ask }
 
 opened_so : OpenCall Write plan ask opened
 unfolding open_with first plan_ok counts_ok limits_ok column_of all
 opened_so = record { is = refl }
 
-abbrev turn : List ℕ → Answer → Session → List ℕ → Turn
+abbrev turn : List ℕ → Result Answer Refusal → Session → List ℕ → Turn
 turn f a s d = record { reply = f; item = item; took = record { answer = a; session = s }; desk_left = d; item_left = item }
 
 -- nodes 0 to 3 tell these times
@@ -85,22 +86,22 @@ abbrev stored : Session
 stored = storing_of (told_4 9) (stamp_for plan 10 item)
 
 -- the first three replies leave the round open, whatever node 1 tells of these two
-met_1 : WriteReplyCall plan opened.session (time_reply 0 top) desk item (record { answer = Open; session = told_1 }) desk
+met_1 : WriteReplyCall plan opened.session (time_reply 0 top) desk item (record { answer = Ok Open; session = told_1 }) desk
 unfolding time_reply desk write_reply first plan_ok counts_ok limits_ok column_of all record_length lengths_ok in_range standing_rules round_rules open_rules heard_count every num num_from part
     good_reply good_frame suits shaped for_party one_of body_fits awaited ask_in awaits_in is_heard be be_onto accepted_write time_turn
 met_1 = record { is = refl }
 
-met_2 : WriteReplyCall plan told_1 (time_reply 1 9) desk item (record { answer = Open; session = told_2 9 }) desk
+met_2 : WriteReplyCall plan told_1 (time_reply 1 9) desk item (record { answer = Ok Open; session = told_2 9 }) desk
 unfolding time_reply desk write_reply first plan_ok counts_ok limits_ok column_of all record_length lengths_ok in_range standing_rules round_rules open_rules heard_count every num num_from part
     good_reply good_frame suits shaped for_party one_of body_fits awaited ask_in awaits_in is_heard be be_onto accepted_write time_turn
 met_2 = record { is = refl }
 
-met_3 : WriteReplyCall plan (told_2 9) (time_reply 2 9) desk item (record { answer = Open; session = told_3 9 }) desk
+met_3 : WriteReplyCall plan (told_2 9) (time_reply 2 9) desk item (record { answer = Ok Open; session = told_3 9 }) desk
 unfolding time_reply desk write_reply first plan_ok counts_ok limits_ok column_of all record_length lengths_ok in_range standing_rules round_rules open_rules heard_count every num num_from part
     good_reply good_frame suits shaped for_party one_of body_fits awaited ask_in awaits_in is_heard be be_onto accepted_write time_turn
 met_3 = record { is = refl }
 
-met_4 : WriteReplyCall plan (told_3 9) (time_reply 3 4) desk item (record { answer = Open; session = stored }) (records_for plan 10 item)
+met_4 : WriteReplyCall plan (told_3 9) (time_reply 3 4) desk item (record { answer = Ok Open; session = stored }) (records_for plan 10 item)
 unfolding time_reply desk write_reply first plan_ok counts_ok limits_ok column_of all record_length lengths_ok in_range standing_rules round_rules open_rules heard_count every num num_from part
     good_reply good_frame suits shaped for_party one_of body_fits awaited ask_in awaits_in is_heard be be_onto accepted_write time_turn time_end kth_reply greatest_with or_more times_heard
 met_4 = record { is = refl }
@@ -129,7 +130,7 @@ to_write =
       opens = opened_so;
       accepted = refl;
       desk = desk;
-      turns = turn (time_reply 0 top) Open told_1 desk ∷ turn (time_reply 1 9) Open (told_2 9) desk ∷ turn (time_reply 2 9) Open (told_3 9) desk ∷ turn (time_reply 3 4) Open stored (records_for plan 10 item) ∷ [];
+      turns = turn (time_reply 0 top) (Ok Open) told_1 desk ∷ turn (time_reply 1 9) (Ok Open) (told_2 9) desk ∷ turn (time_reply 2 9) (Ok Open) (told_3 9) desk ∷ turn (time_reply 3 4) (Ok Open) stored (records_for plan 10 item) ∷ [];
       calls = ((small_octets _ small_1, met_1), ((small_octets _ small_2, met_2), ((small_octets _ small_3, met_3), ((small_octets _ small_4, met_4), tt))));
       stores = refl;
     }
@@ -150,17 +151,17 @@ pub near_so : NearHonest lies (time_replies to_write) (new_time_of to_write)
 near_so = near_an_honest_reply plan to_write lies one_lies
 
 -- ---- node 1 tells it too: b + 1 of the replies are 2^64-1, and the clock is spent
-spent_2 : WriteReplyCall plan told_1 (time_reply 1 top) desk item (record { answer = Open; session = told_2 top }) desk
+spent_2 : WriteReplyCall plan told_1 (time_reply 1 top) desk item (record { answer = Ok Open; session = told_2 top }) desk
 unfolding time_reply desk write_reply first plan_ok counts_ok limits_ok column_of all record_length lengths_ok in_range standing_rules round_rules open_rules heard_count every num num_from part
     good_reply good_frame suits shaped for_party one_of body_fits awaited ask_in awaits_in is_heard be be_onto accepted_write time_turn
 spent_2 = record { is = refl }
 
-spent_3 : WriteReplyCall plan (told_2 top) (time_reply 2 9) desk item (record { answer = Open; session = told_3 top }) desk
+spent_3 : WriteReplyCall plan (told_2 top) (time_reply 2 9) desk item (record { answer = Ok Open; session = told_3 top }) desk
 unfolding time_reply desk write_reply first plan_ok counts_ok limits_ok column_of all record_length lengths_ok in_range standing_rules round_rules open_rules heard_count every num num_from part
     good_reply good_frame suits shaped for_party one_of body_fits awaited ask_in awaits_in is_heard be be_onto accepted_write time_turn
 spent_3 = record { is = refl }
 
-spent_4 : WriteReplyCall plan (told_3 top) (time_reply 3 4) desk item (record { answer = ClockSpent; session = ended_of (told_4 top) }) desk
+spent_4 : WriteReplyCall plan (told_3 top) (time_reply 3 4) desk item (record { answer = (Ok ClockSpent); session = ended_of (told_4 top) }) desk
 unfolding time_reply desk write_reply first plan_ok counts_ok limits_ok column_of all record_length lengths_ok in_range standing_rules round_rules open_rules heard_count every num num_from part
     good_reply good_frame suits shaped for_party one_of body_fits awaited ask_in awaits_in is_heard be be_onto accepted_write time_turn time_end kth_reply greatest_with or_more times_heard
 spent_4 = record { is = refl }
@@ -177,8 +178,8 @@ to_spent =
       opens = opened_so;
       accepted = refl;
       desk = desk;
-      first = turn (time_reply 0 top) Open told_1 desk;
-      rest = turn (time_reply 1 top) Open (told_2 top) desk ∷ turn (time_reply 2 9) Open (told_3 top) desk ∷ turn (time_reply 3 4) ClockSpent (ended_of (told_4 top)) desk ∷ [];
+      first = turn (time_reply 0 top) (Ok Open) told_1 desk;
+      rest = turn (time_reply 1 top) (Ok Open) (told_2 top) desk ∷ turn (time_reply 2 9) (Ok Open) (told_3 top) desk ∷ turn (time_reply 3 4) (Ok ClockSpent) (ended_of (told_4 top)) desk ∷ [];
       calls = ((small_octets _ small_1, met_1), ((small_octets _ spent_small, spent_2), ((small_octets _ small_3, spent_3), ((small_octets _ small_4, spent_4), tt))));
       says = refl;
     }

@@ -3,6 +3,7 @@
 -- nothing (refused_acts), and so does one that VALIDATE turns away (invalid_acts); one that it lets through is executed unless one of the
 -- conditions that document 01 adds stands against it (valid_acts). Over any calls, each under a plan of its own, the History is the one that
 -- Figure 1 holds (node_run, fresh_run): a call under another N or F than the book's changes nothing. Assumes nothing.
+use Rattle.std.specs.Prelude.{Result, Ok, Err}
 use Prim.Native.Nat.{◌-◌, ℕ, zero, suc, ◌+◌, ◌*◌, ◌≤◌}
 use Prim.{tt}
 use mathlib.Core.Path.{◌≡◌, refl, sym, ap, ◌∙◌, subst}
@@ -32,10 +33,7 @@ use Rattle.book.specs.Records.{last_of, last_below, kept}
 use Rattle.book.specs.Book.{book_head, good_book, node_of, records_from, records_of, count_of}
 use Rattle.book.proofs.Laid as laid
 use Rattle.book.proofs.Laws as books
-use Rattle.node.specs.declared.Answer.TheVariants.{Refused, Replied}
-use Rattle.node.specs.declared.Answer.{Answer}
 use Rattle.node.specs.Node.{NodeCall, served, answered, sends, reply_to, said_served, replied, refused, ServedOutcome, served_outcome, node_ladder, book_reply_ok, writes, time_fails, hash_fails, other_held, no_room}
-use Rattle.node.specs.declared.Made.TheVariants.{Fresh}
 use Rattle.node.specs.Fresh.{FreshCall}
 use Rattle.node.proofs.Laws as nodes
 use Rattle.store.specs.Deliver.{Among}
@@ -118,7 +116,7 @@ module _ (p : Plan) (f b y : List ℕ) (ob : Octets b) (of : Octets f) where
       ap not (validate_is p (node_of b) (body_of f) (write_body r k) (octets_drop (head_bytes (version_of f)) f of) ∙ ap (λ (S : ℕ). hashes_ok p S (body_of f)) (sym n))
       ∙ rw (eq-eqb (kind_of f) write_request_kind k)
 
-  module _ (n : ℕ) (b₂ y₂ : List ℕ) (c : NodeCall p f b y (Replied n) b₂ y₂) where
+  module _ (n : ℕ) (b₂ y₂ : List ℕ) (c : NodeCall p f b y (Ok n) b₂ y₂) where
     told : None (node_ladder p f b y) × (served_outcome (replied n) b₂ y₂ ≡ answered p (header_in f) (body_of f) b y)
     told = calls.replied_is p f b y n b₂ y₂ c
 
@@ -186,7 +184,7 @@ module _ (p : Plan) (f b y : List ℕ) (ob : Octets b) (of : Octets f) where
         let v : validate (family p) (node_of b) (triple_of p (body_of f)) ≡ true = not-false _ (validates clear.request k ∙ clear.hash) in
         let e : records_of p b₂ ≡ kept (body_of f) (records_of p b) =
         ap (λ (x : List ℕ). records_of p x) (ap (λ (o : ServedOutcome). o.book) c.is) ∙ one.is_records (keeps.executed p f b y (keeps.start_of p f b y clear.good ob clear) clear w) in
-        let q = keeps.call_keeps p f b y clear.good ob (Replied n) b₂ y₂ c in
+        let q = keeps.call_keeps p f b y clear.good ob (Ok n) b₂ y₂ c in
         let h = keeps.call_stores p f b y clear.good ob n b₂ y₂ c w in
         record {
           valid = rw v;
@@ -196,21 +194,21 @@ module _ (p : Plan) (f b y : List ℕ) (ob : Octets b) (of : Octets f) where
         }
 
   -- a refused request: no message is sent, and the History stays
-  pub refused_acts : (r : Refusal) (b₂ y₂ : List ℕ) → NodeCall p f b y (Refused r) b₂ y₂ → (history p b₂ ≡ history p b) × (y₂ ≡ y)
+  pub refused_acts : (r : Refusal) (b₂ y₂ : List ℕ) → NodeCall p f b y (Err r) b₂ y₂ → (history p b₂ ≡ history p b) × (y₂ ≡ y)
   refused_acts r b₂ y₂ c =
       let q = calls.refused_is p f b y r b₂ y₂ c in
       (ap (history p) q.1, q.2)
 
   -- a write request that VALIDATE turns away: the same
   pub invalid_acts : good_request p (node_of b) f ≡ true → kind_of f ≡ write_request_kind → validate (family p) (node_of b) (triple_of p (body_of f)) ≡ false
-      → (a : Answer) (b₂ y₂ : List ℕ) → NodeCall p f b y a b₂ y₂ → (history p b₂ ≡ history p b) × (y₂ ≡ y)
-  invalid_acts r k v (Refused e) b₂ y₂ c = refused_acts e b₂ y₂ c
-  invalid_acts r k v (Replied n) b₂ y₂ c =
+      → (a : Result ℕ Refusal) (b₂ y₂ : List ℕ) → NodeCall p f b y a b₂ y₂ → (history p b₂ ≡ history p b) × (y₂ ≡ y)
+  invalid_acts r k v (Err e) b₂ y₂ c = refused_acts e b₂ y₂ c
+  invalid_acts r k v (Ok n) b₂ y₂ c =
       let q = calls.clear p f b y (calls.replied_is p f b y n b₂ y₂ c).0 in
       absurd (clash (sym (ap not v) ∙ validates r k ∙ q.hash))
 
   pub valid_acts : Added p f b y → kind_of f ≡ write_request_kind → validate (family p) (node_of b) (triple_of p (body_of f)) ≡ true
-      → (a : Answer) (b₂ y₂ : List ℕ) → NodeCall p f b y a b₂ y₂ → served_outcome (said_served a) b₂ y₂ ≡ answered p (header_in f) (body_of f) b y
+      → (a : Result ℕ Refusal) (b₂ y₂ : List ℕ) → NodeCall p f b y a b₂ y₂ → served_outcome (said_served a) b₂ y₂ ≡ answered p (header_in f) (body_of f) b y
   unfolding served
   valid_acts h k v a b₂ y₂ c =
       c.is
@@ -218,7 +216,7 @@ module _ (p : Plan) (f b y : List ℕ) (ob : Octets b) (of : Octets f) where
       (ap not h.plan, (ap not h.lengths, (ap not h.book, (ap not h.request, (h.time, (sym (validates h.request k) ∙ ap not v, (h.other, (h.room, tt))))))))
 
 -- ---- a fresh book is INITIALIZE
-module _ (p : Plan) (node : ℕ) (b b₂ : List ℕ) (c : FreshCall p node b Fresh b₂) where
+module _ (p : Plan) (node : ℕ) (b b₂ : List ℕ) (c : FreshCall p node b (Ok tt) b₂) where
   pub fresh_acts : history p b₂ ≡ initialize
   unfolding each
   fresh_acts = ap (λ (rs : List (List ℕ)). initial ∷ each (triple_of p) rs) (one.is_records (laid_fresh p node b b₂ c))
@@ -259,16 +257,16 @@ module _ (p : Plan) (f b y : List ℕ) where
   -- where VALIDATE lets it through it is executed, and not refused
   module _ (ob : Octets b) (of : Octets f) where
     not_refused : (r : Refusal) (b₂ y₂ : List ℕ) → Added p f b y × (kind_of f ≡ write_request_kind)
-        → validate (family p) (node_of b) (triple_of p (body_of f)) ≡ true → NodeCall p f b y (Refused r) b₂ y₂ → ⊥
+        → validate (family p) (node_of b) (triple_of p (body_of f)) ≡ true → NodeCall p f b y (Err r) b₂ y₂ → ⊥
     unfolding answered sends
     not_refused r b₂ y₂ h v c =
-        let e = ap (λ (o : ServedOutcome). o.answer) (valid_acts p f b y ob of h.0 h.1 v (Refused r) b₂ y₂ c) in
+        let e = ap (λ (o : ServedOutcome). o.answer) (valid_acts p f b y ob of h.0 h.1 v (Err r) b₂ y₂ c) in
         let z : ◌≡◌ {A = ℕ} 0 1 = cc in omega arith
 
     pub valid_executes : Added p f b y → kind_of f ≡ write_request_kind → validate (family p) (node_of b) (triple_of p (body_of f)) ≡ true
-        → (a : Answer) (b₂ y₂ : List ℕ) → NodeCall p f b y a b₂ y₂ → Executes p f b y b₂ y₂
-    valid_executes h k v (Refused r) b₂ y₂ c = absurd (not_refused r b₂ y₂ (h, k) v c)
-    valid_executes h k v (Replied n) b₂ y₂ c = write_acts p f b y ob of n b₂ y₂ c k
+        → (a : Result ℕ Refusal) (b₂ y₂ : List ℕ) → NodeCall p f b y a b₂ y₂ → Executes p f b y b₂ y₂
+    valid_executes h k v (Err r) b₂ y₂ c = absurd (not_refused r b₂ y₂ (h, k) v c)
+    valid_executes h k v (Ok n) b₂ y₂ c = write_acts p f b y ob of n b₂ y₂ c k
 
 turned_away : (p : Plan) (S : ℕ) (H : List Triple) (X : Triple) → validate (family p) S X ≡ false → (receive_write_request (family p) S H X).History ≡ H
 unfolding receive_write_request
@@ -306,8 +304,8 @@ module _ (p : Plan) (f b y : List ℕ) (ob : Octets b) (of : Octets f) (g : good
   abbrev fed : Bool → List Triple
   fed t = cond t (receive_write_request (family p) (node_of b) H (triple_of p (body_of f))).History H
 
-  call_follows : (a : Answer) (b₂ y₂ : List ℕ) → NodeCall p f b y a b₂ y₂ → Follows p b b₂ (fed (reaches p f b y))
-  call_follows (Refused r) b₂ y₂ c = follows_still p b b₂ _ g (calls.refused_is p f b y r b₂ y₂ c).1 (go (reaches p f b y) refl)
+  call_follows : (a : Result ℕ Refusal) (b₂ y₂ : List ℕ) → NodeCall p f b y a b₂ y₂ → Follows p b b₂ (fed (reaches p f b y))
+  call_follows (Err r) b₂ y₂ c = follows_still p b b₂ _ g (calls.refused_is p f b y r b₂ y₂ c).1 (go (reaches p f b y) refl)
     where
       turned : reaches p f b y ≡ true → (t : Bool) → validate (family p) (node_of b) (triple_of p (body_of f)) ≡ t → Same (history p b) (fed true)
       turned e true v = absurd (not_refused p f b y ob of r b₂ y₂ (reached p f b y e) v c)
@@ -316,7 +314,7 @@ module _ (p : Plan) (f b y : List ℕ) (ob : Octets b) (of : Octets f) (g : good
       go : (t : Bool) → reaches p f b y ≡ t → Same (history p b) (fed t)
       go true e = turned e (validate (family p) (node_of b) (triple_of p (body_of f))) refl
       go false e = same
-  call_follows (Replied n) b₂ y₂ c = go (writes (header_in f)) refl
+  call_follows (Ok n) b₂ y₂ c = go (writes (header_in f)) refl
     where
       clear : calls.Clear p f b y
       clear = calls.clear p f b y (calls.replied_is p f b y n b₂ y₂ c).0
@@ -328,7 +326,7 @@ module _ (p : Plan) (f b y : List ℕ) (ob : Octets b) (of : Octets f) (g : good
           let l : b₂ ≡ (served p f b y).book = ap (λ (o : ServedOutcome). o.book) c.is in
           subst (λ (t : Bool). Follows p b b₂ (fed t)) (sym (clear_reaches p f b y clear w))
           (record {
-            good = (keeps.call_keeps p f b y g ob (Replied n) b₂ y₂ c).good;
+            good = (keeps.call_keeps p f b y g ob (Ok n) b₂ y₂ c).good;
             node = ap (λ (x : List ℕ). node_of x) l ∙ one.is_node q;
             set = same_trans (history p b₂) (receive_write_request (family p) (node_of b) (history p b) (triple_of p (body_of f))).History
                 (receive_write_request (family p) (node_of b) H (triple_of p (body_of f))).History e.set (write_same p (node_of b) (triple_of p (body_of f)) (history p b) H same);
@@ -361,13 +359,13 @@ module _ (p q : Plan) (f b y : List ℕ) (ob : Octets b) (of : Octets f) (g : go
       go true e = absurd (clash (sym (reached q f b y e).0.book ∙ h))
       go false e = refl
 
-  foreign : good_book q b ≡ false → (a : Answer) (b₂ y₂ : List ℕ) → NodeCall q f b y a b₂ y₂ → Follows p b b₂ (given (reaches q f b y))
-  foreign h (Refused r) b₂ y₂ c =
+  foreign : good_book q b ≡ false → (a : Result ℕ Refusal) (b₂ y₂ : List ℕ) → NodeCall q f b y a b₂ y₂ → Follows p b b₂ (given (reaches q f b y))
+  foreign h (Err r) b₂ y₂ c =
       follows_still p b b₂ _ g (calls.refused_is q f b y r b₂ y₂ c).1 (subst (λ (t : Bool). Same (history p b) (given t)) (sym (not_reached h)) same)
-  foreign h (Replied n) b₂ y₂ c = absurd (clash (sym (calls.clear q f b y (calls.replied_is q f b y n b₂ y₂ c).0).good ∙ h))
+  foreign h (Ok n) b₂ y₂ c = absurd (clash (sym (calls.clear q f b y (calls.replied_is q f b y n b₂ y₂ c).0).good ∙ h))
 
   -- it is: N and F are the book's, and the call is as one under the book's own plan
-  own_plan : good_book q b ≡ true → (a : Answer) (b₂ y₂ : List ℕ) → NodeCall q f b y a b₂ y₂ → Follows p b b₂ (given (reaches q f b y))
+  own_plan : good_book q b ≡ true → (a : Result ℕ Refusal) (b₂ y₂ : List ℕ) → NodeCall q f b y a b₂ y₂ → Follows p b b₂ (given (reaches q f b y))
   own_plan h a b₂ y₂ c =
       let e = calls.same_plan q p b h g in
       let hist : (x : List ℕ) → history q x ≡ history p x = λ x. history_bare q x ∙ (λ i. history (calls.bare (e.0 i) (e.1 i)) x) ∙ sym (history_bare p x) in
@@ -382,10 +380,10 @@ module _ (p q : Plan) (f b y : List ℕ) (ob : Octets b) (of : Octets f) (g : go
         set = subst (λ (l : List Triple). Same l (given (reaches q f b y))) (hist b₂) (subst (Same (history q b₂)) G k.set);
       }
 
-  any_call_follows : (a : Answer) (b₂ y₂ : List ℕ) → NodeCall q f b y a b₂ y₂ → Follows p b b₂ (given (reaches q f b y))
+  any_call_follows : (a : Result ℕ Refusal) (b₂ y₂ : List ℕ) → NodeCall q f b y a b₂ y₂ → Follows p b b₂ (given (reaches q f b y))
   any_call_follows = go (good_book q b) refl
     where
-      go : (t : Bool) → good_book q b ≡ t → (a : Answer) (b₂ y₂ : List ℕ) → NodeCall q f b y a b₂ y₂ → Follows p b b₂ (given (reaches q f b y))
+      go : (t : Bool) → good_book q b ≡ t → (a : Result ℕ Refusal) (b₂ y₂ : List ℕ) → NodeCall q f b y a b₂ y₂ → Follows p b b₂ (given (reaches q f b y))
       go true h = own_plan h
       go false h = foreign h
 
@@ -402,7 +400,7 @@ node_run p b H (c ∷ cs) g s h o =
     q.node (node_run p c.book_left _ cs q.good q.set h.2 o.1)
 
 -- and from a fresh book, the one that it holds from INITIALIZE on
-pub fresh_run : (p : Plan) (node : ℕ) (b b₂ : List ℕ) (cs : List Call) → FreshCall p node b Fresh b₂ → History b₂ cs → InBytes cs
+pub fresh_run : (p : Plan) (node : ℕ) (b b₂ : List ℕ) (cs : List Call) → FreshCall p node b (Ok tt) b₂ → History b₂ cs → InBytes cs
     → Same (history p (last_book b₂ cs)) (received p node initialize b₂ cs)
 fresh_run p node b b₂ cs c h o =
     let i = laid_fresh p node b b₂ c in

@@ -34,8 +34,7 @@ use Rattle.record.specs.Desk.{slot_of, fragment_in, cross_made, row}
 use Rattle.terms.proofs.Places.{record_length_lem}
 use Rattle.record.proofs.Records.{cross_at}
 use Rattle.rounds.specs.declared.Heard.TheVariants.{Record}
-use Rattle.rounds.specs.declared.Lead.{Lead}
-use Rattle.rounds.specs.declared.Lead.TheVariants.{Nobody, Node}
+use Rattle.std.proofs.Common.{Option, None, Some}
 use Rattle.rounds.specs.Rounds.{heard_count, mark_of, rest_unheard, slot_stamp, lead_of, set_of, Closed, close_with}
 use Rattle.rounds.proofs.Laws.{lead_room}
 use Rattle.rounds.proofs.Closes.{candidate, no_candidate, members_are}
@@ -79,11 +78,11 @@ module _ (p : Plan) (s : Session) (d i : List ℕ) (u : Full p s d i) where
   abbrev set : List Message
   set = responses p s.marks d p.n
 
-  abbrev close : Lead → Closed
+  abbrev close : Option ℕ → Closed
   close l = close_with s.marks d (slots_of p) p.member (thresholds_of p) l
 
   -- ---- the first triple
-  module _ (e : lead_of s.marks d (slots_of p) p.n ≡ Nobody) where
+  module _ (e : lead_of s.marks d (slots_of p) p.n ≡ None) where
     zero_is : ts_candidate set ≡ 0
     unfolding ts_candidate
     zero_is = max_is p s.marks d p.n ∙ rw e
@@ -112,14 +111,14 @@ module _ (p : Plan) (s : Session) (d i : List ℕ) (u : Full p s d i) where
     unfolding decoded_from
     first_decides = loop_is p set set 0 zero_is all_are ∙ rw (le-leb (complete_at p) (length set) big, valid_so, first_so)
 
-    first_round : Decides p s d i (acted p s (close Nobody) d i) (loop (family p) set)
+    first_round : Decides p s d i (acted p s (close None) d i) (loop (family p) set)
     unfolding close_with act_for stamp_number then
     first_round =
         subst (Decides p s d i (outcome (never_written s.round.number) (ended_of s) d i)) (sym first_decides)
         (record { stamp = zero_stamp; number = refl; never = λ z. (refl, refl); value = λ z. absurd (omega arith) })
 
   -- ---- a record of node a
-  module _ (a : ℕ) (e : lead_of s.marks d (slots_of p) p.n ≡ Node a) where
+  module _ (a : ℕ) (e : lead_of s.marks d (slots_of p) p.n ≡ Some a) where
     abbrev h : ℕ
     h = (slots_of p).head
 
@@ -159,7 +158,7 @@ module _ (p : Plan) (s : Session) (d i : List ℕ) (u : Full p s d i) where
 
     -- ---- what the set is known to be
     led_so : Led p s d a
-    led_so = led p s d a (unfold close_with in ap (λ (l : Lead). (close l).lead) e)
+    led_so = led p s d a (unfold close_with in ap (λ (l : Option ℕ). (close l).lead) e)
 
     heads : All (λ (q : ℕ). part d (q * r) h ≡ part d (a * r) h) Z
     heads = subst (λ (l : List ℕ). All (λ (q : ℕ). part d (q * r) h ≡ part d (a * r) h) l) led_so.nodes_are (heads_alike p s d a led_so)
@@ -199,7 +198,7 @@ module _ (p : Plan) (s : Session) (d i : List ℕ) (u : Full p s d i) where
         ne_eqb (stamp (slot_of p d q)) 0 (λ w. omega (arith, z, w, low))
 
     -- ---- validation
-    valid_is : 1 ≤ length Z → validate_candidate_set (family p) cs ≡ sound p (close (Node a)) a d
+    valid_is : 1 ≤ length Z → validate_candidate_set (family p) cs ≡ sound p (close (Some a)) a d
     unfolding validate_candidate_set sound validates make_cross_checksum cross_made fragment_hash prefix_of close_with
     valid_is k = rw (not_first Z heads) (go p.clients)
       where
@@ -214,7 +213,7 @@ module _ (p : Plan) (s : Session) (d i : List ℕ) (u : Full p s d i) where
         go Byzantine = ap₂ alike made (cross_so Z k heads ∙ cross_at p d (a * r))
 
     -- ---- decoding
-    decode_is : decoded_from p cs ≡ decoded p (close (Node a)) d i
+    decode_is : decoded_from p cs ≡ decoded p (close (Some a)) d i
     unfolding decoded_from decoded close_with
     decode_is =
         rw (not_first Z heads)
@@ -301,7 +300,7 @@ module _ (p : Plan) (s : Session) (d i : List ℕ) (u : Full p s d i) where
 
     -- ---- the decision, by the class of the set
     abbrev act : Verdict → Outcome
-    act v = act_on v p s (close (Node a)) a d i
+    act v = act_on v p s (close (Some a)) a d i
 
     abbrev Goal : Verdict → Decision → Type 0
     Goal v x = Decides p s d i (act v) x
@@ -311,10 +310,10 @@ module _ (p : Plan) (s : Session) (d i : List ℕ) (u : Full p s d i) where
 
     whole : 1 ≤ length Z → Goal verdict.Complete (cond valid (returned T (decoded_from p cs)) (reading (read_previous T)))
     unfolding act_on close_with
-    whole z = go (sound p (close (Node a)) a d) (valid_is z)
+    whole z = go (sound p (close (Some a)) a d) (valid_is z)
       where
         go : (t : Bool) → valid ≡ t → Decides p s d i
-            (cond t (outcome (done (stamp_at d (a * r)) s.round.number) (ended_of s) d (decoded p (close (Node a)) d i)) (failing p s (stamp_at d (a * r)) d i))
+            (cond t (outcome (done (stamp_at d (a * r)) s.round.number) (ended_of s) d (decoded p (close (Some a)) d i)) (failing p s (stamp_at d (a * r)) d i))
             (cond valid (returned T (decoded_from p cs)) (reading (read_previous T)))
         go true v =
             rw v (record {
@@ -328,7 +327,7 @@ module _ (p : Plan) (s : Session) (d i : List ℕ) (u : Full p s d i) where
     half : p.m ≤ length Z → Goal verdict.Repair
         (cond valid (repaired (repairs (family p) cs T) T (decoded_from p (repairs (family p) cs T))) (reading (read_previous T)))
     unfolding act_on close_with refill
-    half z = go (sound p (close (Node a)) a d) (valid_is (some z))
+    half z = go (sound p (close (Some a)) a d) (valid_is (some z))
       where
         go : (t : Bool) → valid ≡ t → Decides p s d i
             (cond t (outcome still_open (storing_of s (stamp_at d (a * r))) filled i) (failing p s (stamp_at d (a * r)) d i))
@@ -374,7 +373,7 @@ module _ (p : Plan) (s : Session) (d i : List ℕ) (u : Full p s d i) where
             (verdict_is class.Incomplete (is_incomplete (complete_at p) (incomplete_at p) size (leb-false (complete_at p) size c) (leb-false (incomplete_at p) size b)))
             (unfold act_on close_with in fails)
 
-    led_round : Decides p s d i (acted p s (close (Node a)) d i) (loop (family p) set)
+    led_round : Decides p s d i (acted p s (close (Some a)) d i) (loop (family p) set)
     unfolding close_with act_for
     led_round = subst (Decides p s d i (act (decided p.member (complete_at p) (incomplete_at p) size))) (sym (loop_is p set cs T stamp_cand set_cand)) by_size
 
@@ -382,6 +381,6 @@ module _ (p : Plan) (s : Session) (d i : List ℕ) (u : Full p s d i) where
   pub round_decides : Decides p s d i (acted p s (closed p s d) d i) (loop (family p) set)
   round_decides = go (lead_of s.marks d (slots_of p) p.n) refl
     where
-      go : (l : Lead) → lead_of s.marks d (slots_of p) p.n ≡ l → Decides p s d i (acted p s (close l) d i) (loop (family p) set)
-      go Nobody e = first_round e
-      go (Node a) e = led_round a e
+      go : (l : Option ℕ) → lead_of s.marks d (slots_of p) p.n ≡ l → Decides p s d i (acted p s (close l) d i) (loop (family p) set)
+      go None e = first_round e
+      go (Some a) e = led_round a e

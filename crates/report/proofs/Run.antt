@@ -1,6 +1,7 @@
 -- A WHOLE READ IS FIGURE 3'S. Over any calls from opening, each answer is what READ says of the messages received in the rounds closed so far,
 -- and an open one that it has not returned (read_run, opened_read). Each frame that is a message of the round is a turn of DO_READ's loop, whether
 -- the call accepts it or refuses it 6, 11 or 12 (message_right). Assumes nothing.
+use Rattle.std.specs.Prelude.{Ok}
 use Prim.{tt}
 use Prim.Native.Nat.{ℕ, ◌*◌}
 use mathlib.Core.Path.{◌≡◌, refl, sym, ap, ◌∙◌, subst}
@@ -11,7 +12,7 @@ use Rattle.terms.specs.Stamp.{stamp_number}
 use Rattle.terms.specs.Terms.{record_length}
 use Rattle.terms.specs.declared.Plan.{Plan}
 use Rattle.terms.specs.declared.Ask.{Ask}
-use Rattle.rounds.specs.declared.Bound.TheVariants.{Free}
+use Rattle.std.proofs.Common.{None}
 use Rattle.rounds.specs.Rounds.{unheards}
 use Rattle.session.specs.declared.Session.{Session}
 use Rattle.standing.specs.declared.Stage.{Stage}
@@ -21,7 +22,6 @@ use Rattle.session.specs.Session.{said_of}
 use Rattle.session.specs.Reader.{Outcome, outcome}
 use Rattle.session.proofs.Openings.{accepted_session}
 use Rattle.session.specs.declared.opening.Opened.{Opened}
-use Rattle.session.specs.declared.opening.Opening.TheVariants.{Accepted}
 use Rattle.session.specs.Opening.{OpenCall, fresh_of}
 use Rattle.report.specs.Triple.{Message}
 use Rattle.report.specs.Figure3.{repaired, do_read, read}
@@ -68,12 +68,12 @@ read_run p s d w (c ∷ cs) k sz r a =
     }
 
 -- FROM OPENING: nothing was received yet
-pub opened_run : (p : Plan) (a : Ask) (r : Opened) (d : List ℕ) (cs : List turns.Turn) → OpenCall Read p a r → r.answer ≡ Accepted
+pub opened_run : (p : Plan) (a : Ask) (r : Opened) (d : List ℕ) (cs : List turns.Turn) → OpenCall Read p a r → r.answer ≡ (Ok tt)
     → length d ≡ p.n * record_length p → Octets d → Calls (ReadTurn p) r.session d cs → AllApart p (polled_over p r.session d unpolled cs).rounds
     → Ran p r.session d unpolled cs
 opened_run p a r d cs call e ld od h apart = read_run p r.session d unpolled cs start tt h apart
   where
-    fresh : Keeps p (fresh_of Read 1 Free a) d unpolled
+    fresh : Keeps p (fresh_of Read 1 None a) d unpolled
     fresh =
         record {
           decision = unfold read in refl;
@@ -90,7 +90,7 @@ opened_run p a r d cs call e ld od h apart = read_run p r.session d unpolled cs 
     start : Keeps p r.session d unpolled
     start = subst (λ (x : Session). Keeps p x d unpolled) (sym (accepted_session Read p a r call e)) fresh
 
-pub opened_read : (p : Plan) (a : Ask) (r : Opened) (d : List ℕ) (cs : List turns.Turn) → OpenCall Read p a r → r.answer ≡ Accepted
+pub opened_read : (p : Plan) (a : Ask) (r : Opened) (d : List ℕ) (cs : List turns.Turn) → OpenCall Read p a r → r.answer ≡ (Ok tt)
     → length d ≡ p.n * record_length p → Octets d → Calls (ReadTurn p) r.session d cs → AllApart p (polled_over p r.session d unpolled cs).rounds
     → EachTells p r.session d unpolled cs × AllFull p (polled_over p r.session d unpolled cs).rounds
 opened_read p a r d cs call e ld od h apart = let q = opened_run p a r d cs call e ld od h apart in (q.tells, q.full)

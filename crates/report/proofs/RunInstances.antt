@@ -4,6 +4,7 @@
 --   read_owes_so       round 2 owes what READ has to send, READ_PREVIOUS with the timestamp of the record that did not validate
 --   write_done_so      WRITE, up to done
 -- Assumes nothing.
+use Rattle.std.specs.Prelude.{Ok}
 use Prim.{tt}
 use Prim.Native.Nat.{ℕ}
 use mathlib.Core.Path.{◌≡◌, refl, sym, ap, ◌∙◌, subst}
@@ -26,7 +27,6 @@ use Rattle.session.specs.Ranges.{standing_rules, open_rules, in_range}
 use Rattle.standing.specs.Standing.{lengths_ok, ask_in, awaits_in, round_rules, room_ok, read_request}
 use Rattle.standing.specs.declared.Stage.TheVariants.{Asking}
 use Rattle.session.specs.Reply.{awaited, is_heard, bears, read_ladder}
-use Rattle.session.specs.declared.owed.Owed.TheVariants.{Request}
 use Rattle.session.specs.Owed.{owed_ladder, request_of, written, owed_to, OwedCall}
 use Rattle.client.specs.Turns.{Turn}
 use Rattle.terms.proofs.Small.{small, small_octets}
@@ -143,7 +143,7 @@ asks_previous = kept_two.decision
 unfoldable pub previous : List ℕ
 previous = frame read_previous_kind 1 6 (part poor 0 40)
 
-pub owed_previous : OwedCall plan reads.second_round 1 desk_poor (replicate 152 0) (Request 55) (over previous (replicate 152 0))
+pub owed_previous : OwedCall plan reads.second_round 1 desk_poor (replicate 152 0) (Ok 55) (over previous (replicate 152 0))
 unfolding previous poor hash desk_poor plan owed_to first plan_ok counts_ok limits_ok column_of all record_length room_ok in_range standing_rules round_rules open_rules heard_count every slots_fit slot_fits slot_stamp
     under_of is_heard request_of read_request ask_in over num num_from part be be_onto stamp_at stamp_number then
 owed_previous = record { is = refl }
@@ -153,7 +153,7 @@ pub read_owes_so : Owes (Commands plan (read (family plan) (polled_over plan rea
     (replicate 152 0) (over previous (replicate 152 0))
 read_owes_so =
     read_owes plan ask reads.opened desk (reads.call_1 ∷ reads.call_2 ∷ []) reads.opened_so refl desk_long (small_octets desk desk_small) ((reads.calls).0, ((reads.calls).1.0, tt)) apart_two 1
-    (replicate 152 0) (Request 55) (over previous (replicate 152 0)) owed_previous
+    (replicate 152 0) (Ok 55) (over previous (replicate 152 0)) owed_previous
 
 module _ where
   set_3 : response_set (family plan) first_round (m3 ∷ []) ≡ m3 ∷ []

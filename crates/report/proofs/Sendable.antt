@@ -1,6 +1,7 @@
 -- What is known of a session and its desk where a request is owed, over the calls of a write and of a read: the writer's slots are the records that it
 -- made (write_sendable); a reader's bound is the timestamp of some bytes, of a time of 1 or more, and in a repair round its slots are records that
 -- pass, where they fit the cross checksum (read_sendable). Assumes nothing.
+use Rattle.std.specs.Prelude.{Ok}
 use Prim.{Unit, tt}
 use Prim.Native.Nat.{ℕ, ◌+◌, ◌*◌, ◌^◌, ◌≤◌, ◌<◌}
 use mathlib.Core.Path.{◌≡◌, refl, sym, ap, ◌∙◌, subst}
@@ -35,8 +36,8 @@ use Rattle.frame.specs.Frame.{frame_node, body_of, head_bytes, version_of}
 use Rattle.record.specs.Record.{verifier_of, cross_of, entry_of, fragment_hash, hashes_ok}
 use Rattle.record.specs.Desk.{slot_of, fragment_in, cross_made, stamp_made}
 use Rattle.record.proofs.Desks.{time_made, cross_same, entry_of_lem}
-use Rattle.rounds.specs.declared.Bound.{Bound}
-use Rattle.rounds.specs.declared.Bound.TheVariants.{Free, Under}
+use Rattle.std.proofs.Common.{Option}
+use Rattle.std.specs.declared.option.Option.TheVariants as option
 use Rattle.rounds.specs.declared.Heard.TheVariants.{Record}
 use Rattle.recover.specs.Recover.{lowest, validates, trusted, sound, collected}
 use Rattle.recover.specs.Records.{cross_for, stamp_for, records_for}
@@ -46,7 +47,6 @@ use Rattle.standing.proofs.Rules.{lengths_are}
 use Rattle.session.specs.declared.Session.{Session}
 use Rattle.standing.specs.declared.Operation.TheVariants.{Write, Read}
 use Rattle.session.specs.declared.opening.Opened.{Opened}
-use Rattle.session.specs.declared.opening.Opening.TheVariants.{Accepted}
 use Rattle.session.specs.Opening.{OpenCall}
 use Rattle.session.specs.Session.{marked_of, ended_of, storing_of, round_open, still_open, done, refused, clock_spent}
 use Rattle.session.specs.Ranges.{in_range}
@@ -183,14 +183,14 @@ run_writes P p s d (c ∷ cs) g k h l =
     run_writes P p c.took.session c.desk_left cs v
     (subst (Good P p s c.reply d c.item l.0 k) (sym h.0.1.is) (call_writes P p s c.reply d c.item l.0 k) v.clock) h.1 l.1
 
-opened_writes : (P : List ℕ → Type 0) (p : Plan) (a : Ask) (r : Opened) (d : List ℕ) (cs : List Turn) → OpenCall Write p a r → r.answer ≡ Accepted
+opened_writes : (P : List ℕ → Type 0) (p : Plan) (a : Ask) (r : Opened) (d : List ℕ) (cs : List Turn) → OpenCall Write p a r → r.answer ≡ (Ok tt)
     → length d ≡ p.n * record_length p → Calls (WriteTurn p) r.session d cs → EachTurn (λ (c : Turn). P c.item) cs → Keeps P p (last_session r.session cs) (last_desk d cs)
 opened_writes P p a r d cs opens e ld h l =
     let start : Keeps P p r.session d = subst (λ (x : Session). Keeps P p x d) (sym (accepted_session Write p a r opens e)) (refl, λ y. absurd (clash (sym y))) in
     run_writes P p r.session d cs (opened_kept Write p a r opens e d ld) start h l
 
 -- IN A WRITE ROUND THE DESK IS THE N RECORDS OF AN ITEM THAT WAS LENT, at the time of the timestamp being written
-pub write_made : (P : List ℕ → Type 0) (p : Plan) (a : Ask) (r : Opened) (d : List ℕ) (cs : List Turn) → OpenCall Write p a r → r.answer ≡ Accepted
+pub write_made : (P : List ℕ → Type 0) (p : Plan) (a : Ask) (r : Opened) (d : List ℕ) (cs : List Turn) → OpenCall Write p a r → r.answer ≡ (Ok tt)
     → length d ≡ p.n * record_length p → Calls (WriteTurn p) r.session d cs → EachTurn (λ (c : Turn). P c.item) cs
     → is_storing (last_session r.session cs).round.stage ≡ true → Wrote P p (last_session r.session cs) (last_desk d cs)
 write_made P p a r d cs opens e ld h l = (opened_writes P p a r d cs opens e ld h l).1
@@ -200,7 +200,7 @@ any_item [] = tt
 any_item (c ∷ cs) = (tt, any_item cs)
 
 -- FROM AN ACCEPTED OPENING, after any calls of a write
-pub write_sendable : (p : Plan) (a : Ask) (r : Opened) (d : List ℕ) (cs : List Turn) → OpenCall Write p a r → r.answer ≡ Accepted
+pub write_sendable : (p : Plan) (a : Ask) (r : Opened) (d : List ℕ) (cs : List Turn) → OpenCall Write p a r → r.answer ≡ (Ok tt)
     → length d ≡ p.n * record_length p → Calls (WriteTurn p) r.session d cs → Sendable p (last_session r.session cs) (last_desk d cs)
 write_sendable p a r d cs opens e ld h =
     let k = opened_writes (λ (i : List ℕ). Unit {0}) p a r d cs opens e ld h (any_item cs) in
@@ -238,9 +238,9 @@ bound_sends u q l =
       ap (λ (y : List ℕ). stamp y) b ∙ ap num (part_part q.bytes q.at 40 0 40 (omega arith)) ∙ ap (λ (y : ℕ). num (part q.bytes y 40)) z ∙ sym n,
     )
 
-abbrev Bounded : Bound → Type 0
-Bounded Free = Unit {0}
-Bounded (Under u) = OfBytes u
+abbrev Bounded : Option Timestamp → Type 0
+Bounded option.None = Unit {0}
+Bounded (option.Some u) = OfBytes u
 
 -- in a read round
 abbrev Reads : Session → List ℕ → Type 0
@@ -323,9 +323,9 @@ run_reads p s d (c ∷ cs) k h =
     (subst (Asks p s c.reply d c.item h.0.0 k) (sym h.0.1.is) (call_reads p s c.reply d c.item h.0.0 k)) h.1
 
 -- FROM AN ACCEPTED OPENING, after any calls of a read: a bound is of bytes, and of a time of 1 or more
-read_bound : (p : Plan) (a : Ask) (r : Opened) (d : List ℕ) (cs : List Turn) → OpenCall Read p a r → r.answer ≡ Accepted → Octets d
+read_bound : (p : Plan) (a : Ask) (r : Opened) (d : List ℕ) (cs : List Turn) → OpenCall Read p a r → r.answer ≡ (Ok tt) → Octets d
     → Calls (ReadTurn p) r.session d cs → in_range p (last_session r.session cs) (last_desk d cs) ≡ true → is_asking (last_session r.session cs).round.stage ≡ true
-    → (u : Timestamp) → (last_session r.session cs).round.bound ≡ Under u
+    → (u : Timestamp) → (last_session r.session cs).round.bound ≡ option.Some u
     → (1 ≤ time (be 40 (stamp_number u))) × (stamp (be 40 (stamp_number u)) ≡ stamp_number u)
 read_bound p a r d cs opens e od h range asks u b =
     let z = accepted_session Read p a r opens e in
@@ -333,7 +333,7 @@ read_bound p a r d cs opens e od h range asks u b =
     let k = (run_reads p r.session d cs start h asks).1 in
     let w = (range_stands p (last_session r.session cs) (last_desk d cs) range).bounded in
     let low = both (ltb 1 (last_session r.session cs).round.number) (leb 1 u.time.0)
-    (subst (λ (x : Bound). bound_ok x (last_session r.session cs).round.number ≡ true) b w) in
+    (subst (λ (x : Option Timestamp). bound_ok x (last_session r.session cs).round.number ≡ true) b w) in
     bound_sends u (subst Bounded b k) (leb-true 1 u.time.0 low.1)
 
 -- ---- a repair: the desk was filled from a set
@@ -405,7 +405,7 @@ all_pass p [] = tt
 all_pass p (e ∷ cs) = ((λ t b l q. q), all_pass p cs)
 
 -- FROM AN ACCEPTED OPENING, after any calls of a read that has not ended
-pub read_sendable : (p : Plan) (a : Ask) (r : Opened) (d : List ℕ) (cs : List Turn) → OpenCall Read p a r → r.answer ≡ Accepted → Octets d
+pub read_sendable : (p : Plan) (a : Ask) (r : Opened) (d : List ℕ) (cs : List Turn) → OpenCall Read p a r → r.answer ≡ (Ok tt) → Octets d
     → Calls (ReadTurn p) r.session d cs → in_range p (last_session r.session cs) (last_desk d cs) ≡ true → is_ended (last_session r.session cs).round.stage ≡ false
     → RepairFits p (last_session r.session cs) (last_desk d cs) → Sendable p (last_session r.session cs) (last_desk d cs)
 read_sendable p a r d cs opens e od h range going fits =
@@ -416,7 +416,7 @@ read_sendable p a r d cs opens e od h range going fits =
 
 -- A REPAIR OF THE TIMESTAMP OF A WRITE FITS, under either client model: its set is of the records that were written, where the records that the replies bore
 -- do not clash with them
-pub written_fits : (p : Plan) (a : Ask) (r : Opened) (d : List ℕ) (cs : List Turn) → OpenCall Read p a r → r.answer ≡ Accepted → Calls (ReadTurn p) r.session d cs
+pub written_fits : (p : Plan) (a : Ask) (r : Opened) (d : List ℕ) (cs : List Turn) → OpenCall Read p a r → r.answer ≡ (Ok tt) → Calls (ReadTurn p) r.session d cs
     → (t : ℕ) (i : List ℕ) → Octets i → length i ≡ p.m * p.f → (last_session r.session cs).stamp ≡ stamp_for p t i → NoClash p t i cs
     → RepairFits p (last_session r.session cs) (last_desk d cs)
 unfolding cross_for

@@ -1,6 +1,9 @@
 -- WHAT THE CLIENT SENDS IS WHAT THE FIGURES SEND. In every state that calls of a read, or of a write, reach from an opening, an accepted request owed
 -- to node S is the frame of what READ or WRITE has to send to S then, and it is refused 11 exactly where S is in the response set (read_owes,
 -- write_owes). Assumes nothing.
+use Rattle.terms.specs.declared.Refusal.{Refusal}
+use Prim.{tt}
+use Rattle.std.specs.Prelude.{Result, Ok}
 use Prim.Native.Nat.{ℕ, zero, suc, ◌*◌, ◌<◌}
 use mathlib.Core.Path.{◌≡◌, refl, sym, ap, ◌∙◌, subst}
 use mathlib.Core.Bool.{Bool, true, false, cond}
@@ -21,8 +24,9 @@ use Rattle.terms.proofs.Ladders.{by_ladder}
 use Rattle.terms.proofs.Rungs.{clash}
 use Rattle.terms.proofs.Small.{strict}
 use Rattle.rounds.proofs.Laws.{not_heard}
-use Rattle.rounds.specs.declared.Bound.{Bound}
-use Rattle.rounds.specs.declared.Bound.TheVariants.{Free, Under}
+use Rattle.std.proofs.Common.{Option}
+use Rattle.std.specs.declared.option.Option.TheVariants as option
+use Rattle.terms.specs.declared.Timestamp.{Timestamp}
 use Rattle.rounds.specs.Rounds.{mark_of, heard_at}
 use Rattle.record.specs.Desk.{slot_of}
 use Rattle.frame.specs.Frame.{time_request_kind, write_request_kind, frame}
@@ -30,7 +34,6 @@ use Rattle.session.specs.declared.Session.{Session}
 use Rattle.standing.specs.declared.Stage.{Stage}
 use Rattle.standing.specs.declared.Stage.TheVariants.{Asking, Storing, Ended}
 use Rattle.standing.specs.declared.Operation.TheVariants.{Write, Read}
-use Rattle.session.specs.declared.owed.Owed.{Owed}
 use Rattle.standing.specs.Standing.{is_read, is_storing, is_ended, read_request}
 use Rattle.session.specs.Session.{ask_now}
 use Rattle.session.specs.Reply.{is_heard}
@@ -45,7 +48,6 @@ use Rattle.client.specs.Turns as turns
 use Rattle.client.specs.Turns.{ReadTurn, WriteTurn, Calls}
 use Rattle.client.specs.Sessions.{last_session, last_desk}
 use Rattle.session.specs.declared.opening.Opened.{Opened}
-use Rattle.session.specs.declared.opening.Opening.TheVariants.{Accepted}
 use Rattle.session.specs.Opening.{OpenCall}
 use Rattle.report.specs.Figure2.{write}
 use Rattle.report.specs.Figure3.{Decision, gathered}
@@ -56,7 +58,7 @@ use Rattle.report.proofs.Run.{opened_run}
 use Rattle.report.proofs.Write as writes
 
 -- ---- the call
-module _ (p : Plan) (s : Session) (S : ℕ) (d q : List ℕ) (o : Owed) (q₂ : List ℕ) (call : OwedCall p s S d q o q₂) where
+module _ (p : Plan) (s : Session) (S : ℕ) (d q : List ℕ) (o : Result ℕ Refusal) (q₂ : List ℕ) (call : OwedCall p s S d q o q₂) where
   abbrev ladder : List Rung
   ladder = owed_ladder p s S d (length q)
 
@@ -100,9 +102,9 @@ module _ (p : Plan) (s : Session) (d : List ℕ) (w : Polled) (keep : reads.Keep
       low : S < p.n
       low = ltb-true S p.n (not-false (ltb S p.n) (clear (owed_ladder p s S d (length q)) n 4))
 
-      by_bound : (b : Bound) → read_request b S (ask_now s) ≡ read_frame (command_of b) S (ask_now s)
-      by_bound Free = refl
-      by_bound (Under u) = refl
+      by_bound : (b : Option Timestamp) → read_request b S (ask_now s) ≡ read_frame (command_of b) S (ask_now s)
+      by_bound option.None = refl
+      by_bound (option.Some u) = refl
 
       go : (x : Stage) → s.round.stage ≡ x → Commands p (read (family p) w.rounds) S (ask_now s)
           (cond (is_storing x) (frame write_request_kind S (ask_now s) (slot_of p d S)) (cond (is_read s.operation) (read_request s.round.bound S (ask_now s)) (frame time_request_kind S (ask_now s) [])))
@@ -137,9 +139,9 @@ module _ (p : Plan) (s : Session) (d : List ℕ) (w : Polled) (keep : reads.Keep
       go Ended st = absurd (clash (sym (ap is_ended st) ∙ clear (upto 11 (owed_ladder p s S d (length q))) n 14))
 
 -- FROM OPENING, after any calls
-pub read_owes : (p : Plan) (a : Ask) (r : Opened) (d : List ℕ) (cs : List turns.Turn) → OpenCall Read p a r → r.answer ≡ Accepted
+pub read_owes : (p : Plan) (a : Ask) (r : Opened) (d : List ℕ) (cs : List turns.Turn) → OpenCall Read p a r → r.answer ≡ (Ok tt)
     → length d ≡ p.n * record_length p → Octets d → Calls (ReadTurn p) r.session d cs → AllApart p (polled_over p r.session d unpolled cs).rounds
-    → (S : ℕ) (q : List ℕ) (o : Owed) (q₂ : List ℕ) → OwedCall p (last_session r.session cs) S (last_desk d cs) q o q₂
+    → (S : ℕ) (q : List ℕ) (o : Result ℕ Refusal) (q₂ : List ℕ) → OwedCall p (last_session r.session cs) S (last_desk d cs) q o q₂
     → Owes (Commands p (read (family p) (polled_over p r.session d unpolled cs).rounds) S (ask_now (last_session r.session cs)))
     (owed_ladder p (last_session r.session cs) S (last_desk d cs) (length q))
     (in_response_set p (last_session r.session cs).round.stage (polled_over p r.session d unpolled cs) S) (due_of o) q q₂
@@ -177,8 +179,8 @@ module _ (p : Plan) (s : Session) (d : List ℕ) (w : Responses) (keep : writes.
       go Storing st = let k : writes.Stores p s d w = subst (λ (x : Stage). writes.KeepsAt x p s d w) st keep in sym (k.marked.names S)
       go Ended st = absurd (clash (sym (ap is_ended st) ∙ clear (upto 11 (owed_ladder p s S d (length q))) n 14))
 
-pub write_owes : (p : Plan) (a : Ask) (r : Opened) (d : List ℕ) (cs : List turns.Turn) → OpenCall Write p a r → r.answer ≡ Accepted
-    → Calls (WriteTurn p) r.session d cs → (S : ℕ) (q : List ℕ) (o : Owed) (q₂ : List ℕ)
+pub write_owes : (p : Plan) (a : Ask) (r : Opened) (d : List ℕ) (cs : List turns.Turn) → OpenCall Write p a r → r.answer ≡ (Ok tt)
+    → Calls (WriteTurn p) r.session d cs → (S : ℕ) (q : List ℕ) (o : Result ℕ Refusal) (q₂ : List ℕ)
     → OwedCall p (last_session r.session cs) S (last_desk d cs) q o q₂
     → Owes (WriteCommands p (last_session r.session cs).round.stage (timed_over p r.session d untimed cs) S (ask_now (last_session r.session cs)))
     (owed_ladder p (last_session r.session cs) S (last_desk d cs) (length q))

@@ -24,9 +24,7 @@ use Rattle.terms.proofs.Places.{record_length_lem}
 use Rattle.record.proofs.Records.{stamp_at_lem, cross_at}
 use Rattle.rounds.specs.declared.Heard.{Heard}
 use Rattle.rounds.specs.declared.Heard.TheVariants.{Unheard, First, Record}
-use Rattle.rounds.specs.declared.Mark.{Mark}
-use Rattle.rounds.specs.declared.Lead.{Lead}
-use Rattle.rounds.specs.declared.Lead.TheVariants.{Nobody, Node}
+use Rattle.std.proofs.Common.{Option, None, Some}
 use Rattle.rounds.specs.Rounds.{bit_of, heard_count, mark_of, slot_stamp, ahead_of, step_of, lead_of, joins_of, set_of, every, is_unheard}
 use Rattle.report.specs.Triple.{Message, such_that, each, max, In}
 use Rattle.report.specs.Figure3.{of_first_triple}
@@ -34,30 +32,30 @@ use Rattle.report.specs.Ours.{bearing, response_of, responses}
 use Rattle.report.proofs.Lists.{larger_low, larger_high, max_snoc, those_append, each_append, in_append}
 
 -- ---- its size
-count_more : (ms : List Mark) (i : ℕ) → heard_count (take (suc i) ms) ≡ heard_count (take i ms) + bit_of (mark_of ms i)
+count_more : (ms : List Heard) (i : ℕ) → heard_count (take (suc i) ms) ≡ heard_count (take i ms) + bit_of (mark_of ms i)
 unfolding heard_count
 count_more [] zero = refl
 count_more [] (suc i) = refl
 count_more (m ∷ ms) zero = omega arith
-count_more (m ∷ ms) (suc i) = ap (λ (n : ℕ). bit_of m.is + n) (count_more ms i) ∙ omega arith
+count_more (m ∷ ms) (suc i) = ap (λ (n : ℕ). bit_of m + n) (count_more ms i) ∙ omega arith
 
-count_none : (ms : List Mark) → every is_unheard ms ≡ true → heard_count ms ≡ 0
+count_none : (ms : List Heard) → every is_unheard ms ≡ true → heard_count ms ≡ 0
 unfolding heard_count every
 count_none [] e = refl
-count_none (m ∷ ms) e = go m.is e (count_none ms)
+count_none (m ∷ ms) e = go m e (count_none ms)
   where
     go : (h : Heard) → cond (is_unheard h) (every is_unheard ms) false ≡ true → (every is_unheard ms ≡ true → heard_count ms ≡ 0) → bit_of h + heard_count ms ≡ 0
     go Unheard q ih = let e = ih q in omega arith
     go First q ih = absurd (clash (sym q))
     go Record q ih = absurd (clash (sym q))
 
-count_rest : (n : ℕ) (ms : List Mark) → every is_unheard (drop n ms) ≡ true → heard_count (take n ms) ≡ heard_count ms
+count_rest : (n : ℕ) (ms : List Heard) → every is_unheard (drop n ms) ≡ true → heard_count (take n ms) ≡ heard_count ms
 unfolding heard_count
 count_rest zero ms e = sym (count_none ms e)
 count_rest (suc n) [] e = refl
-count_rest (suc n) (m ∷ ms) e = ap (λ (k : ℕ). bit_of m.is + k) (count_rest n ms e)
+count_rest (suc n) (m ∷ ms) e = ap (λ (k : ℕ). bit_of m + k) (count_rest n ms e)
 
-module _ (p : Plan) (ms : List Mark) (d : List ℕ) where
+module _ (p : Plan) (ms : List Heard) (d : List ℕ) where
   length_one : (i : ℕ) (h : Heard) → length (response_of p d i h) ≡ bit_of h
   unfolding response_of
   length_one i Unheard = refl
@@ -82,11 +80,11 @@ module _ (p : Plan) (ms : List Mark) (d : List ℕ) where
   unfolding slot_stamp
   slot_stamp_lem i = stamp_at_lem p d (i * record_length p)
 
-  abbrev lead_stamp : Lead → ℕ
-  lead_stamp Nobody = 0
-  lead_stamp (Node a) = slot_stamp d (slots_of p) a
+  abbrev lead_stamp : Option ℕ → ℕ
+  lead_stamp None = 0
+  lead_stamp (Some a) = slot_stamp d (slots_of p) a
 
-  max_step : (n : ℕ) (l : Lead) (xs : List Message) (h : Heard) → max (stamps_of xs) ≡ lead_stamp l
+  max_step : (n : ℕ) (l : Option ℕ) (xs : List Message) (h : Heard) → max (stamps_of xs) ≡ lead_stamp l
       → max (stamps_of (xs ++ response_of p d n h)) ≡ lead_stamp (step_of d (slots_of p) l n h)
   unfolding response_of step_of each ahead_of
   max_step n l xs Unheard e = ap (λ (k : List Message). max (stamps_of k)) (append-nil xs) ∙ e
@@ -96,11 +94,11 @@ module _ (p : Plan) (ms : List Mark) (d : List ℕ) where
       ap max (each_append (λ (x : Message). x.Response.ts) xs _) ∙ max_snoc (stamps_of xs) (stamp (slot_of p d n))
       ∙ ap₂ larger e (slot_stamp_lem n) ∙ ahead l
     where
-      ahead : (b : Lead) → larger (lead_stamp b) (slot_stamp d (slots_of p) n) ≡ lead_stamp (ahead_of d (slots_of p) b n)
-      ahead Nobody = larger_high 0 (slot_stamp d (slots_of p) n) (omega arith)
-      ahead (Node b) = go (ltb (slot_stamp d (slots_of p) b) (slot_stamp d (slots_of p) n))
+      ahead : (b : Option ℕ) → larger (lead_stamp b) (slot_stamp d (slots_of p) n) ≡ lead_stamp (ahead_of d (slots_of p) b n)
+      ahead None = larger_high 0 (slot_stamp d (slots_of p) n) (omega arith)
+      ahead (Some b) = go (ltb (slot_stamp d (slots_of p) b) (slot_stamp d (slots_of p) n))
         where
-          go : (t : Bool) → cond t (slot_stamp d (slots_of p) n) (slot_stamp d (slots_of p) b) ≡ lead_stamp (cond t (Node n) (Node b))
+          go : (t : Bool) → cond t (slot_stamp d (slots_of p) n) (slot_stamp d (slots_of p) b) ≡ lead_stamp (cond t (Some n) (Some b))
           go true = refl
           go false = refl
 

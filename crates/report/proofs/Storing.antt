@@ -64,10 +64,10 @@ module _ (p : Plan) (d i : List ℕ) (ok : plan_ok p ≡ true) (ld : length d �
     abbrev with_response : Polled
     with_response = record { rounds = w.rounds; now = w.now; stored = frame_node f ∷ w.stored }
 
-    marked_now : Marked (λ (S : ℕ). S) (set s.marks (frame_node f) (record { is = Record })) (acknowledged (frame_node f ∷ w.stored))
+    marked_now : Marked (λ (S : ℕ). S) (set s.marks (frame_node f) Record) (acknowledged (frame_node f ∷ w.stored))
     unfolding is_heard
     marked_now =
-        subst (Marked (λ (S : ℕ). S) (set s.marks (frame_node f) (record { is = Record })))
+        subst (Marked (λ (S : ℕ). S) (set s.marks (frame_node f) Record))
         (sym (put_in (λ (S : ℕ). S) (frame_node f) w.stored (k.marked.names (frame_node f) ∙ u)))
         (marked_more (λ (S : ℕ). S) s.marks (acknowledged w.stored) (frame_node f) (frame_node f) refl (omega (arith, low, k.size))
         (not_heard (mark_of s.marks (frame_node f)) u) k.marked)
@@ -81,7 +81,7 @@ module _ (p : Plan) (d i : List ℕ) (ok : plan_ok p ≡ true) (ld : length d �
             omega (
               arith,
               few,
-              count_set s.marks (frame_node f) (record { is = Record }) (omega (arith, low, k.size)) (not_heard (mark_of s.marks (frame_node f)) u) refl,
+              count_set s.marks (frame_node f) Record (omega (arith, low, k.size)) (not_heard (mark_of s.marks (frame_node f)) u) refl,
             )
 
         go : (t : Bool) → ltb (heard_count (marked_of s (frame_node f) Record).marks) (replies p) ≡ t
@@ -97,7 +97,7 @@ module _ (p : Plan) (d i : List ℕ) (ok : plan_ok p ≡ true) (ld : length d �
                     sends = k.sends;
                     holds = k.holds;
                     rounds = k.rounds;
-                    size = length-set s.marks (frame_node f) (record { is = Record }) ∙ k.size;
+                    size = length-set s.marks (frame_node f) Record ∙ k.size;
                     marked = marked_now;
                     reads = k.reads;
                   });

@@ -3,6 +3,7 @@
 --   write_exchanged read_exchanged   the request and the reply of a write, and of a repair
 --   write_owes_so      the request is what WRITE sends
 -- Assumes nothing.
+use Rattle.std.specs.Prelude.{Ok, Err, Result}
 use Prim.{tt}
 use mathlib.Core.Path.{◌≡◌, refl, sym, subst}
 use mathlib.Core.Bool.{true}
@@ -21,15 +22,10 @@ use Rattle.record.specs.Record.{fragment_hash, hashes_ok, time_zero, prefix_of}
 use Rattle.rounds.specs.Rounds.{heard_count, every}
 use Rattle.book.specs.Records.{timed, rising, some}
 use Rattle.book.specs.Book.{book_head, records_from, header, joined, laid_as, laid_out, headed, filled, good_book}
-use Rattle.node.specs.declared.Answer.TheVariants.{Replied}
-use Rattle.node.specs.declared.Answer.TheVariants as node
-use Rattle.node.specs.declared.Made.TheVariants.{Fresh}
 use Rattle.node.specs.Fresh.{FreshCall, freshened}
 use Rattle.node.specs.Node.{NodeCall, ServedOutcome, served_outcome, served, answered, sends, reply_to, replied, book_reply_ok, time_fails, hash_fails, other_held, no_room}
 use Rattle.standing.specs.Standing.{ask_in, room_ok, round_rules}
-use Rattle.session.specs.declared.Answer.TheVariants.{Refused}
 use Rattle.standing.specs.declared.Operation.TheVariants.{Write, Read}
-use Rattle.session.specs.declared.owed.Owed.TheVariants.{Request}
 use Rattle.session.specs.Session.{ask_now}
 use Rattle.session.specs.Ranges.{standing_rules, open_rules, in_range}
 use Rattle.session.specs.Reply.{is_heard}
@@ -57,7 +53,7 @@ use Rattle.report.proofs.Together.{write_request_taken, write_reply_taken, read_
 pub book : List ℕ
 book = over (laid_out plan 2 []) (replicate (book_head 1 + 137) 0)
 
-made_so : FreshCall plan 2 (replicate (book_head 1 + 137) 0) Fresh book
+made_so : FreshCall plan 2 (replicate (book_head 1 + 137) 0) (Ok tt) book
 unfolding book freshened first plan_ok counts_ok limits_ok column_of all plan
 made_so = record { is = refl }
 
@@ -76,7 +72,7 @@ pub taken : ℕ → ServedOutcome
 taken n = served plan (request n) book (replicate 152 0)
 
 -- ---- the write
-owed_write : OwedCall plan writes.write_round 2 desk_full (replicate 152 0) (Request 152) (request 6)
+owed_write : OwedCall plan writes.write_round 2 desk_full (replicate 152 0) (Ok 152) (request 6)
 unfolding request stamp_bytes hash good desk_full plan owed_to first plan_ok counts_ok limits_ok column_of all record_length room_ok in_range standing_rules round_rules open_rules heard_count every is_heard
     request_of ask_in over num num_from part be be_onto stamp_at
 owed_write = record { is = refl }
@@ -110,7 +106,7 @@ unfolding taken request book stamp_bytes hash good plan served first plan_ok cou
     part be be_onto alike sha256 after compress_of added_of rounds_of round_of T1 T2 schedule_of words padding big_endian K
 taken_so = refl
 
-pub node_met : NodeCall plan (request 6) book (replicate 152 0) (Replied 55) (taken 6).book (taken 6).reply
+pub node_met : NodeCall plan (request 6) book (replicate 152 0) (Ok 55) (taken 6).book (taken 6).reply
 unfolding taken
 node_met = record { is = λ j. served_outcome (sym taken_so j) (taken 6).book (taken 6).reply }
 
@@ -130,18 +126,18 @@ heard_so =
     subst (λ (f : List ℕ). WriteReplyCall plan writes.once_stored f desk_full (7 ∷ []) (writes.call_4).took desk_full) (sym reply_so) writes.met_4
 
 -- the theorems at them
-pub write_exchanged : ((r : Refusal) → Replied 55 ≡ node.Refused r → NoneOf (4 ∷ 5 ∷ 6 ∷ []) r)
-    × ((r : Refusal) → (writes.call_4).took.answer ≡ Refused r → NoneOf (4 ∷ 5 ∷ 6 ∷ 10 ∷ 12 ∷ []) r)
+pub write_exchanged : ((r : Refusal) → ◌≡◌ {A = Result ℕ Refusal} (Ok 55) (Err r) → NoneOf (4 ∷ 5 ∷ 6 ∷ []) r)
+    × ((r : Refusal) → (writes.call_4).took.answer ≡ Err r → NoneOf (4 ∷ 5 ∷ 6 ∷ 10 ∷ 12 ∷ []) r)
 unfolding owed_by_write
 write_exchanged =
     let x = fresh_passes plan 2 book of_calls in (
-      write_request_taken plan 2 (request 6) owed_by_write book (replicate 152 0) x.0 x.1 (Replied 55) (taken 6).book (taken 6).reply node_met,
+      write_request_taken plan 2 (request 6) owed_by_write book (replicate 152 0) x.0 x.1 (Ok 55) (taken 6).book (taken 6).reply node_met,
       write_reply_taken plan 2 (request 6) owed_by_write book (replicate 152 0) of_calls 55 (taken 6).book (taken 6).reply node_met writes.once_stored still_so desk_full (7 ∷ [])
           (writes.call_4).took desk_full heard_so,
     )
 
 -- ---- the read: its repair round owes node 2 the same record, with the next ask number
-owed_repair : OwedCall plan reads.repair_round 2 desk_full (replicate 152 0) (Request 152) (request 7)
+owed_repair : OwedCall plan reads.repair_round 2 desk_full (replicate 152 0) (Ok 152) (request 7)
 unfolding request stamp_bytes hash good desk_good desk_full poor desk_poor plan owed_to first plan_ok counts_ok limits_ok column_of all record_length room_ok in_range standing_rules round_rules open_rules heard_count
     every is_heard request_of ask_in over num num_from part be be_onto stamp_at
 owed_repair = record { is = refl }
@@ -175,7 +171,7 @@ unfolding taken request book stamp_bytes hash good plan served first plan_ok cou
     part be be_onto alike sha256 after compress_of added_of rounds_of round_of T1 T2 schedule_of words padding big_endian K
 repair_taken = refl
 
-repair_met : NodeCall plan (request 7) book (replicate 152 0) (Replied 55) (taken 7).book (taken 7).reply
+repair_met : NodeCall plan (request 7) book (replicate 152 0) (Ok 55) (taken 7).book (taken 7).reply
 unfolding taken
 repair_met = record { is = λ j. served_outcome (sym repair_taken j) (taken 7).book (taken 7).reply }
 
@@ -200,12 +196,12 @@ repair_fits =
     ((reads.calls).0, ((reads.calls).1.0, ((reads.calls).1.1.0, ((reads.calls).1.1.1.0, tt)))) 1 (7 ∷ []) (small_octets (7 ∷ []) reads.seven_small) refl repair_stamp
     (repaired_unlike.0, (repaired_unlike.1.0, (repaired_unlike.1.1.0, (repaired_unlike.1.1.1.0, tt))))
 
-pub read_exchanged : ((r : Refusal) → Replied 55 ≡ node.Refused r → NoneOf (4 ∷ 5 ∷ 6 ∷ []) r)
-    × ((r : Refusal) → (reads.call_6).took.answer ≡ Refused r → NoneOf (4 ∷ 5 ∷ 6 ∷ 10 ∷ 12 ∷ []) r)
+pub read_exchanged : ((r : Refusal) → ◌≡◌ {A = Result ℕ Refusal} (Ok 55) (Err r) → NoneOf (4 ∷ 5 ∷ 6 ∷ []) r)
+    × ((r : Refusal) → (reads.call_6).took.answer ≡ Err r → NoneOf (4 ∷ 5 ∷ 6 ∷ 10 ∷ 12 ∷ []) r)
 unfolding owed_by_read
 read_exchanged =
     let x = fresh_passes plan 2 book of_calls in (
-      read_request_taken plan 2 (request 7) owed_by_read repair_fits book (replicate 152 0) x.0 x.1 (Replied 55) (taken 7).book (taken 7).reply repair_met,
+      read_request_taken plan 2 (request 7) owed_by_read repair_fits book (replicate 152 0) x.0 x.1 (Ok 55) (taken 7).book (taken 7).reply repair_met,
       read_reply_taken plan 2 (request 7) owed_by_read repair_fits book (replicate 152 0) of_calls 55 (taken 7).book (taken 7).reply repair_met reads.once_stored repair_still desk_full (0 ∷ [])
           (reads.call_6).took desk_full (7 ∷ [])
           (subst (λ (f : List ℕ). ReadReplyCall plan reads.once_stored f desk_full (0 ∷ []) (reads.call_6).took desk_full (7 ∷ [])) (sym repair_reply) (reads.calls).1.1.1.1.1.0.1),
@@ -217,4 +213,4 @@ pub write_owes_so : Owes (WriteCommands plan Storing (timed_over plan writes.sta
     (replicate 152 0) (request 6)
 write_owes_so =
     write_owes plan ask writes.opened desk (writes.call_1 ∷ writes.call_2 ∷ []) writes.opened_so refl ((writes.calls).0, ((writes.calls).1.0, tt)) 2 (replicate 152 0)
-    (Request 152) (request 6) owed_write
+    (Ok 152) (request 6) owed_write

@@ -1,6 +1,7 @@
 -- A WHOLE WRITE IS FIGURE 2'S. Over any calls from opening, the write round sends what WRITE sends for the responses of the time round and the
 -- item, done bears WRITE's timestamp, and open says that it has not returned (write_run, opened_write). Each frame that is a response is a turn of
 -- READ_TIMESTAMP's or DO_WRITE's loop, whether the call accepts it or refuses it 11 (response_right). Assumes nothing.
+use Rattle.std.specs.Prelude.{Ok}
 use Prim.{Unit, tt}
 use Prim.Native.Nat.{ℕ, ◌+◌, ◌*◌, ◌^◌, ◌≤◌, ◌<◌}
 use mathlib.Core.Path.{◌≡◌, refl, sym, ap, ◌∙◌, subst}
@@ -36,7 +37,7 @@ use Rattle.record.proofs.Desks.{length_cross, time_made}
 use Rattle.frame.specs.Frame.{frame_node, body_of, good_reply}
 use Rattle.frame.proofs.Frames.{reply_is}
 use Rattle.rounds.specs.declared.Heard.TheVariants.{Unheard, Record}
-use Rattle.rounds.specs.declared.Bound.TheVariants.{Free}
+use Rattle.std.proofs.Common.{None}
 use Rattle.rounds.specs.Rounds.{heard_count, mark_of, unheards}
 use Rattle.rounds.proofs.Laws.{not_heard, count_set}
 use Rattle.clock.specs.Clock.{times_heard, or_more}
@@ -48,7 +49,6 @@ use Rattle.standing.specs.declared.Stage.{Stage}
 use Rattle.standing.specs.declared.Stage.TheVariants.{Asking, Storing, Ended}
 use Rattle.standing.specs.declared.Operation.TheVariants.{Write}
 use Rattle.session.specs.declared.opening.Opened.{Opened}
-use Rattle.session.specs.declared.opening.Opening.TheVariants.{Accepted}
 use Rattle.session.specs.Opening.{OpenCall, fresh_of}
 use Rattle.standing.specs.Standing.{is_read, is_storing, is_ended, replies, lengths_ok}
 use Rattle.session.specs.Session.{marked_of, ended_of, storing_of, refused, still_open, done, clock_spent, said_of}
@@ -289,8 +289,8 @@ module _ (p : Plan) (s : Session) (f d i : List ℕ) (w : Responses) (bytes : Oc
       unfolding is_heard
       unmarked = not_heard (mark_of s.marks node) h
 
-      most : heard_count (set s.marks node (record { is = Record })) ≤ replies p
-      most = omega (arith, few, count_set s.marks node (record { is = Record }) (omega (arith, low, l)) unmarked refl)
+      most : heard_count (set s.marks node Record) ≤ replies p
+      most = omega (arith, few, count_set s.marks node Record (omega (arith, low, l)) unmarked refl)
 
     -- in the time round
     module _ (st : s.round.stage ≡ Asking) (k : Asks p s w) where
@@ -334,9 +334,9 @@ module _ (p : Plan) (s : Session) (f d i : List ℕ) (w : Responses) (bytes : Oc
                 ∙ ap (λ (n : ℕ). cond (leb v (time (body_of f))) 1 0 + n) (k.timed v) ∙ ap (λ (l : List Clock). or_more v (Times l)) (sym e);
             wide = wide_set s.times node _ (time_small f bytes) k.wide;
             places = length-set s.times node (record { 0 = time (body_of f) }) ∙ k.places;
-            marked = subst (Marked (λ (x : Clock). x.S) (set s.marks node (record { is = Record }))) (sym e)
+            marked = subst (Marked (λ (x : Clock). x.S) (set s.marks node Record)) (sym e)
                 (marked_more (λ (x : Clock). x.S) s.marks (clocks w.times) (clock_of f) node refl (omega (arith, low, k.size)) (unmarked h k.size) k.marked);
-            size = length-set s.marks node (record { is = Record }) ∙ k.size;
+            size = length-set s.marks node Record ∙ k.size;
             unstored = k.unstored;
             writes = k.writes;
           }))
@@ -368,10 +368,10 @@ module _ (p : Plan) (s : Session) (f d i : List ℕ) (w : Responses) (bytes : Oc
           (record {
             sends = record { times = k.sends.times; stamp = k.sends.stamp; sends = k.sends.sends };
             at = k.at;
-            marked = subst (Marked (λ (S : ℕ). S) (set s.marks node (record { is = Record })))
+            marked = subst (Marked (λ (S : ℕ). S) (set s.marks node Record))
                 (sym (put_in (λ (S : ℕ). S) node w.stored (k.marked.names node ∙ h)))
                 (marked_more (λ (S : ℕ). S) s.marks (acknowledged w.stored) node node refl (omega (arith, low, k.size)) (unmarked h k.size) k.marked);
-            size = length-set s.marks node (record { is = Record }) ∙ k.size;
+            size = length-set s.marks node Record ∙ k.size;
             writes = k.writes;
           })
           (most h k.size)
@@ -440,16 +440,16 @@ write_run p s d w (c ∷ cs) k r =
     record { tells = (q.wrote, (λ e. sent p c.took.session c.desk_left v e q.keeps), t.tells); keeps = t.keeps }
 
 -- FROM OPENING: nothing was received yet
-pub opened_write_run : (p : Plan) (a : Ask) (r : Opened) (d : List ℕ) (cs : List turns.Turn) → OpenCall Write p a r → r.answer ≡ Accepted
+pub opened_write_run : (p : Plan) (a : Ask) (r : Opened) (d : List ℕ) (cs : List turns.Turn) → OpenCall Write p a r → r.answer ≡ (Ok tt)
     → Calls (WriteTurn p) r.session d cs → Ran p r.session d untimed cs
 opened_write_run p a r d cs call e h = write_run p r.session d untimed cs start h
   where
-    fresh : Keeps p (fresh_of Write 1 Free a) d untimed
+    fresh : Keeps p (fresh_of Write 1 None a) d untimed
     fresh = record { timed = λ v. unfold Times each gathered or_more times_heard in refl; wide = wide_zeros; places = refl; marked = marked_none (λ (x : Clock). x.S); size = refl; unstored = refl; writes = refl }
 
     start : Keeps p r.session d untimed
     start = subst (λ (x : Session). Keeps p x d untimed) (sym (accepted_session Write p a r call e)) fresh
 
-pub opened_write : (p : Plan) (a : Ask) (r : Opened) (d : List ℕ) (cs : List turns.Turn) → OpenCall Write p a r → r.answer ≡ Accepted
+pub opened_write : (p : Plan) (a : Ask) (r : Opened) (d : List ℕ) (cs : List turns.Turn) → OpenCall Write p a r → r.answer ≡ (Ok tt)
     → Calls (WriteTurn p) r.session d cs → EachWrites p r.session d untimed cs
 opened_write p a r d cs call e h = (opened_write_run p a r d cs call e h).tells

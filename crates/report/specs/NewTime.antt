@@ -5,19 +5,18 @@
 --   NearHonest         one of some time replies is of a node that does not lie, and v is at most one above it
 --   AnswersAfter       a time reply is our node's own, from a book in which it had executed a write of this time before
 -- Assumes nothing.
-use Rattle.std.specs.Prelude.{ℕ, ◌+◌, ◌≤◌, ◌≡◌, Bool, true, false, List, ◌∷◌, take}
+use Prim.{tt}
+use Rattle.std.specs.Prelude.{ℕ, ◌+◌, ◌≤◌, ◌≡◌, Bool, true, false, List, ◌∷◌, take, Ok}
 use Rattle.octets.specs.Bytes.{Octets}
 use Rattle.terms.specs.Stamp.{time}
 use Rattle.terms.specs.declared.Ask.{Ask}
 use Rattle.terms.specs.declared.Plan.{Plan}
 use Rattle.frame.specs.Frame.{kind_of, body_of, write_request_kind, time_request_kind}
 use Rattle.book.specs.Book.{good_book, node_of}
-use Rattle.node.specs.declared.Answer.TheVariants.{Replied}
 use Rattle.node.specs.Node.{NodeCall}
 use Rattle.standing.specs.declared.Stage.TheVariants.{Storing}
 use Rattle.standing.specs.declared.Operation.TheVariants.{Write}
 use Rattle.session.specs.declared.opening.Opened.{Opened}
-use Rattle.session.specs.declared.opening.Opening.TheVariants.{Accepted}
 use Rattle.session.specs.Opening.{OpenCall}
 use Rattle.session.specs.Session.{clock_spent}
 use Rattle.store.specs.History.{Call, History, last_book}
@@ -32,7 +31,7 @@ pub record ToWrite (p : Plan) : Type 0 where
   pub ask : Ask
   pub opened : Opened
   pub opens : OpenCall Write p ask opened
-  pub accepted : opened.answer ≡ Accepted
+  pub accepted : opened.answer ≡ (Ok tt)
   pub desk : List ℕ
   pub turns : List Turn
   pub calls : Calls (WriteTurn p) opened.session desk turns
@@ -48,7 +47,7 @@ pub record ToSpent (p : Plan) : Type 0 where
   pub ask : Ask
   pub opened : Opened
   pub opens : OpenCall Write p ask opened
-  pub accepted : opened.answer ≡ Accepted
+  pub accepted : opened.answer ≡ (Ok tt)
   pub desk : List ℕ
   pub first : Turn
   pub rest : List Turn
@@ -78,7 +77,7 @@ pub record AnswersAfter (p : Plan) (written : ℕ) (x : Clock) : Type 0 where
   pub size : ℕ
   pub book_left : List ℕ
   pub room_left : List ℕ
-  pub executed : NodeCall p write book room (Replied size) book_left room_left
+  pub executed : NodeCall p write book room (Ok size) book_left room_left
   pub later : List Call
   pub history : History book_left later
   pub last_bytes : Octets (last_book book_left later)
@@ -88,5 +87,5 @@ pub record AnswersAfter (p : Plan) (written : ℕ) (x : Clock) : Type 0 where
   pub length : ℕ
   pub book_after : List ℕ
   pub buffer_left : List ℕ
-  pub answered : NodeCall p request (last_book book_left later) buffer (Replied length) book_after buffer_left
+  pub answered : NodeCall p request (last_book book_left later) buffer (Ok length) book_after buffer_left
   pub is : clock_of (take length buffer_left) ≡ x

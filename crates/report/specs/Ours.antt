@@ -6,7 +6,7 @@
 --   sending               the desk as the requests of a write round
 --   command_of             a bound as what DO_READ sends
 -- Assumes nothing.
-use Rattle.std.specs.Prelude.{ℕ, zero, suc, ◌+◌, Bool, true, false, cond, List, [], ◌∷◌, ◌++◌, get_or, take, drop, eqb}
+use Rattle.std.specs.Prelude.{ℕ, zero, suc, ◌+◌, Bool, true, false, cond, List, [], ◌∷◌, ◌++◌, get_or, take, drop, eqb, Option, None, Some}
 use Rattle.octets.specs.Bytes.{num, be}
 use Rattle.sha256.specs.Sha256.{sha256}
 use Rattle.fragments.specs.Fragments.{among, tabulate, value, fragment}
@@ -22,9 +22,7 @@ use Rattle.record.specs.Desk.{slot_of}
 use Rattle.book.specs.Book.{records_of}
 use Rattle.rounds.specs.declared.Heard.{Heard}
 use Rattle.rounds.specs.declared.Heard.TheVariants.{Unheard, First, Record}
-use Rattle.rounds.specs.declared.Mark.{Mark}
-use Rattle.rounds.specs.declared.Bound.{Bound}
-use Rattle.rounds.specs.declared.Bound.TheVariants.{Free, Under}
+use Rattle.terms.specs.declared.Timestamp.{Timestamp}
 use Rattle.rounds.specs.Rounds.{mark_of}
 use Rattle.clock.specs.Clock.{kth_greatest}
 use Rattle.report.specs.Triple.{Triple, Message, null, each, max, up_to, strung, Family}
@@ -116,13 +114,13 @@ response_of p d i First = record { S = i; Response = initial } ∷ []
 response_of p d i Record = bearing p d i ∷ []
 
 -- of the first n nodes
-unfoldable pub responses : Plan → List Mark → List ℕ → ℕ → List Message
+unfoldable pub responses : Plan → List Heard → List ℕ → ℕ → List Message
 responses p ms d zero = []
 responses p ms d (suc i) = responses p ms d i ++ response_of p d i (mark_of ms i)
 
 abbrev pub sending : Plan → List ℕ → List Message
 sending p d = up_to (bearing p d) p.n
 
-abbrev pub command_of : Bound → Command
-command_of Free = read_latest
-command_of (Under u) = read_previous (stamp_number u)
+abbrev pub command_of : Option Timestamp → Command
+command_of None = read_latest
+command_of (Some u) = read_previous (stamp_number u)

@@ -5,7 +5,8 @@
 --   StillAsks          the session that asked, or what hearing nodes leaves of it while the same round is open: marks and times may be others
 --   NoneOf             a refusal is none of some numbers
 -- Assumes nothing.
-use Rattle.std.specs.Prelude.{ℕ, ◌*◌, ◌≡◌, true, false, List, length, take}
+use Prim.{tt}
+use Rattle.std.specs.Prelude.{ℕ, ◌*◌, ◌≡◌, true, false, List, length, take, Ok}
 use Rattle.octets.specs.Bytes.{Octets}
 use Rattle.terms.specs.Terms.{record_length, refusal_number}
 use Rattle.terms.specs.declared.Ask.{Ask}
@@ -19,8 +20,6 @@ use Rattle.standing.specs.Standing.{is_storing}
 use Rattle.session.specs.declared.Session.{Session}
 use Rattle.standing.specs.declared.Operation.{Operation}
 use Rattle.session.specs.declared.opening.Opened.{Opened}
-use Rattle.session.specs.declared.opening.Opening.TheVariants.{Accepted}
-use Rattle.session.specs.declared.owed.Owed.TheVariants.{Request}
 use Rattle.session.specs.Opening.{OpenCall}
 use Rattle.session.specs.Owed.{OwedCall}
 use Rattle.client.specs.Sessions.{last_session, last_desk}
@@ -31,7 +30,7 @@ pub record OwedBy (op : Operation) (Met : Session → List ℕ → Turn → Type
   pub ask : Ask
   pub opened : Opened
   pub opens : OpenCall op p ask opened
-  pub accepted : opened.answer ≡ Accepted
+  pub accepted : opened.answer ≡ (Ok tt)
   pub desk : List ℕ
   pub long : length desk ≡ p.n * record_length p
   pub bytes : Octets desk
@@ -40,7 +39,7 @@ pub record OwedBy (op : Operation) (Met : Session → List ℕ → Turn → Type
   pub buffer : List ℕ
   pub size : ℕ
   pub left : List ℕ
-  pub owed : OwedCall p (last_session opened.session turns) S (last_desk desk turns) buffer (Request size) left
+  pub owed : OwedCall p (last_session opened.session turns) S (last_desk desk turns) buffer (Ok size) left
   pub is : f ≡ take size left
 
 abbrev pub asker : {op : Operation} {Met : Session → List ℕ → Turn → Type 0} {p : Plan} {S : ℕ} {f : List ℕ} → OwedBy op Met p S f → Session

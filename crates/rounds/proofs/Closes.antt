@@ -25,9 +25,7 @@ use Rattle.terms.specs.Terms.{class_of, verdict_of, unsure, decided, slot_at}
 use Rattle.terms.specs.declared.Slots.{Slots}
 use Rattle.rounds.specs.declared.Heard.{Heard}
 use Rattle.rounds.specs.declared.Heard.TheVariants.{Unheard, First, Record}
-use Rattle.rounds.specs.declared.Mark.{Mark}
-use Rattle.rounds.specs.declared.Lead.{Lead}
-use Rattle.rounds.specs.declared.Lead.TheVariants.{Nobody, Node}
+use Rattle.std.proofs.Common.{Option, None, Some}
 use Rattle.rounds.specs.Rounds.{slot_stamp, mark_of, ahead_of, step_of, lead_of, LeadIn, joins_of, set_of}
 use Rattle.rounds.specs.Closes.{Best, Rising, Members}
 use Rattle.rounds.proofs.Laws.{lead_in}
@@ -37,11 +35,11 @@ nonsense z = absurd (omega arith)
 
 -- ---- the candidate
 -- the first triple is the candidate only where no node is marked record; else it is the best
-abbrev pub Leads : List Mark → List ℕ → Slots → ℕ → Lead → Type 0
-Leads ms d slots n Nobody = (i : ℕ) → i < n → mark_of ms i ≡ Record → ⊥
-Leads ms d slots n (Node a) = Best ms d slots n a
+abbrev pub Leads : List Heard → List ℕ → Slots → ℕ → Option ℕ → Type 0
+Leads ms d slots n None = (i : ℕ) → i < n → mark_of ms i ≡ Record → ⊥
+Leads ms d slots n (Some a) = Best ms d slots n a
 
-module _ (ms : List Mark) (d : List ℕ) (slots : Slots) (n : ℕ) where
+module _ (ms : List Heard) (d : List ℕ) (slots : Slots) (n : ℕ) where
   at_most : {P : ℕ → Type 0} → ((i : ℕ) → i < n → P i) → P n → (i : ℕ) → i < suc n → P i
   at_most {P} f p i h = go (ℕ_discrete i n)
     where
@@ -50,26 +48,26 @@ module _ (ms : List Mark) (d : List ℕ) (slots : Slots) (n : ℕ) where
       go (no e) = f i (omega arith)
 
   -- a node that is no record changes nothing
-  same : (l : Lead) → (mark_of ms n ≡ Record → ⊥) → Leads ms d slots n l → Leads ms d slots (suc n) l
-  same Nobody off k = at_most {P = λ (i : ℕ). mark_of ms i ≡ Record → ⊥} k off
-  same (Node a) off k =
+  same : (l : Option ℕ) → (mark_of ms n ≡ Record → ⊥) → Leads ms d slots n l → Leads ms d slots (suc n) l
+  same None off k = at_most {P = λ (i : ℕ). mark_of ms i ≡ Record → ⊥} k off
+  same (Some a) off k =
       record {
         marked = k.marked;
         greatest = at_most {P = λ (i : ℕ). mark_of ms i ≡ Record → slot_stamp d slots i ≤ slot_stamp d slots a} k.greatest (λ e. absurd (off e));
         lowest = k.lowest;
       }
 
-  taken : (l : Lead) → mark_of ms n ≡ Record → LeadIn l n → Leads ms d slots n l → Leads ms d slots (suc n) (ahead_of d slots l n)
-  taken Nobody m b k =
+  taken : (l : Option ℕ) → mark_of ms n ≡ Record → LeadIn l n → Leads ms d slots n l → Leads ms d slots (suc n) (ahead_of d slots l n)
+  taken None m b k =
       unfold ahead_of in
       record {
         marked = m;
         greatest = at_most {P = λ (i : ℕ). mark_of ms i ≡ Record → slot_stamp d slots i ≤ slot_stamp d slots n} (λ i h e. absurd (k i h e)) (λ e. omega arith);
         lowest = λ i h e. absurd (k i h e);
       }
-  taken (Node a) m b k = unfold ahead_of in go (ltb (slot_stamp d slots a) (slot_stamp d slots n)) refl
+  taken (Some a) m b k = unfold ahead_of in go (ltb (slot_stamp d slots a) (slot_stamp d slots n)) refl
     where
-      go : (t : Bool) → ltb (slot_stamp d slots a) (slot_stamp d slots n) ≡ t → Leads ms d slots (suc n) (cond t (Node n) (Node a))
+      go : (t : Bool) → ltb (slot_stamp d slots a) (slot_stamp d slots n) ≡ t → Leads ms d slots (suc n) (cond t (Some n) (Some a))
       go true e =
           let h = ltb-true (slot_stamp d slots a) (slot_stamp d slots n) e in
           record {
@@ -85,22 +83,22 @@ module _ (ms : List Mark) (d : List ℕ) (slots : Slots) (n : ℕ) where
             lowest = k.lowest;
           }
 
-  step_leads : (l : Lead) (m : Heard) → mark_of ms n ≡ m → LeadIn l n → Leads ms d slots n l → Leads ms d slots (suc n) (step_of d slots l n m)
+  step_leads : (l : Option ℕ) (m : Heard) → mark_of ms n ≡ m → LeadIn l n → Leads ms d slots n l → Leads ms d slots (suc n) (step_of d slots l n m)
   step_leads l Record e b k = unfold step_of in taken l e b k
   step_leads l First e b k = unfold step_of in same l (λ q. nonsense (let z : ◌≡◌ {A = ℕ} 0 1 = cc in z)) k
   step_leads l Unheard e b k = unfold step_of in same l (λ q. nonsense (let z : ◌≡◌ {A = ℕ} 0 1 = cc in z)) k
 
-pub leads : (ms : List Mark) (d : List ℕ) (slots : Slots) (n : ℕ) → Leads ms d slots n (lead_of ms d slots n)
+pub leads : (ms : List Heard) (d : List ℕ) (slots : Slots) (n : ℕ) → Leads ms d slots n (lead_of ms d slots n)
 unfolding lead_of
 leads ms d slots zero = λ i h e. absurd (omega arith)
 leads ms d slots (suc n) = step_leads ms d slots n (lead_of ms d slots n) (mark_of ms n) refl (lead_in ms d slots n) (leads ms d slots n)
 
 -- THE CANDIDATE IS THE GREATEST TIMESTAMP HEARD, at its lowest-numbered node
-pub candidate : (ms : List Mark) (d : List ℕ) (slots : Slots) (n a : ℕ) → lead_of ms d slots n ≡ Node a → Best ms d slots n a
+pub candidate : (ms : List Heard) (d : List ℕ) (slots : Slots) (n a : ℕ) → lead_of ms d slots n ≡ Some a → Best ms d slots n a
 candidate ms d slots n a e = subst (Leads ms d slots n) e (leads ms d slots n)
 
 -- the first triple is the candidate only where no node is marked record
-pub no_candidate : (ms : List Mark) (d : List ℕ) (slots : Slots) (n : ℕ) → lead_of ms d slots n ≡ Nobody → (i : ℕ) → i < n → mark_of ms i ≡ Record → ⊥
+pub no_candidate : (ms : List Heard) (d : List ℕ) (slots : Slots) (n : ℕ) → lead_of ms d slots n ≡ None → (i : ℕ) → i < n → mark_of ms i ≡ Record → ⊥
 no_candidate ms d slots n e = subst (Leads ms d slots n) e (leads ms d slots n)
 
 -- ---- the set
@@ -141,7 +139,7 @@ all_more [] i b = tt
 all_more (x ∷ l) i b = (omega arith, all_more l i b.1)
 
 -- THE SET IS RISING, BELOW n, and its nodes are exactly those that bear the candidate's timestamp and cross checksum
-pub members_are : (ms : List Mark) (d : List ℕ) (slots : Slots) (a n : ℕ) → Members d slots a n ms (set_of ms d slots a n)
+pub members_are : (ms : List Heard) (d : List ℕ) (slots : Slots) (a n : ℕ) → Members d slots a n ms (set_of ms d slots a n)
 unfolding set_of
 members_are ms d slots a zero = record { few = omega arith; below = tt; rises = tt; joined = tt; all = λ y l e. absurd (omega arith) }
 members_are ms d slots a (suc n) = go (joins_of d slots a n (mark_of ms n)) refl (members_are ms d slots a n)
@@ -175,7 +173,7 @@ pub record Headed (a : ℕ) (l : List ℕ) : Type 0 where
   pub rest : List ℕ
   pub is : l ≡ a ∷ rest
 
-module _ (ms : List Mark) (d : List ℕ) (slots : Slots) (a n : ℕ) (wide : 40 ≤ slots.head) (best : Best ms d slots n a) where
+module _ (ms : List Heard) (d : List ℕ) (slots : Slots) (a n : ℕ) (wide : 40 ≤ slots.head) (best : Best ms d slots n a) where
   -- heads that are alike bear one timestamp
   stamp_part : (i : ℕ) → part (part d (slot_at slots i) slots.head) 0 40 ≡ part d (slot_at slots i) 40
   stamp_part i = let z : slot_at slots i + 0 ≡ slot_at slots i = omega arith in part_part d (slot_at slots i) slots.head 0 40 wide ∙ ap (λ (y : ℕ). part d y 40) z

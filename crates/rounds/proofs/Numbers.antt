@@ -13,7 +13,6 @@ use Rattle.terms.specs.declared.Slots.{Slots}
 use Rattle.terms.proofs.Rungs.{both, clash}
 use Rattle.rounds.specs.declared.Heard.{Heard}
 use Rattle.rounds.specs.declared.Heard.TheVariants.{Unheard, First, Record}
-use Rattle.rounds.specs.declared.Mark.{Mark}
 use Rattle.rounds.specs.Rounds.{bit_of, heard_count, heard_at, mark_of, unheard, every, is_unheard, rest_unheard, joins_of, set_of}
 use Rattle.rounds.specs.Numbers.{number_of}
 use Rattle.rounds.proofs.Laws.{count_turn}
@@ -121,7 +120,7 @@ one_heard Unheard = refl
 one_heard First = refl
 one_heard Record = refl
 
-heard_first : (ms : List Mark) (i : ℕ) → i ≤ length ms → number_of (heard_at ms) i ≡ heard_count (take i ms)
+heard_first : (ms : List Heard) (i : ℕ) → i ≤ length ms → number_of (heard_at ms) i ≡ heard_count (take i ms)
 unfolding number_of heard_count
 heard_first ms zero l = refl
 heard_first ms (suc i) l =
@@ -130,30 +129,30 @@ heard_first ms (suc i) l =
     let s : heard_count (take (i + 1) ms) ≡ heard_count (take (suc i) ms) = ap (λ (k : ℕ). heard_count (take k ms)) z in
     omega (arith, c, s)
 
-count_append : (a b : List Mark) → heard_count (a ++ b) ≡ heard_count a + heard_count b
+count_append : (a b : List Heard) → heard_count (a ++ b) ≡ heard_count a + heard_count b
 unfolding heard_count
 count_append [] b = omega arith
 count_append (m ∷ a) b = omega (arith, count_append a b)
 
-count_unheard : (l : List Mark) → every is_unheard l ≡ true → heard_count l ≡ 0
+count_unheard : (l : List Heard) → every is_unheard l ≡ true → heard_count l ≡ 0
 unfolding heard_count every
 count_unheard [] e = refl
 count_unheard (m ∷ l) e =
-    let q = both (is_unheard m.is) _ e in
-    omega (arith, count_unheard l q.1, none m.is q.0)
+    let q = both (is_unheard m) _ e in
+    omega (arith, count_unheard l q.1, none m q.0)
   where
     none : (h : Heard) → is_unheard h ≡ true → bit_of h ≡ 0
     none Unheard e = refl
     none First e = absurd (clash (sym e))
     none Record e = absurd (clash (sym e))
 
-pub heard_number : (ms : List Mark) (n : ℕ) → n ≤ length ms → rest_unheard ms n ≡ true → number_of (heard_at ms) n ≡ heard_count ms
+pub heard_number : (ms : List Heard) (n : ℕ) → n ≤ length ms → rest_unheard ms n ≡ true → number_of (heard_at ms) n ≡ heard_count ms
 heard_number ms n l e =
     let c : heard_count (take n ms ++ drop n ms) ≡ heard_count ms = ap heard_count (take-append-drop n ms) in
     omega (arith, c, count_append (take n ms) (drop n ms), count_unheard (drop n ms) e, heard_first ms n l)
 
 -- ---- the nodes of a set
-pub set_number : (ms : List Mark) (d : List ℕ) (slots : Slots) (a n : ℕ) → length (set_of ms d slots a n) ≡ number_of (λ (k : ℕ). joins_of d slots a k (mark_of ms k)) n
+pub set_number : (ms : List Heard) (d : List ℕ) (slots : Slots) (a n : ℕ) → length (set_of ms d slots a n) ≡ number_of (λ (k : ℕ). joins_of d slots a k (mark_of ms k)) n
 unfolding number_of set_of
 set_number ms d slots a zero = refl
 set_number ms d slots a (suc n) = go (joins_of d slots a n (mark_of ms n)) (set_number ms d slots a n)

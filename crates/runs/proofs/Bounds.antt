@@ -9,9 +9,9 @@ use Rattle.terms.specs.Ladder.{None}
 use Rattle.terms.specs.declared.Plan.{Plan}
 use Rattle.terms.proofs.Ladders as ladders
 use Rattle.node.specs.Node.{served}
-use Rattle.runs.specs.declared.Ran.TheVariants.{Did}
+use Rattle.std.specs.Prelude.{Ok}
 use Rattle.runs.specs.Cuts.{cut_run}
-use Rattle.runs.specs.Runs.{refused, did, RunOutcome, run_outcome, singly, run_ladder, run_of, ran_over, RunCall}
+use Rattle.runs.specs.Runs.{ran_of, refused, did, RunOutcome, run_outcome, singly, run_ladder, run_of, ran_over, RunCall}
 use Rattle.runs.proofs.Unique.{not_did}
 
 over_long : (new old : List ℕ) → length new ≤ length (over new old)
@@ -24,7 +24,7 @@ unfolding singly
 as_many p [] b y = refl
 as_many p (f ∷ fs) b y = ap suc (as_many p fs (served p f b y).book y)
 
-module _ (p : Plan) (s b y z : List ℕ) (n w e : ℕ) (b₂ y₂ z₂ : List ℕ) (c : RunCall p s b y z (Did n w e) b₂ y₂ z₂) where
+module _ (p : Plan) (s b y z : List ℕ) (n w e : ℕ) (b₂ y₂ z₂ : List ℕ) (c : RunCall p s b y z (Ok (ran_of n w e)) b₂ y₂ z₂) where
   -- none of its refusals applies, and its outcome is its frames'
   pub ran_is : None (run_ladder p s b y z) × (run_outcome (did n w e) b₂ y₂ z₂ ≡ run_of p s b y z)
   unfolding ran_over

@@ -18,6 +18,8 @@ use Rattle.node.specs.Node.{ServedOutcome, served}
 use Rattle.runs.specs.Cuts.{cut_run}
 use Rattle.runs.specs.Runs.{number_said, length_said, reply_in, singly, room_for, run_ladder, refused, did, said_ran, run_outcome, run_of, ran_over, RunCall}
 use Rattle.runs.specs.declared.Ran.{Ran}
+use Rattle.std.specs.Prelude.{Result}
+use Rattle.terms.specs.declared.Refusal.{Refusal}
 use Rattle.runs.specs.Inside.{State, state, taken, ran, TookAll}
 use Rattle.runs.proofs.Runs.{room_is}
 use Rattle.runs.proofs.Short.{Short, served_short, Alike, served_alike, served_over}
@@ -140,7 +142,7 @@ all_done p s b y z n out ended b₂ y₂ z₂ r en ee t =
     (λ i. run_outcome (did (en i) out (ee i)) b₂ y₂ z₂)
     ∙ ap (λ (u : State). run_outcome (did (length (cut_run s).frames) u.out (cut_run s).ended) u.book u.reply u.numbers) e
 
-pub called : (p : Plan) (s b y z : List ℕ) (a : Ran) (b₂ y₂ z₂ : List ℕ)
+pub called : (p : Plan) (s b y z : List ℕ) (a : Result Ran Refusal) (b₂ y₂ z₂ : List ℕ)
     → run_outcome (said_ran a) b₂ y₂ z₂ ≡ first (run_ladder p s b y z) (λ (k : ℕ). run_outcome (refused k) b y z) (run_of p s b y z) → RunCall p s b y z a b₂ y₂ z₂
 unfolding ran_over
 called p s b y z a b₂ y₂ z₂ e = record { is = e }

@@ -1,4 +1,6 @@
 -- Laws of a run of frames. Assumes nothing.
+use Rattle.terms.specs.declared.Refusal.{Refusal}
+use Rattle.std.specs.Prelude.{Result}
 use mathlib.Core.Path.{◌≡◌, refl, sym, ap, ◌∙◌, subst}
 use mathlib.Core.Bool.{Bool, true, false}
 use mathlib.Core.List.{List, [], ◌∷◌, ◌++◌}
@@ -18,7 +20,6 @@ use Rattle.frame.specs.Frame.{longest}
 use Rattle.book.specs.declared.Book.{Book}
 use Rattle.book.specs.Book.{book_in, book_lent, Sound}
 use Rattle.book.proofs.Laws as books
-use Rattle.node.specs.declared.Answer.{Answer}
 use Rattle.node.specs.Node.{NodeCall, said_served, ServedOutcome, served_outcome, served, book_reply_ok}
 use Rattle.node.specs.Inside.{Open}
 use Rattle.store.proofs.Kept.{StaysGood, served_stays}
@@ -69,7 +70,7 @@ module _ {p : Plan} {b y : List ℕ} {out room : ℕ} (m : ℕ) (r : Ready p b y
       let g = r.book in
       record { plan = g.plan; lengths = lengths; book = record { is = ek; good = g.good; laid = g.laid; small = small } }
 
-  pub took : {f z : List ℕ} {k : ℕ} {a : Answer} {b₂ w : List ℕ} {v n : ℕ} → k < length z → NodeCall p f b (take m (drop out y)) a b₂ w → length w ≡ m
+  pub took : {f z : List ℕ} {k : ℕ} {a : (Result ℕ Refusal)} {b₂ w : List ℕ} {v n : ℕ} → k < length z → NodeCall p f b (take m (drop out y)) a b₂ w → length w ≡ m
       → v ≡ number_said (said_served a) → n ≡ length_said (said_served a) → Took p f b y out z k n b₂ (take out y ++ (w ++ drop m (drop out y))) (set z k v)
   unfolding taken put part
   took {f} {z} {k} {a} {b₂} {w} {v} {n} g c lw ev en =

@@ -4,12 +4,12 @@
 --   Left, left, before     what some frames leave: the book, the replies end to end, the numbers; one frame before others
 --   singly                 the frames, each by the single call, in order
 --   room_for, run_ladder     "Refusals: 21, not 2, for under R+15 reply bytes or one number place per frame cut, after 2 and before 3"
---   SaidRan, said_ran       an answer in the papers' terms: a refusal's number; or frames cut, bytes of replies written, place where the run ended
+--   ran_of SaidRan, said_ran an answer in the papers' terms: a refusal's number; or frames cut, bytes of replies written, place where the run ended
 --   RunOutcome, run_outcome the answer, the book, the reply buffer and the number places as a run leaves them
 --   run_of                  a run that is not refused
 --   ran_over, RunCall       the call, and its contract
 -- Assumes nothing.
-use Rattle.std.specs.Prelude.{ℕ, ◌*◌, ◌≡◌, Bool, not, List, [], ◌∷◌, ◌++◌, length, take, leb}
+use Rattle.std.specs.Prelude.{ℕ, ◌*◌, ◌≡◌, Bool, not, List, [], ◌∷◌, ◌++◌, length, take, leb, Result, Ok, Err}
 use Rattle.octets.specs.Bytes.{over}
 use Rattle.terms.specs.Ladder.{Rung, on, first, ◌and◌}
 use Rattle.terms.specs.Terms.{plan_ok, refusal_number}
@@ -20,7 +20,7 @@ use Rattle.node.specs.Node as node
 use Rattle.node.specs.Node.{SaidServed, ServedOutcome, served}
 use Rattle.runs.specs.Cuts.{Cutting, cut_run}
 use Rattle.runs.specs.declared.Ran.{Ran}
-use Rattle.runs.specs.declared.Ran.TheVariants as answers
+use Rattle.terms.specs.declared.Refusal.{Refusal}
 
 -- "one number a frame, 0 if accepted"
 abbrev pub number_said : SaidServed → ℕ
@@ -69,9 +69,12 @@ pub data SaidRan : Type 0 where
   refused : ℕ → SaidRan
   did : ℕ → ℕ → ℕ → SaidRan
 
-abbrev pub said_ran : Ran → SaidRan
-said_ran (answers.Refused r) = refused (refusal_number r)
-said_ran (answers.Did frames written ended) = did frames written ended
+abbrev pub ran_of : ℕ → ℕ → ℕ → Ran
+ran_of frames written ended = record { frames = frames; written = written; ended = ended }
+
+abbrev pub said_ran : Result Ran Refusal → SaidRan
+said_ran (Err r) = refused (refusal_number r)
+said_ran (Ok x) = did x.frames x.written x.ended
 
 pub record RunOutcome : Type 0 where
   pub answer : SaidRan
@@ -94,5 +97,5 @@ unfoldable pub ran_over : Plan → List ℕ → List ℕ → List ℕ → List �
 ran_over p s b y z = first (run_ladder p s b y z) (λ (k : ℕ). run_outcome (refused k) b y z) (run_of p s b y z)
 
 -- the contract of the call: its inputs, then its outcome
-pub record RunCall (p : Plan) (s b y z : List ℕ) (a : Ran) (b₂ y₂ z₂ : List ℕ) : Type 0 where
+pub record RunCall (p : Plan) (s b y z : List ℕ) (a : Result Ran Refusal) (b₂ y₂ z₂ : List ℕ) : Type 0 where
   pub is : run_outcome (said_ran a) b₂ y₂ z₂ ≡ ran_over p s b y z

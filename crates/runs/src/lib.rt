@@ -9,10 +9,7 @@ ghost use Rattle.runs.specs.Cuts.{next_place, cut_run};
 ghost use Rattle.runs.specs.Runs.{number_said, length_said, room_for, RunCall};
 ghost use Rattle.runs.specs.Inside.{Ready, Took, Fit, TookAll};
 
-use book::Shape;
-use frame::Cut;
-use node::Answer;
-use terms::{Plan, Refusal};
+use terms::{Accepted, Plan, Refusal};
 
 // "Walked through by a reader that holds the run and its place."
 #[derive(Clone, Copy)]
@@ -21,15 +18,16 @@ pub struct Reader<'a> {
     pub at: usize,
 }
 
-// What a run is answered: a refusal; or frames cut, bytes of replies written, place where the run ended.
-#[derive(Clone, Copy)]
-pub enum Ran {
-    Refused(Refusal),
-    Did(usize, usize, usize),
+// What a run came to: frames cut, bytes of replies written, place where the run ended.
+#[derive(Clone, Copy, PartialEq, Eq)]
+pub struct Ran {
+    pub frames: usize,
+    pub written: usize,
+    pub ended: usize,
 }
 
 // How many frames a run has, and where it ends.
-#[derive(Clone, Copy)]
+#[derive(Clone, Copy, PartialEq, Eq)]
 pub struct Counted {
     pub frames: usize,
     pub ended: usize,
@@ -39,11 +37,7 @@ pub struct Counted {
 pub fn place_after(run: &[u8], at: usize) -> usize
     ensures { result ≡ next_place run.now at }
 {
-    let c = frame::cut_at(run, at);
-    match c {
-        Cut::EndsAt(e) => e,
-        Cut::NoFrame => at,
-    }
+    frame::cut_at(run, at).unwrap_or(at)
 }
 
 // A reader of a run, at a place.
@@ -85,28 +79,25 @@ pub fn count(run: &[u8]) -> Counted
 }
 
 // One number a frame, 0 if accepted.
-fn number_of(a: Answer) -> u8
+fn number_of(a: Result<usize, Refusal>) -> u8
     ensures { result ≡ number_said (said_served a) }
 {
     match a {
-        Answer::Refused(r) => r.number() as u8,
-        Answer::Replied(_) => 0,
+        Err(r) => r.number() as u8,
+        Ok(_) => 0,
     }
 }
 
 // The bytes that a frame adds to the replies.
-fn length_of(a: Answer) -> usize
+fn length_of(a: Result<usize, Refusal>) -> usize
     ensures { result ≡ length_said (said_served a) }
 {
-    match a {
-        Answer::Refused(_) => 0,
-        Answer::Replied(n) => n,
-    }
+    a.unwrap_or(0)
 }
 
 // One frame of a run: the single call on it, lent the room of one reply past the replies so far, and its number.
 fn take_one(
-    p: Plan,
+    p: Accepted,
     room: usize,
     f: &[u8],
     book: &mut [u8],
@@ -115,8 +106,8 @@ fn take_one(
     numbers: &mut [u8],
     k: usize,
 ) -> usize
-    requires { Ready p book.old reply.old out room × (k < length numbers.old) }
-    ensures { Took p f.now book.old reply.old out numbers.old k result book.new reply.new numbers.new }
+    requires { Ready p.plan book.old reply.old out room × (k < length numbers.old) }
+    ensures { Took p.plan f.now book.old reply.old out numbers.old k result book.new reply.new numbers.new }
 {
     let h = book::header_of(p, book);
     let a = node::serve_at(p, h, f, book, &mut reply[out..out + room]);
@@ -125,9 +116,9 @@ fn take_one(
 }
 
 // Every frame of a run, in order.
-fn take_all(p: Plan, run: &[u8], book: &mut [u8], reply: &mut [u8], numbers: &mut [u8]) -> usize
-    requires { Fit p run.now book.old reply.old numbers.old }
-    ensures { TookAll p run.now book.old reply.old numbers.old result book.new reply.new numbers.new }
+fn take_all(p: Accepted, run: &[u8], book: &mut [u8], reply: &mut [u8], numbers: &mut [u8]) -> usize
+    requires { Fit p.plan run.now book.old reply.old numbers.old }
+    ensures { TookAll p.plan run.now book.old reply.old numbers.old result book.new reply.new numbers.new }
 {
     let room = frame::longest(1, p);
     let mut at = 0;
@@ -145,9 +136,8 @@ fn take_all(p: Plan, run: &[u8], book: &mut [u8], reply: &mut [u8], numbers: &mu
 }
 
 // 21: R+15 reply bytes and one number place for each frame cut.
-fn room_for(p: Plan, frames: usize, reply: usize, numbers: usize) -> bool
-    requires { plan_ok p ≡ true }
-    ensures { result ≡ room_for p frames reply numbers }
+fn room_for(p: Accepted, frames: usize, reply: usize, numbers: usize) -> bool
+    ensures { result ≡ room_for p.plan frames reply numbers }
 {
     // by division: the product may be above 2^64
     let most = reply / frame::longest(1, p);
@@ -158,25 +148,33 @@ fn room_for(p: Plan, frames: usize, reply: usize, numbers: usize) -> bool
 }
 
 // A whole evening's frames in one call.
-pub fn serve_run(p: Plan, run: &[u8], book: &mut [u8], reply: &mut [u8], numbers: &mut [u8]) -> Ran
+pub fn serve_run(
+    p: Plan,
+    run: &[u8],
+    book: &mut [u8],
+    reply: &mut [u8],
+    numbers: &mut [u8],
+) -> Result<Ran, Refusal>
     ensures { RunCall p run.now book.old reply.old numbers.old result book.new reply.new numbers.new }
 {
     if !terms::plan_ok(p) {
-        return Ran::Refused(Refusal::OutsidePlan);
+        return Err(Refusal::OutsidePlan);
     }
+    let accepted = Accepted { plan: p };
     if !book::lent(book.len()) {
-        return Ran::Refused(Refusal::WrongLength);
+        return Err(Refusal::WrongLength);
     }
     let c = count(run);
-    if !room_for(p, c.frames, reply.len(), numbers.len()) {
-        return Ran::Refused(Refusal::ShortForRun);
+    if !room_for(accepted, c.frames, reply.len(), numbers.len()) {
+        return Err(Refusal::ShortForRun);
     }
-    let shape = book::good(p, book);
-    match shape {
-        Shape::Bad => Ran::Refused(Refusal::WrongBook),
-        Shape::Good(_) => {
-            let written = take_all(p, run, book, reply, numbers);
-            Ran::Did(c.frames, written, c.ended)
-        }
-    }
+    let Some(_) = book::good(accepted, book) else {
+        return Err(Refusal::WrongBook);
+    };
+    let written = take_all(accepted, run, book, reply, numbers);
+    Ok(Ran {
+        frames: c.frames,
+        written: written,
+        ended: c.ended,
+    })
 }

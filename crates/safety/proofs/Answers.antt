@@ -3,6 +3,8 @@
 --   wrote_ask          a reply that a call wrote has the ask number of its request
 --   late_answers       a node that executed a record early answers each late read, without a bound or below one above it, with that record or a greater one
 -- Assumes nothing.
+use Rattle.terms.specs.declared.Refusal.{Refusal}
+use Rattle.std.specs.Prelude.{Result, Ok}
 use Prim.Native.Nat.{ℕ, ◌+◌, ◌≤◌}
 use mathlib.Core.Path.{◌≡◌, refl, sym, ap, ◌∙◌, subst}
 use mathlib.Core.Bool.{true}
@@ -17,8 +19,6 @@ use Rattle.terms.specs.declared.Plan.{Plan}
 use Rattle.frame.specs.Frame.{kind_of, version_of, ask_of, header_in, frame_of, framed, replying, read_reply_kind}
 use Rattle.frame.proofs.Built as built
 use Rattle.book.specs.Book.{good_book, node_of}
-use Rattle.node.specs.declared.Answer.{Answer}
-use Rattle.node.specs.declared.Answer.TheVariants.{Replied}
 use Rattle.node.specs.Node.{NodeCall}
 use Rattle.session.specs.Reply.{bears}
 use Rattle.store.specs.History.{Call, History, last_book, Moment, Executed, Wrote}
@@ -73,12 +73,12 @@ module _ (p : Plan) (i : ℕ) (life : List Call) (l : Life p i life) where
         is = refl;
       })).1
 
-  pub replied_call : (x : Moment life) (n : ℕ) → x.call.answer ≡ Replied n
-      → NodeCall p x.call.request (book_at x) x.call.reply (Replied n) x.call.book_left x.call.reply_left
+  pub replied_call : (x : Moment life) (n : ℕ) → x.call.answer ≡ Ok n
+      → NodeCall p x.call.request (book_at x) x.call.reply (Ok n) x.call.book_left x.call.reply_left
   replied_call x n e =
       let c = x.call in
-      subst (λ (q : Plan). NodeCall q c.request (book_at x) c.reply (Replied n) c.book_left c.reply_left) (each_one (Served p) life l.served x).plan
-      (subst (λ (a : Answer). NodeCall c.plan c.request (book_at x) c.reply a c.book_left c.reply_left) e
+      subst (λ (q : Plan). NodeCall q c.request (book_at x) c.reply (Ok n) c.book_left c.reply_left) (each_one (Served p) life l.served x).plan
+      (subst (λ (a : Result ℕ Refusal). NodeCall c.plan c.request (book_at x) c.reply a c.book_left c.reply_left) e
       (within p l.book life fresh_good l.calls x).call)
 
   pub wrote_ask : (f : List ℕ) (w : Wrote f life) → ask_of f ≡ ask_of w.at.call.request
@@ -108,13 +108,13 @@ module _ (p : Plan) (i : ℕ) (early late : List Call) (l : Life p i (early ++ l
   good_late =
       (history_keeps p l.book early (fresh_good p i (early ++ late) l) (history_of l.book early late l.calls)).good
 
-  pub late_answers : (y : Moment late) (n : ℕ) → y.call.answer ≡ Replied n → Seeks (stamp z) y.call.request → AtLeast p (stamp z) (take n y.call.reply_left)
+  pub late_answers : (y : Moment late) (n : ℕ) → y.call.answer ≡ Ok n → Seeks (stamp z) y.call.request → AtLeast p (stamp z) (take n y.call.reply_left)
   late_answers y n e s =
       let c = y.call in
       let b = last_book (last_book l.book early) y.before in
       let w = within p (last_book l.book early) late good_late (history_on l.book early late l.calls) y in
-      let call : NodeCall p c.request b c.reply (Replied n) c.book_left c.reply_left =
-      subst (λ (q : Plan). NodeCall q c.request b c.reply (Replied n) c.book_left c.reply_left) (each_one (Served p) late (each_after (Served p) early late l.served) y).plan
-      (subst (λ (a : Answer). NodeCall c.plan c.request b c.reply a c.book_left c.reply_left) e w.call) in
+      let call : NodeCall p c.request b c.reply (Ok n) c.book_left c.reply_left =
+      subst (λ (q : Plan). NodeCall q c.request b c.reply (Ok n) c.book_left c.reply_left) (each_one (Served p) late (each_after (Served p) early late l.served) y).plan
+      (subst (λ (a : Result ℕ Refusal). NodeCall c.plan c.request b c.reply a c.book_left c.reply_left) e w.call) in
       bears_it p (stamp z) c.request b (take n c.reply_left)
       (reads_high p c.request b c.reply w.good n c.book_left c.reply_left call z (later_holds p z l.book early late (fresh_good p i (early ++ late) l) l.calls x y) s)

@@ -1,5 +1,6 @@
 -- A COMPLETE WRITE IS STILL PASSED, over lives (document 02, Q-2; report/proofs/NewTime.antt has it of single calls): the new time of a write of ours is above the
 -- time of a write that Q honest nodes executed before they told their times. Assumes nothing.
+use Rattle.std.specs.Prelude.{Ok}
 use Prim.Native.Nat.{ℕ, ◌<◌}
 use mathlib.Core.Path.{◌≡◌, sym, ap, ◌∙◌, subst}
 use mathlib.Core.Bool.{Bool}
@@ -13,7 +14,6 @@ use Rattle.terms.specs.Stamp.{time}
 use Rattle.terms.specs.declared.Plan.{Plan}
 use Rattle.terms.proofs.Rungs.{both}
 use Rattle.frame.specs.Frame.{kind_of, write_request_kind}
-use Rattle.node.specs.declared.Answer.TheVariants.{Replied}
 use Rattle.node.specs.Node.{NodeCall}
 use Rattle.rounds.proofs.Numbers.{number_more}
 use Rattle.store.specs.History.{Call, History, last_book, Moment, Executed}
@@ -102,7 +102,7 @@ module _ (p : Plan) (N : Nodes) (x : Clock) (l : Life p x.S (N.early x.S ++ N.la
         length = own.wrote.size;
         book_after = c.book_left;
         buffer_left = c.reply_left;
-        answered = subst (λ (u : List ℕ). NodeCall p c.request u c.reply (Replied own.wrote.size) c.book_left c.reply_left) book_told call;
+        answered = subst (λ (u : List ℕ). NodeCall p c.request u c.reply (Ok own.wrote.size) c.book_left c.reply_left) book_told call;
         is = ap clock_of (sym own.wrote.is) ∙ own.is;
       }
 

@@ -8,14 +8,13 @@
 --   TimeExecuted       Q honest nodes executed a record of this time
 --   OwnTime Told       a time reply of a node, written late; the time replies that a write of ours counted of honest nodes are their own, and late
 -- Assumes nothing.
-use Rattle.std.specs.Prelude.{ℕ, ◌-◌, ◌*◌, ◌≤◌, ◌<◌, ◌≡◌, Bool, true, List, [], ◌∷◌, ◌++◌, length, take}
+use Rattle.std.specs.Prelude.{ℕ, ◌-◌, ◌*◌, ◌≤◌, ◌<◌, ◌≡◌, Bool, true, List, [], ◌∷◌, ◌++◌, length, take, Ok}
 use Rattle.octets.specs.Bytes.{Octets}
 use Rattle.terms.specs.Stamp.{stamp, time}
 use Rattle.terms.specs.Terms.{record_length}
 use Rattle.terms.specs.declared.Plan.{Plan}
 use Rattle.terms.specs.declared.Timestamp.{Timestamp}
 use Rattle.frame.specs.Frame.{kind_of, body_of, read_reply_kind, time_reply_kind}
-use Rattle.node.specs.declared.Answer.TheVariants.{Replied}
 use Rattle.rounds.specs.Numbers.{number_of}
 use Rattle.recover.specs.Records.{stamp_for}
 use Rattle.standing.specs.declared.Operation.{Operation}
@@ -47,7 +46,7 @@ module _ (p : Plan) (N : Nodes) (part : ℕ → List Call) where
     pub honest : N.honest node ≡ true
     pub at : Moment (part node)
     pub size : ℕ
-    pub replied : at.call.answer ≡ Replied size
+    pub replied : at.call.answer ≡ Ok size
     pub kind : kind_of (take size at.call.reply_left) ≡ read_reply_kind
     pub of : stamp (body_of (take size at.call.reply_left)) ≡ x
     pub taken : SomeTurn (λ (t : Turn). Takes t × (t.reply ≡ take size at.call.reply_left)) turns

@@ -7,23 +7,20 @@
 --   Owes                 a frame is a request of the operation: the call for the request owed gave it, where the operation stood
 -- Time between nodes is nowhere told: each has its own order, and one moment cuts all their lives in two, early and late, as any clock of all would.
 -- Assumes nothing.
-use Rattle.std.specs.Prelude.{ℕ, ◌*◌, ◌≤◌, ◌<◌, ◌≡◌, Bool, true, List, ◌++◌, length, take}
+use Prim.{tt}
+use Rattle.std.specs.Prelude.{ℕ, ◌*◌, ◌≤◌, ◌<◌, ◌≡◌, Bool, true, List, ◌++◌, length, take, Ok, Err}
 use Rattle.octets.specs.Bytes.{Octets}
 use Rattle.terms.specs.Stamp.{stamp_number, top}
 use Rattle.terms.specs.declared.Ask.{Ask}
 use Rattle.terms.specs.declared.Plan.{Plan}
 use Rattle.terms.specs.declared.Refusal.TheVariants.{NoRoom}
 use Rattle.record.specs.Desk.{slot_of}
-use Rattle.node.specs.declared.Answer.TheVariants.{Refused}
-use Rattle.node.specs.declared.Made.TheVariants.{Fresh}
 use Rattle.node.specs.Fresh.{FreshCall}
 use Rattle.recover.specs.Records.{records_for, stamp_for}
 use Rattle.standing.specs.declared.Operation.{Operation}
 use Rattle.standing.specs.declared.Operation.TheVariants.{Write, Read}
 use Rattle.session.specs.declared.Session.{Session}
 use Rattle.session.specs.declared.opening.Opened.{Opened}
-use Rattle.session.specs.declared.opening.Opening.TheVariants.{Accepted}
-use Rattle.session.specs.declared.owed.Owed.TheVariants.{Request}
 use Rattle.session.specs.Opening.{OpenCall}
 use Rattle.session.specs.Owed.{OwedCall}
 use Rattle.store.specs.History.{Call, History, EachCall}
@@ -35,13 +32,13 @@ use Rattle.client.specs.Turns.{Turn, ReadTurn, WriteTurn, Calls}
 pub record Served (p : Plan) (c : Call) : Type 0 where
   pub plan : c.plan ≡ p
   pub bytes : Octets c.request
-  pub roomy : c.answer ≡ Refused NoRoom → ⊥
+  pub roomy : c.answer ≡ Err NoRoom → ⊥
 
 -- node i is honest: its book was made fresh, and each call was on the book that the one before it left (History), so that it was never set back
 pub record Life (p : Plan) (i : ℕ) (life : List Call) : Type 0 where
   pub lent : List ℕ
   pub book : List ℕ
-  pub fresh : FreshCall p i lent Fresh book
+  pub fresh : FreshCall p i lent (Ok tt) book
   pub calls : History book life
   pub served : EachCall (Served p) life
 
@@ -83,7 +80,7 @@ pub record Ours (op : Operation) (p : Plan) : Type 0 where
   pub ask : Ask
   pub opened : Opened
   pub opens : OpenCall op p ask opened
-  pub accepted : opened.answer ≡ Accepted
+  pub accepted : opened.answer ≡ (Ok tt)
   pub desk : List ℕ
   pub turns : List Turn
   pub calls : Calls (Met op p) opened.session desk turns
@@ -108,5 +105,5 @@ pub record Owes {op : Operation} {p : Plan} (o : Ours op p) (f : List ℕ) : Typ
   pub buffer : List ℕ
   pub size : ℕ
   pub left : List ℕ
-  pub owed : OwedCall p session node desk buffer (Request size) left
+  pub owed : OwedCall p session node desk buffer (Ok size) left
   pub is : f ≡ take size left

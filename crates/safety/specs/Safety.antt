@@ -10,14 +10,13 @@
 --   Safety             the theorem, as a type
 -- "desk and session are touched by our calls only" is in `Ours`: each call gets both exactly as the one before handed them back. Assumes nothing.
 use Prim.{Unit}
-use Rattle.std.specs.Prelude.{ℕ, ◌≤◌, ◌<◌, ◌≡◌, Bool, true, false, not, List, ◌++◌, ◌⊎◌}
+use Rattle.std.specs.Prelude.{ℕ, ◌≤◌, ◌<◌, ◌≡◌, Bool, true, false, not, List, ◌++◌, ◌⊎◌, Ok}
 use Rattle.sha256.specs.Sha256.{sha256}
 use Rattle.terms.specs.Stamp.{stamp_number}
 use Rattle.terms.specs.declared.Plan.{Plan}
 use Rattle.fragments.specs.Fragments.{fragment}
 use Rattle.frame.specs.Frame.{frame_node, ask_of, body_of}
 use Rattle.record.specs.Record.{prefix_of, cross_of, fragment_of}
-use Rattle.node.specs.declared.Answer.TheVariants.{Replied}
 use Rattle.rounds.specs.Numbers.{number_of}
 use Rattle.recover.specs.Records.{cross_for}
 use Rattle.standing.specs.declared.Operation.{Operation}
@@ -35,7 +34,7 @@ use Rattle.safety.specs.Run.{Life, Nodes, life_of, Honest, Saving, record_to, st
 module _ {op : Operation} {p : Plan} (N : Nodes) (o : Ours op p) where
   -- "before any honest node answers": early, no honest node replied to a request of it
   abbrev pub Before : Type 0
-  Before = Honest p N (λ (i : ℕ). EachCall (λ (c : Call). (n : ℕ) → c.answer ≡ Replied n → Owes o c.request → ⊥) (N.early i))
+  Before = Honest p N (λ (i : ℕ). EachCall (λ (c : Call). (n : ℕ) → c.answer ≡ Ok n → Owes o c.request → ⊥) (N.early i))
 
   -- "each under its own number": a reply that it takes under the number of an honest node is one that a call of this node wrote, in this part of its life
   abbrev pub OwnNumbers : (ℕ → List Call) → Type 0

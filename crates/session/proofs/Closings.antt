@@ -32,8 +32,7 @@ use Rattle.fragments.proofs.Lists.{all_take}
 use Rattle.fragments.proofs.Interp.{all_map}
 use Rattle.rounds.specs.declared.Heard.{Heard}
 use Rattle.rounds.specs.declared.Heard.TheVariants.{Unheard, First, Record}
-use Rattle.rounds.specs.declared.Lead.{Lead}
-use Rattle.rounds.specs.declared.Lead.TheVariants.{Nobody, Node}
+use Rattle.std.proofs.Common.{Option, None, Some}
 use Rattle.rounds.specs.Rounds.{mark_of, lead_of, joins_of, set_of, Closed, close_with}
 use Rattle.rounds.proofs.Laws.{lead_room}
 use Rattle.rounds.proofs.Closes.{candidate, rising_distinct, members_are, Headed, set_headed, decided_complete, decided_repair}
@@ -51,29 +50,29 @@ headed_among a (suc m) l h k = rw (k.is, eq-eqb a a refl)
 -- ---- what the close is where node a leads it
 module _ (p : Plan) (s : Session) (d : List ℕ) (a : ℕ) where
   pub record Led : Type 0 where
-    pub leads : lead_of s.marks d (slots_of p) p.n ≡ Node a
+    pub leads : lead_of s.marks d (slots_of p) p.n ≡ Some a
     pub stamp_is : (closed p s d).stamp ≡ stamp_at d (slot_at (slots_of p) a)
     pub nodes_are : (closed p s d).nodes ≡ set_of s.marks d (slots_of p) a p.n
     pub verdict_is : (closed p s d).verdict
         ≡ decided p.member (complete_at p) (incomplete_at p) (length (set_of s.marks d (slots_of p) a p.n))
 
-  abbrev close_by : Lead → Closed
+  abbrev close_by : Option ℕ → Closed
   close_by x = close_with s.marks d (slots_of p) p.member (thresholds_of p) x
 
-  lead_is : (x : Lead) → (close_by x).lead ≡ x
+  lead_is : (x : Option ℕ) → (close_by x).lead ≡ x
   unfolding close_with
-  lead_is Nobody = refl
-  lead_is (Node b) = refl
+  lead_is None = refl
+  lead_is (Some b) = refl
 
-  pub led : (closed p s d).lead ≡ Node a → Led
+  pub led : (closed p s d).lead ≡ Some a → Led
   unfolding close_with
   led e =
-      let l : lead_of s.marks d (slots_of p) p.n ≡ Node a = sym (lead_is (lead_of s.marks d (slots_of p) p.n)) ∙ e in
+      let l : lead_of s.marks d (slots_of p) p.n ≡ Some a = sym (lead_is (lead_of s.marks d (slots_of p) p.n)) ∙ e in
       record {
         leads = l;
-        stamp_is = ap (λ (x : Lead). (close_by x).stamp) l;
-        nodes_are = ap (λ (x : Lead). (close_by x).nodes) l;
-        verdict_is = ap (λ (x : Lead). (close_by x).verdict) l;
+        stamp_is = ap (λ (x : Option ℕ). (close_by x).stamp) l;
+        nodes_are = ap (λ (x : Option ℕ). (close_by x).nodes) l;
+        verdict_is = ap (λ (x : Option ℕ). (close_by x).verdict) l;
       }
 
   -- ---- the m lowest-numbered of its set
@@ -152,11 +151,11 @@ pub record Ways (P : Outcome → Type 0) (p : Plan) (s : Session) (c : Closed) (
   pub never : P (outcome (never_written s.round.number) (ended_of s) d i)
   pub aborts : P (outcome (aborted s.round.number) (ended_of s) d i)
   pub spends : p.w ≤ s.round.number → P (outcome (rounds_spent s.round.number) (ended_of s) d i)
-  pub next : (a : ℕ) → c.lead ≡ Node a → s.round.number < p.w → P (outcome still_open (next_of s c.stamp) d i)
-  pub repairs : (a : ℕ) → c.lead ≡ Node a → c.verdict ≡ Repair → P (outcome still_open (storing_of s c.stamp) (repaired p c a d) i)
+  pub next : (a : ℕ) → c.lead ≡ Some a → s.round.number < p.w → P (outcome still_open (next_of s c.stamp) d i)
+  pub repairs : (a : ℕ) → c.lead ≡ Some a → c.verdict ≡ Repair → P (outcome still_open (storing_of s c.stamp) (repaired p c a d) i)
 
 module _ (P : Outcome → Type 0) (p : Plan) (s : Session) (c : Closed) (d i : List ℕ) (w : Ways P p s c d i) where
-  fails : (a : ℕ) → c.lead ≡ Node a → P (failing p s c.stamp d i)
+  fails : (a : ℕ) → c.lead ≡ Some a → P (failing p s c.stamp d i)
   unfolding failing
   fails a e = go (leb p.w s.round.number) refl
     where
@@ -164,7 +163,7 @@ module _ (P : Outcome → Type 0) (p : Plan) (s : Session) (c : Closed) (d i : L
       go true f = w.spends (leb-true p.w s.round.number f)
       go false f = w.next a e (leb-false p.w s.round.number f)
 
-  acts : (a : ℕ) → c.lead ≡ Node a → (v : Verdict) → c.verdict ≡ v → P (act_on v p s c a d i)
+  acts : (a : ℕ) → c.lead ≡ Some a → (v : Verdict) → c.verdict ≡ v → P (act_on v p s c a d i)
   unfolding act_on
   acts a e Complete f = pick P (sound p c a d) (w.finds c.stamp (decoded p c d i)) (fails a e)
   acts a e Repair f = pick P (sound p c a d) (w.repairs a e f) (fails a e)
@@ -175,6 +174,6 @@ module _ (P : Outcome → Type 0) (p : Plan) (s : Session) (c : Closed) (d i : L
   unfolding act_for
   goes = by c.lead refl
     where
-      by : (l : Lead) → c.lead ≡ l → P (act_for l p s c d i)
-      by Nobody e = w.never
-      by (Node a) e = acts a e c.verdict refl
+      by : (l : Option ℕ) → c.lead ≡ l → P (act_for l p s c d i)
+      by None e = w.never
+      by (Some a) e = acts a e c.verdict refl

@@ -1,5 +1,7 @@
 -- Every session that opening and writing make is in its ranges with the desk handed back: an accepted opening's (opened_kept), and what a
 -- reply to a writer leaves of one that was (write_kept). ReadKept.antt has the replies to a reader. Assumes nothing.
+use Prim.{tt}
+use Rattle.std.specs.Prelude.{Ok}
 use Prim.Native.Nat.{ℕ, ◌+◌, ◌*◌, ◌^◌, ◌≤◌, ◌<◌}
 use mathlib.Core.Path.{◌≡◌, refl, sym, ◌∙◌, subst}
 use mathlib.Core.Bool.{Bool, true, false, cond}
@@ -25,7 +27,6 @@ use Rattle.session.specs.declared.Session.{Session}
 use Rattle.session.specs.declared.Took.{Took}
 use Rattle.standing.specs.declared.Operation.{Operation}
 use Rattle.session.specs.declared.opening.Opened.{Opened}
-use Rattle.session.specs.declared.opening.Opening.TheVariants.{Accepted}
 use Rattle.session.specs.Opening.{OpenCall}
 use Rattle.standing.specs.declared.Operation.TheVariants.{Write}
 use Rattle.standing.specs.Standing.{is_storing, is_read}
@@ -48,7 +49,7 @@ pub record Kept (p : Plan) (s : Session) (d : List ℕ) : Type 0 where
   pub clock : WideTimes s.times
 
 -- so is an accepted opening's, with any desk of that length
-pub opened_kept : (op : Operation) (p : Plan) (a : Ask) (r : Opened) → OpenCall op p a r → r.answer ≡ Accepted → (d : List ℕ)
+pub opened_kept : (op : Operation) (p : Plan) (a : Ask) (r : Opened) → OpenCall op p a r → r.answer ≡ (Ok tt) → (d : List ℕ)
     → length d ≡ p.n * record_length p → Kept p r.session d
 opened_kept op p a r call e d l =
     record { range = accepted_in_range op p a r call e d; desk_is = l; clock = rw (accepted_session op p a r call e) wide_zeros }
@@ -67,7 +68,7 @@ stamp_low p t i h k = rw (time_made t (cross_for p i) k) h
 
 -- ---- a node heard: in a time round it gives a time
 abbrev pub heard_of : Session → ℕ → Heard → List Time → Session
-heard_of s n m g = with_marks (with_times s g) (set s.marks n (record { is = m }))
+heard_of s n m g = with_marks (with_times s g) (set s.marks n m)
 
 pub heard_stands : (p : Plan) (s : Session) (n : ℕ) (m : Heard) (g : List Time) → n < p.n → StandingIs p s → StandingIs p (heard_of s n m g)
 heard_stands p s n m g h q =
@@ -76,7 +77,7 @@ heard_stands p s n m g h q =
       high = q.high;
       counted = q.counted;
       bounded = q.bounded;
-      rest = rest_set s.marks p.n n (record { is = m }) h ∙ q.rest;
+      rest = rest_set s.marks p.n n m h ∙ q.rest;
       opening = q.opening;
     }
 

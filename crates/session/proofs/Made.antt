@@ -16,10 +16,9 @@ use Rattle.terms.specs.declared.Timestamp.{Timestamp}
 use Rattle.terms.proofs.Facts.{facts}
 use Rattle.terms.proofs.Rungs.{both}
 use Rattle.terms.specs.declared.Slots.{Slots}
-use Rattle.rounds.specs.declared.Bound.{Bound}
+use Rattle.std.proofs.Common.{Option}
 use Rattle.rounds.specs.declared.Heard.{Heard}
 use Rattle.rounds.specs.declared.Heard.TheVariants.{Record}
-use Rattle.rounds.specs.declared.Mark.{Mark}
 use Rattle.rounds.specs.Rounds.{heard_count, unheard, unheards, every, is_unheard, is_not_first, rest_unheard, none_first, slot_fits, slots_fit}
 use Rattle.session.specs.declared.Session.{Session}
 use Rattle.standing.specs.Standing.{is_read, is_storing, is_ended, replies}
@@ -69,23 +68,23 @@ module _ (p : Plan) (s : Session) where
       (standing_facts p s q.0, open_facts p s d (rw f at q.1))
 
 -- ---- marks
-every_same : (t : Heard → Bool) (m : Mark) (k n : ℕ) → t m.is ≡ true → every t (drop n (replicate k m)) ≡ true
+every_same : (t : Heard → Bool) (m : Heard) (k n : ℕ) → t m ≡ true → every t (drop n (replicate k m)) ≡ true
 unfolding every
 every_same t m zero zero e = refl
 every_same t m zero (suc n) e = refl
 every_same t m (suc k) zero e = rw e (every_same t m k 0 e)
 every_same t m (suc k) (suc n) e = every_same t m k n e
 
-mark_same : (m : Mark) (k i : ℕ) → get_or (replicate k m) i m ≡ m
+mark_same : (m : Heard) (k i : ℕ) → get_or (replicate k m) i m ≡ m
 mark_same m zero i = refl
 mark_same m (suc k) zero = refl
 mark_same m (suc k) (suc i) = mark_same m k i
 
-every_set : (t : Heard → Bool) (ms : List Mark) (i : ℕ) (m : Mark) → t m.is ≡ true → every t ms ≡ true → every t (set ms i m) ≡ true
+every_set : (t : Heard → Bool) (ms : List Heard) (i : ℕ) (m : Heard) → t m ≡ true → every t ms ≡ true → every t (set ms i m) ≡ true
 unfolding every
 every_set t [] i m e f = refl
-every_set t (x ∷ ms) zero m e f = rw e (both (t x.is) (every t ms) f).1
-every_set t (x ∷ ms) (suc i) m e f = let q = both (t x.is) (every t ms) f in rw q.0 (every_set t ms i m e q.1)
+every_set t (x ∷ ms) zero m e f = rw e (both (t x) (every t ms) f).1
+every_set t (x ∷ ms) (suc i) m e f = let q = both (t x) (every t ms) f in rw q.0 (every_set t ms i m e q.1)
 
 pub rest_unheards : (n : ℕ) → rest_unheard unheards n ≡ true
 rest_unheards n = every_same is_unheard unheard 16 n refl
@@ -97,16 +96,16 @@ pub few_unheards : (p : Plan) → plan_ok p ≡ true → ltb (heard_count unhear
 unfolding heard_count
 few_unheards p e = let g = facts p e in lt-ltb 0 (replies p) (omega arith)
 
-pub slots_unheards : (d : List ℕ) (slots : Slots) (b : Bound) (n : ℕ) → slots_fit unheards d slots b n ≡ true
+pub slots_unheards : (d : List ℕ) (slots : Slots) (b : Option Timestamp) (n : ℕ) → slots_fit unheards d slots b n ≡ true
 unfolding slots_fit slot_fits
 slots_unheards d slots b zero = refl
 slots_unheards d slots b (suc n) = rw (slots_unheards d slots b n, mark_same unheard 16 n)
 
-pub rest_set : (ms : List Mark) (n i : ℕ) (m : Mark) → i < n → rest_unheard (set ms i m) n ≡ rest_unheard ms n
+pub rest_set : (ms : List Heard) (n i : ℕ) (m : Heard) → i < n → rest_unheard (set ms i m) n ≡ rest_unheard ms n
 rest_set ms n i m h = ap (every is_unheard) (drop-set-lt n ms i m h)
 
-pub none_set : (ms : List Mark) (i : ℕ) → none_first ms ≡ true → none_first (set ms i (record { is = Record })) ≡ true
-none_set ms i e = every_set is_not_first ms i (record { is = Record }) refl e
+pub none_set : (ms : List Heard) (i : ℕ) → none_first ms ≡ true → none_first (set ms i Record) ≡ true
+none_set ms i e = every_set is_not_first ms i Record refl e
 
 -- ---- what follows a session in its ranges
 pub end_stands : (p : Plan) (s : Session) → StandingIs p s → StandingIs p (ended_of s)

@@ -1,5 +1,8 @@
 -- Laws of the opening: its answer's number tells the answer; an accepted opening is in its ranges with any desk, and a refused one's
 -- session with none. Assumes nothing.
+use Rattle.terms.specs.declared.Refusal.{Refusal}
+use Prim.{Unit, tt}
+use Rattle.std.specs.Prelude.{Result, Ok, Err}
 use Prim.Native.Nat.{ℕ, ◌+◌}
 use mathlib.Core.Path.{◌≡◌, refl, sym, ap, ◌∙◌}
 use mathlib.Core.Bool.{Bool, true, false, not}
@@ -14,11 +17,9 @@ use Rattle.terms.proofs.Plans.{plan_is}
 use Rattle.terms.proofs.Rungs.{refusal_one, refusal_low}
 use Rattle.terms.proofs.Down.{clear}
 use Rattle.terms.specs.Stamp.{top}
-use Rattle.rounds.specs.declared.Bound.TheVariants.{Free}
+use Rattle.std.proofs.Common.{None}
 use Rattle.standing.specs.declared.Operation.{Operation}
 use Rattle.standing.specs.declared.Operation.TheVariants.{Write, Read}
-use Rattle.session.specs.declared.opening.Opening.{Opening}
-use Rattle.session.specs.declared.opening.Opening.TheVariants.{Refused, Accepted}
 use Rattle.session.specs.declared.opening.Opened.{Opened}
 use Rattle.rounds.specs.Rounds.{unheards, none_first}
 use Rattle.standing.specs.Standing.{is_read, round_rules}
@@ -28,11 +29,11 @@ use Rattle.session.proofs.Checks.{first_map, none_applies, goes_on}
 use Rattle.session.proofs.Made.{rest_unheards, none_unheards, few_unheards, slots_unheards, open_in_range}
 
 -- the number tells the answer
-pub opening_one : (x y : Opening) → opening_number x ≡ opening_number y → x ≡ y
-opening_one (Refused r) (Refused q) e = ap Refused (refusal_one r q e)
-opening_one (Refused r) Accepted e = absurd (omega (arith, refusal_low r))
-opening_one Accepted (Refused r) e = absurd (omega (arith, refusal_low r))
-opening_one Accepted Accepted e = refl
+pub opening_one : (x y : Result (Unit {0}) Refusal) → opening_number x ≡ opening_number y → x ≡ y
+opening_one (Err r) (Err q) e = ap Err (refusal_one r q e)
+opening_one (Err r) (Ok u) e = absurd (omega (arith, refusal_low r))
+opening_one (Ok u) (Err r) e = absurd (omega (arith, refusal_low r))
+opening_one (Ok u) (Ok v) e = refl
 
 -- round 0 is in no range: every call that comes to its ranges refuses it 9
 pub none_in_range : (op : Operation) (p : Plan) (d : List ℕ) → in_range p (no_session op) d ≡ false
@@ -51,29 +52,29 @@ slots : (op : Operation) (x : Bool) → x ≡ true → (not (is_read op and true
 slots Write x e = refl
 slots Read x e = e
 
-fresh_in_range : (op : Operation) (p : Plan) (a : Ask) (d : List ℕ) → plan_ok p ≡ true → opening_ok p a.0 ≡ true → in_range p (fresh_of op 1 Free a) d ≡ true
+fresh_in_range : (op : Operation) (p : Plan) (a : Ask) (d : List ℕ) → plan_ok p ≡ true → opening_ok p a.0 ≡ true → in_range p (fresh_of op 1 None a) d ≡ true
 fresh_in_range op p a d k o =
     let q = plan_is p k in
-    open_in_range p (fresh_of op 1 Free a) d
+    open_in_range p (fresh_of op 1 None a) d
     (record { low = omega arith; high = q.w_low; counted = counted op; bounded = refl; rest = rest_unheards p.n; opening = leb-true (a.0 + p.w) top o })
-    (record { stamped = refl; firsts = firsts op; few = few_unheards p k; slots = slots op _ (slots_unheards d (slots_of p) Free p.n) })
+    (record { stamped = refl; firsts = firsts op; few = few_unheards p k; slots = slots op _ (slots_unheards d (slots_of p) None p.n) })
 
 module _ (op : Operation) (p : Plan) (a : Ask) (r : Opened) (call : OpenCall op p a r) where
   number_is : opening_number r.answer ≡ first (opening_ladder p a.0) (λ (k : ℕ). k) 0
   unfolding open_with
   number_is =
       ap (λ (o : Opens). o.number) call.is
-      ∙ first_map (λ (o : Opens). o.number) (opening_ladder p a.0) (λ (k : ℕ). opens k (no_session op)) (opens 0 (fresh_of op 1 Free a))
+      ∙ first_map (λ (o : Opens). o.number) (opening_ladder p a.0) (λ (k : ℕ). opens k (no_session op)) (opens 0 (fresh_of op 1 None a))
 
-  module _ (e : r.answer ≡ Accepted) where
+  module _ (e : r.answer ≡ (Ok tt)) where
     nothing_refuses : first (opening_ladder p a.0) (λ (k : ℕ). k) 0 ≡ 0
     nothing_refuses = sym number_is ∙ ap opening_number e
 
-    pub accepted_session : r.session ≡ fresh_of op 1 Free a
+    pub accepted_session : r.session ≡ fresh_of op 1 None a
     unfolding open_with
     accepted_session =
         ap (λ (o : Opens). o.session)
-        (call.is ∙ sym (goes_on (λ (k : ℕ). opens k (no_session op)) (opens 0 (fresh_of op 1 Free a)) (opening_ladder p a.0) refl nothing_refuses))
+        (call.is ∙ sym (goes_on (λ (k : ℕ). opens k (no_session op)) (opens 0 (fresh_of op 1 None a)) (opening_ladder p a.0) refl nothing_refuses))
 
     past : (k : ℕ) → rung k (opening_ladder p a.0) ≡ false
     past = clear (opening_ladder p a.0) (none_applies (opening_ladder p a.0) refl nothing_refuses)

@@ -1,4 +1,6 @@
 -- Laws of the request owed to a node. Assumes nothing.
+use Prim.{Unit}
+use Rattle.std.specs.Prelude.{Result, Ok, Err}
 use Prim.Native.Nat.{ℕ, ◌*◌, ◌≤◌, ◌<◌}
 use mathlib.Core.Path.{◌≡◌, refl, ap, ◌∙◌}
 use mathlib.Core.Bool.{Bool, true, false}
@@ -15,10 +17,6 @@ use Rattle.terms.specs.declared.Refusal.{Refusal}
 use Rattle.terms.proofs.Rungs.{refusal_one}
 use Rattle.frame.specs.Frame.{frame, longest, write_request_kind, time_request_kind}
 use Rattle.session.specs.declared.Session.{Session}
-use Rattle.session.specs.declared.Check.{Check}
-use Rattle.session.specs.declared.Check.TheVariants.{Failed}
-use Rattle.session.specs.declared.owed.Owed.{Owed}
-use Rattle.session.specs.declared.owed.Owed.TheVariants.{Refused, Request}
 use Rattle.standing.specs.Standing.{is_read, is_storing, room_ok, read_request}
 use Rattle.session.specs.Session.{ask_now}
 use Rattle.session.specs.Reply.{check_number}
@@ -52,7 +50,7 @@ module _ (p : Plan) (s : Session) (node : ℕ) (d : List ℕ) (ask : ℕ) (a : a
 
 -- ---- the outcome
 module _ (p : Plan) (s : Session) (node : ℕ) (d q : List ℕ) where
-  pub owed_refused : (x : Check) → check_number x ≡ first (owed_ladder p s node d (length q)) (λ (k : ℕ). k) 0 → (r : Refusal) → x ≡ Failed r
+  pub owed_refused : (x : Result (Unit {0}) Refusal) → check_number x ≡ first (owed_ladder p s node d (length q)) (λ (k : ℕ). k) 0 → (r : Refusal) → x ≡ Err r
       → dues (refused (refusal_number r)) q ≡ owed_to p s node d q
   unfolding owed_to
   owed_refused x e r t = check_failed (owed_ladder p s node d (length q)) (check_number x) e (λ (k : ℕ). dues (refused k) q) _ r (ap check_number t)
@@ -64,8 +62,8 @@ module _ (p : Plan) (s : Session) (node : ℕ) (d q : List ℕ) where
       (λ i. dues (written (h.1 i)) (h.0 i)) ∙ goes_on (λ (k : ℕ). dues (refused k) q) _ (owed_ladder p s node d (length q)) refl e
 
 -- the answer in the document's terms tells the answer
-pub due_one : (x y : Owed) → due_of x ≡ due_of y → x ≡ y
-due_one (Refused r) (Refused q) e = let z : refusal_number r ≡ refusal_number q = cc in ap Refused (refusal_one r q z)
-due_one (Refused r) (Request n) e = let z : ◌≡◌ {A = ℕ} 0 1 = cc in absurd (omega arith)
-due_one (Request n) (Refused r) e = let z : ◌≡◌ {A = ℕ} 0 1 = cc in absurd (omega arith)
-due_one (Request m) (Request n) e = let z : m ≡ n = cc in ap Request z
+pub due_one : (x y : Result ℕ Refusal) → due_of x ≡ due_of y → x ≡ y
+due_one (Err r) (Err q) e = let z : refusal_number r ≡ refusal_number q = cc in ap Err (refusal_one r q z)
+due_one (Err r) (Ok n) e = let z : ◌≡◌ {A = ℕ} 0 1 = cc in absurd (omega arith)
+due_one (Ok n) (Err r) e = let z : ◌≡◌ {A = ℕ} 0 1 = cc in absurd (omega arith)
+due_one (Ok m) (Ok n) e = let z : m ≡ n = cc in ap Ok z

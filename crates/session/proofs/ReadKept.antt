@@ -16,7 +16,7 @@ use Rattle.terms.specs.declared.Plan.{Plan}
 use Rattle.frame.specs.Frame.{frame_node, body_of}
 use Rattle.rounds.specs.declared.Heard.{Heard}
 use Rattle.rounds.specs.declared.Heard.TheVariants.{First, Record}
-use Rattle.rounds.specs.declared.Lead.TheVariants.{Node}
+use Rattle.std.proofs.Common.{Some}
 use Rattle.rounds.specs.Rounds.{under_of, slots_fit}
 use Rattle.rounds.proofs.Closes.{candidate}
 use Rattle.session.specs.declared.Session.{Session}
@@ -80,13 +80,13 @@ module _ (p : Plan) (s : Session) (f d i : List ℕ) (k : Kept p s d) where
                 clock = k.clock;
               }
 
-          stamped : (a : ℕ) → (closed p u e).lead ≡ Node a → 1 ≤ (closed p u e).stamp.time.0
+          stamped : (a : ℕ) → (closed p u e).lead ≡ Some a → 1 ≤ (closed p u e).stamp.time.0
           stamped a l =
               let g : Led p u e a = led p u e a l in
               let best = candidate u.marks e (slots_of p) p.n a g.leads in
               rw g.stamp_is (lead_time u.marks e (slots_of p) s.round.bound p.n a fits (lead_low p u e a g) best.marked)
 
-          next : (a : ℕ) → (closed p u e).lead ≡ Node a → u.round.number < p.w → Kept p (next_of u (closed p u e).stamp) e
+          next : (a : ℕ) → (closed p u e).lead ≡ Some a → u.round.number < p.w → Kept p (next_of u (closed p u e).stamp) e
           next a l h =
               record {
                 range =

@@ -1,4 +1,6 @@
 -- One law for each hard need of the reader's functions. Assumes nothing.
+use Prim.{Unit, tt}
+use Rattle.std.specs.Prelude.{Result, Ok, Err}
 use mathlib.Core.Path.{◌≡◌, refl, sym, ap, ap₂, ◌∙◌, subst}
 use mathlib.Core.Bool.{Bool, true, false}
 use mathlib.Core.List.{List}
@@ -24,26 +26,21 @@ use Rattle.fragments.proofs.Lists.{all_at}
 use Rattle.terms.specs.declared.Slots.{Slots}
 use Rattle.terms.specs.declared.Thresholds.{Thresholds}
 use Rattle.session.proofs.Rules.{body_stamp}
-use Rattle.rounds.specs.declared.Bound.{Bound}
+use Rattle.std.proofs.Common.{Option, None, Some}
 use Rattle.frame.specs.declared.Header.{Header}
 use Rattle.frame.specs.Frame.{kind_of, frame_node, body_of, good_reply, framed, head_bytes, version_of, header_in}
 use Rattle.frame.specs.Frame.{read_reply_kind}
 use Rattle.frame.proofs.Frames.{reply_is, body_is}
 use Rattle.rounds.specs.declared.Heard.TheVariants.{First, Record}
-use Rattle.rounds.specs.declared.Lead.TheVariants.{Nobody, Node}
 use Rattle.rounds.specs.declared.Close.{Close}
 use Rattle.record.specs.Record.{hashes_ok, time_zero}
 use Rattle.rounds.specs.Rounds.{listed, told, Closed, close_of, under_of}
 use Rattle.rounds.proofs.Laws.{size_is}
 use Rattle.recover.specs.Inside.{Usable}
 use Rattle.recover.specs.Recover.{sound, decoded, collected, repaired}
-use Rattle.session.specs.declared.Taken.{Taken}
-use Rattle.session.specs.declared.Taken.TheVariants.{Refused, Reply}
 use Rattle.session.specs.declared.Session.{Session}
 use Rattle.standing.specs.Standing.{is_storing}
 use Rattle.session.specs.Session.{marked_of, ended_of, next_of, storing_of, still_open, done, never_written, aborted, rounds_spent, refused, round_open}
-use Rattle.session.specs.declared.Check.{Check}
-use Rattle.session.specs.declared.Check.TheVariants.{Passed, Failed}
 use Rattle.standing.specs.declared.Operation.{Operation}
 use Rattle.standing.specs.declared.Operation.TheVariants.{Read}
 use Rattle.session.specs.Reply.{bears, reply_ladder, record_ladder, check_number, taken_number, Headed}
@@ -91,21 +88,21 @@ module _ (p : Plan) (s : Session) (c : Closed) (a : ℕ) (d i : List ℕ) (v : V
   act_incomplete o k q = q ∙ rw k
 
 module _ (p : Plan) (s : Session) (c : Closed) (d i : List ℕ) where
-  pub act_never : (e : Session) → c.lead ≡ Nobody → e ≡ ended_of s → outcome (never_written s.round.number) e d i ≡ acted p s c d i
+  pub act_never : (e : Session) → c.lead ≡ None → e ≡ ended_of s → outcome (never_written s.round.number) e d i ≡ acted p s c d i
   unfolding act_for
   act_never e k q = rw (k, q)
 
-  pub act_led : (a : ℕ) (o : Outcome) → c.lead ≡ Node a → o ≡ act_on c.verdict p s c a d i → o ≡ acted p s c d i
+  pub act_led : (a : ℕ) (o : Outcome) → c.lead ≡ Some a → o ≡ act_on c.verdict p s c a d i → o ≡ acted p s c d i
   unfolding act_for
   act_led a o k q = q ∙ rw k
 
 -- ---- a close that is this round's can be acted on
 module _ (p : Plan) (s : Session) (d : List ℕ) (c : Close) (ok : plan_ok p ≡ true) (l : length d ≡ p.n * record_length p)
     (t : told c ≡ closed p s d) (len : length c.set.nodes ≡ 16) (few : c.set.size ≤ p.n) where
-  is_led : (a : ℕ) → c.lead ≡ Node a → Led p s d a
+  is_led : (a : ℕ) → c.lead ≡ Some a → Led p s d a
   is_led a e = led p s d a (sym (ap (λ (x : Closed). x.lead) t) ∙ e)
 
-  usable : (a : ℕ) → c.lead ≡ Node a → p.m ≤ length (closed p s d).nodes → Usable p c a d
+  usable : (a : ℕ) → c.lead ≡ Some a → p.m ≤ length (closed p s d).nodes → Usable p c a d
   usable a e m =
       let k = is_led a e in
       let same : listed c.set ≡ (closed p s d).nodes = ap (λ (x : Closed). x.nodes) t in
@@ -193,30 +190,30 @@ unfolding accepted
 accept_heard p s f d i x o e t q = q ∙ rw (← e, t)
 
 -- what is known where a reply passed
-pub check_passes : (op : Operation) (p : Plan) (s : Session) (f d : List ℕ) (item : ℕ) (k : Taken) → taken_number k ≡ first (reply_ladder op p s f d item) (λ (n : ℕ). n) 0
-    → (h : Header) → k ≡ Reply h → Known (reply_ladder op p s f d item) p s d
+pub check_passes : (op : Operation) (p : Plan) (s : Session) (f d : List ℕ) (item : ℕ) (k : Result Header Refusal) → taken_number k ≡ first (reply_ladder op p s f d item) (λ (n : ℕ). n) 0
+    → (h : Header) → k ≡ Ok h → Known (reply_ladder op p s f d item) p s d
 check_passes op p s f d item k e h q = known_reply op p s f d item (check_passed (reply_ladder op p s f d item) (taken_number k) e (ap taken_number q))
 
-pub header_read : (k : Taken) (f : List ℕ) → Headed k f → (h : Header) → k ≡ Reply h → h ≡ header_in f
-header_read k f e h q = subst (λ (x : Taken). Headed x f) q e
+pub header_read : (k : Result Header Refusal) (f : List ℕ) → Headed k f → (h : Header) → k ≡ Ok h → h ≡ header_in f
+header_read k f e h q = subst (λ (x : Result Header Refusal). Headed x f) q e
 
 -- ---- the call
-module _ (p : Plan) (s : Session) (f d i : List ℕ) (k : Taken) (e : taken_number k ≡ first (reply_ladder Read p s f d (length i)) (λ (n : ℕ). n) 0) where
-  pub refused_early : (r : Refusal) → k ≡ Refused r → outcome (refused (refusal_number r)) s d i ≡ read_reply p s f d i
+module _ (p : Plan) (s : Session) (f d i : List ℕ) (k : Result Header Refusal) (e : taken_number k ≡ first (reply_ladder Read p s f d (length i)) (λ (n : ℕ). n) 0) where
+  pub refused_early : (r : Refusal) → k ≡ Err r → outcome (refused (refusal_number r)) s d i ≡ read_reply p s f d i
   unfolding read_reply first
   refused_early r q = check_failed (reply_ladder Read p s f d (length i)) (taken_number k) e (λ (n : ℕ). outcome (refused n) s d i) _ r (ap taken_number q)
 
-  module _ (j : Check) (g : check_number j ≡ first (record_ladder p s f) (λ (n : ℕ). n) 0) (h : Header) (q : k ≡ Reply h) where
+  module _ (j : Result (Unit {0}) Refusal) (g : check_number j ≡ first (record_ladder p s f) (λ (n : ℕ). n) 0) (h : Header) (q : k ≡ Ok h) where
     past : first (record_ladder p s f) (λ (n : ℕ). outcome (refused n) s d i) (accepted p s f d i) ≡ read_reply p s f d i
     unfolding read_reply first
     past =
         ladder_goes_on (λ (n : ℕ). outcome (refused n) s d i) _ (reply_ladder Read p s f d (length i)) refl
         (check_passed (reply_ladder Read p s f d (length i)) (taken_number k) e (ap taken_number q))
 
-    pub refused_late : (r : Refusal) → j ≡ Failed r → outcome (refused (refusal_number r)) s d i ≡ read_reply p s f d i
+    pub refused_late : (r : Refusal) → j ≡ Err r → outcome (refused (refusal_number r)) s d i ≡ read_reply p s f d i
     refused_late r w = check_failed (record_ladder p s f) (check_number j) g (λ (n : ℕ). outcome (refused n) s d i) (accepted p s f d i) r (ap check_number w) ∙ past
 
-    pub accepts : (o : Outcome) → j ≡ Passed → o ≡ accepted p s f d i → o ≡ read_reply p s f d i
+    pub accepts : (o : Outcome) → j ≡ (Ok tt) → o ≡ accepted p s f d i → o ≡ read_reply p s f d i
     accepts o w a =
         a ∙ ladder_goes_on (λ (n : ℕ). outcome (refused n) s d i) (accepted p s f d i) (record_ladder p s f) refl
         (check_passed (record_ladder p s f) (check_number j) g (ap check_number w)) ∙ past
@@ -240,7 +237,7 @@ bears_length p f t = (bears_is p f (bears p f) refl t).1
 pub zero_at : (f : List ℕ) (at : ℕ) (y : Bool) → at ≡ head_bytes (version_of f) → y ≡ time_zero (drop at f) → y ≡ time_zero (body_of f)
 zero_at f at y e q = q ∙ ap (λ (n : ℕ). time_zero (drop n f)) e
 
-pub under_at : (f : List ℕ) (b : Bound) (at : ℕ) (y : Bool) → at ≡ head_bytes (version_of f) → y ≡ under_of b (num (part f at 40)) → y ≡ under_of b (stamp (body_of f))
+pub under_at : (f : List ℕ) (b : Option Timestamp) (at : ℕ) (y : Bool) → at ≡ head_bytes (version_of f) → y ≡ under_of b (num (part f at 40)) → y ≡ under_of b (stamp (body_of f))
 under_at f b at y e q = q ∙ ap (λ (n : ℕ). under_of b (num (part f n 40))) e ∙ ap (under_of b) (body_stamp f)
 
 pub hashes_at : (p : Plan) (f : List ℕ) (k at : ℕ) → bears p f ≡ true → k ≡ frame_node f → at ≡ head_bytes (version_of f) → (y : Bool)

@@ -1,4 +1,6 @@
 -- Laws of the writer: a round after a reply; the outcome. Assumes nothing.
+use Rattle.frame.specs.declared.Header.{Header}
+use Rattle.std.specs.Prelude.{Result, Err}
 use Prim.Native.Nat.{ℕ}
 use mathlib.Core.Path.{◌≡◌, refl, ap, ◌∙◌}
 use mathlib.Core.Bool.{Bool, true, false}
@@ -18,8 +20,6 @@ use Rattle.octets.specs.Bytes.{part, num}
 use Rattle.frame.specs.Frame.{kind_of, ask_of, frame_node, body_of, framed, version_of, head_bytes}
 use Rattle.frame.proofs.Frames.{length_2}
 use Rattle.rounds.specs.declared.Heard.TheVariants.{Record}
-use Rattle.session.specs.declared.Taken.{Taken}
-use Rattle.session.specs.declared.Taken.TheVariants.{Refused}
 use Rattle.session.specs.declared.Session.{Session}
 use Rattle.standing.specs.declared.Operation.TheVariants.{Write}
 use Rattle.standing.specs.Standing.{is_read, is_storing}
@@ -81,7 +81,7 @@ module _ (p : Plan) (s : Session) (f d i : List ℕ) where
     unfolding accepted_write
     in_time e u t v w = rw (← g, e, v, w, m)
 
-  pub write_refused : (x : Taken) → taken_number x ≡ first (reply_ladder Write p s f d (length i)) (λ (k : ℕ). k) 0 → (r : Refusal) → x ≡ Refused r
+  pub write_refused : (x : Result Header Refusal) → taken_number x ≡ first (reply_ladder Write p s f d (length i)) (λ (k : ℕ). k) 0 → (r : Refusal) → x ≡ Err r
       → leaves (refused (refusal_number r)) s d ≡ write_reply p s f d i
   unfolding write_reply
   write_refused x e r t = check_failed (reply_ladder Write p s f d (length i)) (taken_number x) e (λ (k : ℕ). leaves (refused k) s d) _ r (ap taken_number t)

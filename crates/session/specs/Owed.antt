@@ -7,7 +7,8 @@
 --   Dues dues          the answer and the request buffer as the call leaves them
 --   owed_to OwedCall    the call and its contract
 -- Assumes nothing.
-use Rattle.std.specs.Prelude.{ℕ, ◌≡◌, not, cond, List, [], ◌∷◌, length, ltb}
+use Rattle.terms.specs.declared.Refusal.{Refusal}
+use Rattle.std.specs.Prelude.{ℕ, ◌≡◌, not, cond, List, [], ◌∷◌, length, ltb, Result, Ok, Err}
 use Rattle.octets.specs.Bytes.{over}
 use Rattle.terms.specs.Ladder.{Rung, on, first}
 use Rattle.terms.specs.Terms.{plan_ok, refusal_number}
@@ -15,8 +16,6 @@ use Rattle.terms.specs.declared.Plan.{Plan}
 use Rattle.frame.specs.Frame.{frame, write_request_kind, time_request_kind}
 use Rattle.record.specs.Desk.{slot_of}
 use Rattle.session.specs.declared.Session.{Session}
-use Rattle.session.specs.declared.owed.Owed.{Owed}
-use Rattle.session.specs.declared.owed.Owed.TheVariants.{Refused, Request}
 use Rattle.standing.specs.Standing.{is_read, is_storing, is_ended, room_ok, read_request}
 use Rattle.session.specs.Session.{ask_now}
 use Rattle.session.specs.Ranges.{in_range}
@@ -41,9 +40,9 @@ pub data Due : Type 0 where
   refused : ℕ → Due
   written : (length : ℕ) → Due
 
-abbrev pub due_of : Owed → Due
-due_of (Refused r) = refused (refusal_number r)
-due_of (Request n) = written n
+abbrev pub due_of : Result ℕ Refusal → Due
+due_of (Err r) = refused (refusal_number r)
+due_of (Ok n) = written n
 
 pub record Dues : Type 0 where
   pub due : Due
@@ -58,5 +57,5 @@ owed_to p s node d q =
     (dues (written (length (request_of p s node d))) (over (request_of p s node d) q))
 
 -- the contract of the call: its inputs, then its outcome
-pub record OwedCall (p : Plan) (s : Session) (node : ℕ) (d q : List ℕ) (r : Owed) (q₂ : List ℕ) : Type 0 where
+pub record OwedCall (p : Plan) (s : Session) (node : ℕ) (d q : List ℕ) (r : Result ℕ Refusal) (q₂ : List ℕ) : Type 0 where
   pub is : dues (due_of r) q₂ ≡ owed_to p s node d q

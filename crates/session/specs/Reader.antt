@@ -7,7 +7,7 @@
 --   settled stored     a read round and a repair round after a mark: still open, or closed and acted on
 --   read_reply ReadReplyCall   the call and its contract
 -- Assumes nothing.
-use Rattle.std.specs.Prelude.{ℕ, ◌*◌, ◌≡◌, cond, List, length, leb}
+use Rattle.std.specs.Prelude.{ℕ, ◌*◌, ◌≡◌, cond, List, length, leb, Option, None, Some}
 use Rattle.octets.specs.Bytes.{put}
 use Rattle.terms.specs.Ladder.{first}
 use Rattle.terms.specs.Terms.{record_length, slots_of, thresholds_of}
@@ -17,8 +17,6 @@ use Rattle.terms.specs.declared.Verdict.{Verdict}
 use Rattle.terms.specs.declared.Verdict.TheVariants.{Complete, Repair, Aborted, Incomplete}
 use Rattle.frame.specs.Frame.{frame_node, body_of}
 use Rattle.rounds.specs.declared.Heard.TheVariants.{First, Record}
-use Rattle.rounds.specs.declared.Lead.{Lead}
-use Rattle.rounds.specs.declared.Lead.TheVariants.{Nobody, Node}
 use Rattle.rounds.specs.Rounds.{Closed, close_of}
 use Rattle.recover.specs.Recover.{sound, decoded, collected, repaired}
 use Rattle.session.specs.declared.Session.{Session}
@@ -49,9 +47,9 @@ act_on Aborted p s c a d i = outcome (aborted s.round.number) (ended_of s) d i
 act_on Incomplete p s c a d i = failing p s c.stamp d i
 
 -- "First triple: never written"
-unfoldable pub act_for : Lead → Plan → Session → Closed → List ℕ → List ℕ → Outcome
-act_for Nobody p s c d i = outcome (never_written s.round.number) (ended_of s) d i
-act_for (Node a) p s c d i = act_on c.verdict p s c a d i
+unfoldable pub act_for : Option ℕ → Plan → Session → Closed → List ℕ → List ℕ → Outcome
+act_for None p s c d i = outcome (never_written s.round.number) (ended_of s) d i
+act_for (Some a) p s c d i = act_on c.verdict p s c a d i
 
 abbrev pub acted : Plan → Session → Closed → List ℕ → List ℕ → Outcome
 acted p s c d i = act_for c.lead p s c d i

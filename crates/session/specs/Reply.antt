@@ -7,8 +7,10 @@
 --   read_ladder         the whole order at a reader
 --   check_number taken_number Headed   what a ladder came to
 -- Assumes nothing.
-use Prim.{Unit}
-use Rattle.std.specs.Prelude.{ℕ, ◌≡◌, Bool, not, List, [], ◌∷◌, ◌++◌, length, eqb}
+use Rattle.frame.specs.declared.Header.{Header}
+use Rattle.terms.specs.declared.Refusal.{Refusal}
+use Prim.{Unit, tt}
+use Rattle.std.specs.Prelude.{ℕ, ◌≡◌, Bool, not, List, [], ◌∷◌, ◌++◌, length, eqb, Result, Ok, Err}
 use Rattle.terms.specs.Ladder.{Rung, on, ◌and◌, ◌or◌}
 use Rattle.terms.specs.Terms.{plan_ok, record_length, refusal_number}
 use Rattle.terms.specs.Stamp.{stamp, stamp_number}
@@ -17,10 +19,6 @@ use Rattle.frame.specs.Frame.{kind_of, frame_node, body_of, good_reply, read_rep
 use Rattle.record.specs.Record.{hashes_ok, time_zero}
 use Rattle.rounds.specs.Rounds.{heard_at, under_of}
 use Rattle.session.specs.declared.Session.{Session}
-use Rattle.session.specs.declared.Check.{Check}
-use Rattle.session.specs.declared.Check.TheVariants.{Passed, Failed}
-use Rattle.session.specs.declared.Taken.{Taken}
-use Rattle.session.specs.declared.Taken.TheVariants.{Refused, Reply}
 use Rattle.standing.specs.declared.Operation.{Operation}
 use Rattle.standing.specs.declared.Operation.TheVariants.{Read}
 use Rattle.standing.specs.Standing.{is_storing, is_ended, same_operation, lengths_ok}
@@ -61,15 +59,15 @@ abbrev pub read_ladder : Plan → Session → List ℕ → List ℕ → ℕ → 
 read_ladder p s f d item = reply_ladder Read p s f d item ++ record_ladder p s f
 
 -- what a ladder came to, as a number: 0 where none applies
-abbrev pub check_number : Check → ℕ
-check_number Passed = 0
-check_number (Failed r) = refusal_number r
+abbrev pub check_number : Result (Unit {0}) Refusal → ℕ
+check_number (Ok u) = 0
+check_number (Err r) = refusal_number r
 
 -- the same of a reply, which past its ladder goes on with the header that was read
-abbrev pub taken_number : Taken → ℕ
-taken_number (Refused r) = refusal_number r
-taken_number (Reply h) = 0
+abbrev pub taken_number : Result Header Refusal → ℕ
+taken_number (Err r) = refusal_number r
+taken_number (Ok h) = 0
 
-abbrev pub Headed : Taken → List ℕ → Type 0
-Headed (Refused r) f = Unit {0}
-Headed (Reply h) f = h ≡ header_in f
+abbrev pub Headed : Result Header Refusal → List ℕ → Type 0
+Headed (Err r) f = Unit {0}
+Headed (Ok h) f = h ≡ header_in f

@@ -8,14 +8,14 @@
 --   marked_of ended_of next_of storing_of   the session after a node was heard, ended, in the next read round, in a write or repair round
 --   Said said_of is_refused   an answer in the document's terms, and whether it is a refusal
 -- Assumes nothing.
-use Rattle.std.specs.Prelude.{ℕ, Bool, true, false, List, set, ltb}
+use Rattle.terms.specs.declared.Refusal.{Refusal}
+use Rattle.std.specs.Prelude.{ℕ, Bool, true, false, List, set, ltb, Result, Ok, Err}
 use Rattle.terms.specs.Terms.{refusal_number}
 use Rattle.terms.specs.declared.Ask.{Ask}
 use Rattle.terms.specs.declared.Plan.{Plan}
 use Rattle.terms.specs.declared.Time.{Time}
 use Rattle.terms.specs.declared.Timestamp.{Timestamp}
 use Rattle.rounds.specs.declared.Heard.{Heard}
-use Rattle.rounds.specs.declared.Mark.{Mark}
 use Rattle.rounds.specs.Rounds.{unheards, heard_count}
 use Rattle.session.specs.declared.Session.{Session}
 use Rattle.standing.specs.declared.Round.{Round}
@@ -23,7 +23,7 @@ use Rattle.standing.specs.declared.Operation.{Operation}
 use Rattle.standing.specs.declared.Stage.TheVariants.{Storing, Ended}
 use Rattle.standing.specs.Standing.{read_in, ask_in, awaits_in, in_stage, next_round, replies}
 use Rattle.session.specs.declared.Answer.{Answer}
-use Rattle.session.specs.declared.Answer.TheVariants.{Refused, Open, Done, NeverWritten, Aborted, RoundsSpent, ClockSpent}
+use Rattle.session.specs.declared.Answer.TheVariants.{Open, Done, NeverWritten, Aborted, RoundsSpent, ClockSpent}
 
 abbrev pub read_round : Session → Bool
 read_round s = read_in s.operation s.round
@@ -39,7 +39,7 @@ abbrev pub round_open : Plan → Session → Bool
 round_open p s = ltb (heard_count s.marks) (replies p)
 
 -- a session by its fields
-abbrev pub session_with : Operation → Round → Ask → List Time → Timestamp → List Mark → Session
+abbrev pub session_with : Operation → Round → Ask → List Time → Timestamp → List Heard → Session
 session_with o r a t w m = record { operation = o; round = r; opening = a; times = t; stamp = w; marks = m }
 
 -- with one field set
@@ -52,11 +52,11 @@ with_times s t = session_with s.operation s.round s.opening t s.stamp s.marks
 abbrev pub with_stamp : Session → Timestamp → Session
 with_stamp s t = session_with s.operation s.round s.opening s.times t s.marks
 
-abbrev pub with_marks : Session → List Mark → Session
+abbrev pub with_marks : Session → List Heard → Session
 with_marks s m = session_with s.operation s.round s.opening s.times s.stamp m
 
 abbrev pub marked_of : Session → ℕ → Heard → Session
-marked_of s i h = with_marks s (set s.marks i (record { is = h }))
+marked_of s i h = with_marks s (set s.marks i h)
 
 abbrev pub ended_of : Session → Session
 ended_of s = with_round s (in_stage s.round Ended)
@@ -79,14 +79,14 @@ pub data Said : Type 0 where
   rounds_spent : (rounds : ℕ) → Said
   clock_spent : Said
 
-abbrev pub said_of : Answer → Said
-said_of (Refused r) = refused (refusal_number r)
-said_of Open = still_open
-said_of (Done t n) = done t n
-said_of (NeverWritten n) = never_written n
-said_of (Aborted n) = aborted n
-said_of (RoundsSpent n) = rounds_spent n
-said_of ClockSpent = clock_spent
+abbrev pub said_of : Result Answer Refusal → Said
+said_of (Err r) = refused (refusal_number r)
+said_of (Ok Open) = still_open
+said_of (Ok (Done t n)) = done t n
+said_of (Ok (NeverWritten n)) = never_written n
+said_of (Ok (Aborted n)) = aborted n
+said_of (Ok (RoundsSpent n)) = rounds_spent n
+said_of (Ok ClockSpent) = clock_spent
 
 abbrev pub is_refused : Said → Bool
 is_refused (refused k) = true

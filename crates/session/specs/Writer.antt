@@ -27,7 +27,7 @@ use Rattle.session.specs.Reply.{reply_ladder}
 -- ---- times
 -- "In a time or write round a heard node is marked 'record'"; its time is kept as its own
 abbrev pub timed_of : Session → ℕ → ℕ → Session
-timed_of s i t = with_marks (with_times s (set s.times i (record { 0 = t }))) (set s.marks i (record { is = Record }))
+timed_of s i t = with_marks (with_times s (set s.times i (record { 0 = t }))) (set s.marks i Record)
 
 -- Q-2: "Take the (b+1)-th greatest of the N-t time replies, equal values counted each,"
 unfoldable pub kth_reply : Plan → Session → ℕ

@@ -6,6 +6,7 @@
 pub mod opening;
 pub mod owed;
 mod reader;
+mod reply;
 mod writer;
 
 ghost use Rattle.std.specs.Prelude.{◌≡◌, true, ◌+◌, ◌-◌, ◌*◌, ◌≤◌, ◌<◌, length};
@@ -16,10 +17,11 @@ ghost use Rattle.session.specs.Session.{round_open, marked_of, ended_of, next_of
 ghost use Rattle.session.specs.Ranges.{standing_rules, open_rules, in_range};
 ghost use Rattle.session.specs.Reply.{awaited, is_heard, awaited_ladder, reply_ladder, taken_number, Headed};
 
-use frame::{Door, Header};
-use rounds::{Heard, Mark};
+use frame::Header;
+use reply::Reply;
+use rounds::Heard;
 use standing::{Operation, Round, lengths};
-use terms::{Ask, Plan, Refusal, Time, Timestamp};
+use terms::{Accepted, Ask, Plan, Refusal, Time, Timestamp};
 
 // What a client knows between two replies. A field that is not in use is zero, or as its round left it, and no call looks at it.
 #[derive(Clone, Copy)]
@@ -33,13 +35,12 @@ pub struct Session {
     // The timestamp being written, in a write or repair round.
     pub stamp: Timestamp,
     // For each node, what was heard of it in this round.
-    pub marks: [Mark; 16],
+    pub marks: [Heard; 16],
 }
 
-// The answer to a reply. Endings of a read bear the rounds used; those of a write bear 0.
-#[derive(Clone, Copy)]
+// The answer to a reply that nothing refuses. Endings of a read bear the rounds used; those of a write bear 0.
+#[derive(Clone, Copy, PartialEq, Eq)]
 pub enum Answer {
-    Refused(Refusal),
     Open,
     Done(Timestamp, u64),
     NeverWritten(u64),
@@ -48,25 +49,11 @@ pub enum Answer {
     ClockSpent,
 }
 
-// The next session, with the answer.
+// The next session, with the answer; where the reply is refused, the session that was given.
 #[derive(Clone, Copy)]
 pub struct Took {
     pub session: Session,
-    pub answer: Answer,
-}
-
-// What a ladder came to.
-#[derive(Clone, Copy)]
-pub enum Check {
-    Passed,
-    Failed(Refusal),
-}
-
-// What the ladder of a reply came to: past it, the header that was read at the door.
-#[derive(Clone, Copy)]
-pub enum Taken {
-    Refused(Refusal),
-    Reply(Header),
+    pub answer: Result<Answer, Refusal>,
 }
 
 impl Session {
@@ -75,7 +62,7 @@ impl Session {
         requires { i < 16 }
         ensures { result ≡ marked_of self i h }
     {
-        self.marks[i] = Mark { is: h };
+        self.marks[i] = h;
         self
     }
 
@@ -97,7 +84,7 @@ impl Session {
         let now = self.round;
         let round = now.next(t);
         self.round = round;
-        let marks = [Mark { is: Heard::Unheard }; 16];
+        let marks = [Heard::Unheard; 16];
         self.marks = marks;
         self
     }
@@ -110,42 +97,40 @@ impl Session {
         let round = now.store();
         self.round = round;
         self.stamp = t;
-        let marks = [Mark { is: Heard::Unheard }; 16];
+        let marks = [Heard::Unheard; 16];
         self.marks = marks;
         self
     }
 
     // The rules of refusal 9 that every session meets.
-    fn stands(self, p: Plan) -> bool
-        requires { plan_ok p ≡ true }
-        ensures { result ≡ standing_rules p self }
+    fn stands(self, p: Accepted) -> bool
+        ensures { result ≡ standing_rules p.plan self }
     {
         let now = self.round;
         let o = self.operation;
-        if !now.stands(p.w, o) {
+        if !now.stands(p.plan.w, o) {
             return false;
         }
         let marks = self.marks;
-        if !rounds::rest_unheard(marks, p.n as usize) {
+        if !rounds::rest_unheard(marks, p.plan.n as usize) {
             return false;
         }
         let a = self.opening;
-        terms::opening_ok(p, a)
+        terms::opening_ok(p.plan, a)
     }
 
     // Whether the round is open, and not over.
-    fn round_open(self, p: Plan) -> bool
-        requires { plan_ok p ≡ true }
-        ensures { result ≡ round_open p self }
+    fn round_open(self, p: Accepted) -> bool
+        ensures { result ≡ round_open p.plan self }
     {
         let marks = self.marks;
         standing::is_open(p, marks)
     }
 
     // The rules of refusal 9 that an open session meets.
-    fn open_ok(self, p: Plan, desk: &[u8]) -> bool
-        requires { (plan_ok p ≡ true) × (length desk.now ≡ p.n * record_length p) }
-        ensures { result ≡ open_rules p self desk.now }
+    fn open_ok(self, p: Accepted, desk: &[u8]) -> bool
+        requires { length desk.now ≡ p.plan.n * record_length p.plan }
+        ensures { result ≡ open_rules p.plan self desk.now }
     {
         let now = self.round;
         let t = self.stamp;
@@ -164,9 +149,9 @@ impl Session {
     }
 
     // Refusal 9: whether the session is in its ranges.
-    fn ranges_ok(self, p: Plan, desk: &[u8]) -> bool
-        requires { (plan_ok p ≡ true) × (length desk.now ≡ p.n * record_length p) }
-        ensures { result ≡ in_range p self desk.now }
+    fn ranges_ok(self, p: Accepted, desk: &[u8]) -> bool
+        requires { length desk.now ≡ p.plan.n * record_length p.plan }
+        ensures { result ≡ in_range p.plan self desk.now }
     {
         if !self.stands(p) {
             return false;
@@ -179,11 +164,11 @@ impl Session {
     }
 
     // Refusal 10: whether ask number, kind and write timestamp are the ones awaited.
-    fn awaits(self, h: Header, frame: &[u8]) -> bool
-        requires { (1 ≤ self.round.number) × (self.opening.0 + self.round.number ≤ 18446744073709551615) × (h ≡ header_in frame.now)
-            × (h.kind ≡ write_reply_kind → framed h.version 40 ≤ length frame.now) }
-        ensures { result ≡ awaited self frame.now }
+    fn awaits(self, f: Reply) -> bool
+        requires { (1 ≤ self.round.number) × (self.opening.0 + self.round.number ≤ 18446744073709551615) }
+        ensures { result ≡ awaited self f.entry.bytes.now }
     {
+        let h = f.head;
         let now = self.round;
         let opening = self.opening;
         let ask = now.asked(opening);
@@ -198,7 +183,7 @@ impl Session {
             return true;
         }
         let at = frame::head_bytes(h.version);
-        let t = terms::stamp_at(frame, at);
+        let t = terms::stamp_at(f.bytes, at);
         let u = self.stamp;
         t.same(u)
     }
@@ -212,46 +197,56 @@ impl Session {
         rounds::has_heard(marks, i)
     }
 
-    // What a good reply is refused for: 10, 11.
-    fn check_awaited(self, h: Header, frame: &[u8]) -> Taken
-        requires { (1 ≤ self.round.number) × (self.opening.0 + self.round.number ≤ 18446744073709551615) × (h ≡ header_in frame.now)
-            × (h.kind ≡ write_reply_kind → framed h.version 40 ≤ length frame.now) × (h.node < 16) }
-        ensures { (taken_number result ≡ first (awaited_ladder self frame.now) (λ k. k) 0) × Headed result frame.now }
+    // What a good reply is refused for: 10, 11. Past them, its header.
+    fn check_awaited(self, f: Reply) -> Result<Header, Refusal>
+        requires { (1 ≤ self.round.number) × (self.opening.0 + self.round.number ≤ 18446744073709551615) }
+        ensures { (taken_number result ≡ first (awaited_ladder self f.entry.bytes.now) (λ k. k) 0) × Headed result f.entry.bytes.now }
     {
-        if !self.awaits(h, frame) {
-            return Taken::Refused(Refusal::NotAwaited);
+        if !self.awaits(f) {
+            return Err(Refusal::NotAwaited);
         }
-        if self.has_heard(h.node as usize) {
-            return Taken::Refused(Refusal::AlreadyHeard);
+        if self.has_heard(f.head.node as usize) {
+            return Err(Refusal::AlreadyHeard);
         }
-        Taken::Reply(h)
+        Ok(f.head)
     }
 
-    // What a reply to a client is refused for: 1, 2, 9, 14, 4, 10, 11, in this order.
-    fn check(self, op: Operation, p: Plan, frame: &[u8], desk: &[u8], item: usize) -> Taken
+    // What a reply to a client is refused for: 1, 2, 9, 14, 4, 10, 11, in this order. Past them, the header that was read at the door.
+    fn check(
+        self,
+        op: Operation,
+        p: Plan,
+        frame: &[u8],
+        desk: &[u8],
+        item: usize,
+    ) -> Result<Header, Refusal>
         ensures { (taken_number result ≡ first (reply_ladder op p self frame.now desk.now item) (λ k. k) 0) × Headed result frame.now }
     {
         if !terms::plan_ok(p) {
-            return Taken::Refused(Refusal::OutsidePlan);
+            return Err(Refusal::OutsidePlan);
         }
-        if !lengths::lengths_ok(p, desk.len(), item) {
-            return Taken::Refused(Refusal::WrongLength);
+        let accepted = Accepted { plan: p };
+        if !lengths::lengths_ok(accepted, desk.len(), item) {
+            return Err(Refusal::WrongLength);
         }
         let o = self.operation;
         if !standing::same_operation(op, o) {
-            return Taken::Refused(Refusal::OutOfRange);
+            return Err(Refusal::OutOfRange);
         }
-        if !self.ranges_ok(p, desk) {
-            return Taken::Refused(Refusal::OutOfRange);
+        if !self.ranges_ok(accepted, desk) {
+            return Err(Refusal::OutOfRange);
         }
         let now = self.round;
         if now.ended() {
-            return Taken::Refused(Refusal::HasEnded);
+            return Err(Refusal::HasEnded);
         }
-        let door = frame::reply_at(p, frame);
-        match door {
-            Door::Bad => Taken::Refused(Refusal::WrongFrame),
-            Door::Open(h) => self.check_awaited(h, frame),
-        }
+        let Some(h) = frame::reply_at(accepted, frame) else {
+            return Err(Refusal::WrongFrame);
+        };
+        self.check_awaited(Reply {
+            plan: accepted,
+            head: h,
+            bytes: frame,
+        })
     }
 }

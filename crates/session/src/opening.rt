@@ -5,27 +5,20 @@ ghost use Rattle.session.specs.Opening.{fresh_of, no_session, opening_number, op
 ghost use Rattle.standing.specs.declared.Operation.TheVariants.{Write, Read};
 
 use crate::Session;
-use rounds::{Bound, Heard, Mark};
+use rounds::Heard;
 use standing::{Operation, Round, Stage};
-use terms::{Ask, Plan, Refusal};
-
-// The answer to an opening.
-#[derive(Clone, Copy)]
-pub enum Opening {
-    Refused(Refusal),
-    Accepted,
-}
+use terms::{Ask, Plan, Refusal, Timestamp};
 
 // The session, with the answer. A refused opening has one that every call refuses.
 #[derive(Clone, Copy)]
 pub struct Opened {
     pub session: Session,
-    pub answer: Opening,
+    pub answer: Result<(), Refusal>,
 }
 
 impl Session {
     // A session that asks, with all marks unheard and the fields not in use zero.
-    fn fresh(operation: Operation, round: u64, bound: Bound, opening: Ask) -> Session
+    fn fresh(operation: Operation, round: u64, bound: Option<Timestamp>, opening: Ask) -> Session
         ensures { result ≡ fresh_of operation round bound opening }
     {
         let times = clock::zero_times();
@@ -41,7 +34,7 @@ impl Session {
             opening: opening,
             times: times,
             stamp: stamp,
-            marks: [Mark { is: Heard::Unheard }; 16],
+            marks: [Heard::Unheard; 16],
         }
     }
 
@@ -49,30 +42,30 @@ impl Session {
     pub fn none(operation: Operation) -> Session
         ensures { result ≡ no_session operation }
     {
-        Session::fresh(operation, 0, Bound::Free, Ask(0))
+        Session::fresh(operation, 0, None, Ask(0))
     }
 
     // An operation in its round 1, below this bound.
-    fn begin(operation: Operation, bound: Bound, p: Plan, opening: Ask) -> Opened
+    fn begin(operation: Operation, bound: Option<Timestamp>, p: Plan, opening: Ask) -> Opened
         ensures { opens (opening_number result.answer) result.session ≡ open_with operation bound p opening }
     {
         let none = Session::none(operation);
         if !terms::plan_ok(p) {
             return Opened {
                 session: none,
-                answer: Opening::Refused(Refusal::OutsidePlan),
+                answer: Err(Refusal::OutsidePlan),
             };
         }
         if !terms::opening_ok(p, opening) {
             return Opened {
                 session: none,
-                answer: Opening::Refused(Refusal::AskTooHigh),
+                answer: Err(Refusal::AskTooHigh),
             };
         }
         let session = Session::fresh(operation, 1, bound, opening);
         Opened {
             session: session,
-            answer: Opening::Accepted,
+            answer: Ok(()),
         }
     }
 
@@ -80,13 +73,13 @@ impl Session {
     pub fn open_write(p: Plan, opening: Ask) -> Opened
         ensures { OpenCall Write p opening result }
     {
-        Session::begin(Operation::Write, Bound::Free, p, opening)
+        Session::begin(Operation::Write, None, p, opening)
     }
 
     // Opens a read.
     pub fn open_read(p: Plan, opening: Ask) -> Opened
         ensures { OpenCall Read p opening result }
     {
-        Session::begin(Operation::Read, Bound::Free, p, opening)
+        Session::begin(Operation::Read, None, p, opening)
     }
 }

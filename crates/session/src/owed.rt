@@ -6,49 +6,43 @@ ghost use Rattle.terms.specs.Ladder.{first};
 ghost use Rattle.session.specs.Reply.{check_number};
 ghost use Rattle.session.specs.Owed.{owed_ladder, request_of, OwedCall};
 
-use crate::{Check, Session};
+use crate::Session;
 use standing::lengths;
-use terms::{Plan, Refusal};
-
-// The answer: refused, or the length of the frame that was written.
-#[derive(Clone, Copy)]
-pub enum Owed {
-    Refused(Refusal),
-    Request(usize),
-}
+use terms::{Accepted, Plan, Refusal};
 
 impl Session {
     // What a request owed is refused for: 1, 2, 9, 14, 4, 11, in this order.
-    fn owed_check(self, p: Plan, node: u64, desk: &[u8], request: usize) -> Check
+    fn owed_check(self, p: Plan, node: u64, desk: &[u8], request: usize) -> Result<(), Refusal>
         ensures { check_number result ≡ first (owed_ladder p self node desk.now request) (λ k. k) 0 }
     {
         if !terms::plan_ok(p) {
-            return Check::Failed(Refusal::OutsidePlan);
+            return Err(Refusal::OutsidePlan);
         }
-        if !lengths::room_ok(p, desk.len(), request) {
-            return Check::Failed(Refusal::WrongLength);
+        let accepted = Accepted { plan: p };
+        if !lengths::room_ok(accepted, desk.len(), request) {
+            return Err(Refusal::WrongLength);
         }
-        if !self.ranges_ok(p, desk) {
-            return Check::Failed(Refusal::OutOfRange);
+        if !self.ranges_ok(accepted, desk) {
+            return Err(Refusal::OutOfRange);
         }
         let now = self.round;
         if now.ended() {
-            return Check::Failed(Refusal::HasEnded);
+            return Err(Refusal::HasEnded);
         }
         if node >= p.n {
-            return Check::Failed(Refusal::WrongFrame);
+            return Err(Refusal::WrongFrame);
         }
         if self.has_heard(node as usize) {
-            return Check::Failed(Refusal::AlreadyHeard);
+            return Err(Refusal::AlreadyHeard);
         }
-        Check::Passed
+        Ok(())
     }
 
     // The request of the open round, where nothing refuses it: a time request, a read request, or the node's record of the desk.
-    fn write_request(self, p: Plan, node: u64, desk: &[u8], request: &mut [u8]) -> usize
-        requires { first (owed_ladder p self node desk.now (length request.old)) (λ k. k) 0 ≡ 0 }
-        ensures { (request.new ≡ over (request_of p self node desk.now) request.old)
-            × (result ≡ length (request_of p self node desk.now)) }
+    fn write_request(self, p: Accepted, node: u64, desk: &[u8], request: &mut [u8]) -> usize
+        requires { first (owed_ladder p.plan self node desk.now (length request.old)) (λ k. k) 0 ≡ 0 }
+        ensures { (request.new ≡ over (request_of p.plan self node desk.now) request.old)
+            × (result ≡ length (request_of p.plan self node desk.now)) }
     {
         let now = self.round;
         let opening = self.opening;
@@ -67,17 +61,12 @@ impl Session {
         frame::bare(request, h)
     }
 
-    // The request frame owed to a node, into the request buffer; bytes past it stay.
-    pub fn owed(self, p: Plan, node: u64, desk: &[u8], request: &mut [u8]) -> Owed
+    // The request frame owed to a node, into the request buffer; bytes past it stay. Its length is told.
+    pub fn owed(self, p: Plan, node: u64, desk: &[u8], request: &mut [u8]) -> Result<usize, Refusal>
         ensures { OwedCall p self node desk.now request.old result request.new }
     {
-        let c = self.owed_check(p, node, desk, request.len());
-        match c {
-            Check::Failed(r) => Owed::Refused(r),
-            Check::Passed => {
-                let n = self.write_request(p, node, desk, request);
-                Owed::Request(n)
-            }
-        }
+        self.owed_check(p, node, desk, request.len())?;
+        let accepted = Accepted { plan: p };
+        Ok(self.write_request(accepted, node, desk, request))
     }
 }

@@ -4,80 +4,79 @@ ghost use Rattle.std.specs.Prelude.{◌≡◌, true, false, ◌+◌, ◌*◌, le
 ghost use Rattle.terms.specs.Ladder.{first};
 ghost use Rattle.terms.specs.Terms.{plan_ok, record_length};
 ghost use Rattle.frame.specs.Frame.{good_reply, header_in};
-ghost use Rattle.rounds.specs.declared.Lead.TheVariants.{Node};
+ghost use Rattle.std.specs.Prelude.{Some};
 ghost use Rattle.rounds.specs.Rounds.{told};
 ghost use Rattle.session.specs.Session.{said_of};
 ghost use Rattle.session.specs.Reply.{bears, record_ladder, check_number};
 ghost use Rattle.session.specs.Inside.{Acting};
 ghost use Rattle.session.specs.Reader.{outcome, failing, act_on, acted, settled, heard, stored, accepted, ReadReplyCall};
 
-use crate::{Answer, Check, Session, Taken, Took};
-use frame::Header;
-use rounds::{Close, Heard, Lead};
+use crate::reply::Reply;
+use crate::{Answer, Session, Took};
+use rounds::{Close, Heard};
 use standing::Operation;
-use terms::{Plan, Refusal, Timestamp, Verdict};
+use terms::{Accepted, Plan, Refusal, Timestamp, Verdict};
 
 // Whether a reply bears a record, and not the first triple.
-fn bears_record(p: Plan, h: Header, frame: &[u8]) -> bool
-    requires { (plan_ok p ≡ true) × (h ≡ header_in frame.now) }
-    ensures { result ≡ bears p frame.now }
+fn bears_record(f: Reply) -> bool
+    ensures { result ≡ bears f.entry.plan.plan f.entry.bytes.now }
 {
+    let h = f.head;
     let kind = h.kind;
     if kind != frame::READ_REPLY {
         return false;
     }
     let at = frame::head_bytes(h.version);
-    frame.len() == at + terms::record_length(p)
+    f.bytes.len() == at + terms::record_length(f.plan)
 }
 
 impl Session {
     // What a reply that bears a record is refused for: 5, 6, 12, in this order.
-    fn check_record(self, p: Plan, h: Header, frame: &[u8]) -> Check
-        requires { (plan_ok p ≡ true) × (good_reply p frame.now ≡ true) × (h ≡ header_in frame.now) }
-        ensures { check_number result ≡ first (record_ladder p self frame.now) (λ k. k) 0 }
+    fn check_record(self, f: Reply) -> Result<(), Refusal>
+        ensures { check_number result ≡ first (record_ladder f.entry.plan.plan self f.entry.bytes.now) (λ k. k) 0 }
     {
-        if !bears_record(p, h, frame) {
-            return Check::Passed;
+        let h = f.head;
+        if !bears_record(f) {
+            return Ok(());
         }
         let at = frame::head_bytes(h.version);
-        if record::time_zero(frame, at) {
-            return Check::Failed(Refusal::TimeZero);
+        if record::time_zero(f.bytes, at) {
+            return Err(Refusal::TimeZero);
         }
-        if !record::hashes_ok(p, h.node, frame, at) {
-            return Check::Failed(Refusal::HashFails);
+        if !record::hashes_ok(f.plan, h.node, f.bytes, at) {
+            return Err(Refusal::HashFails);
         }
         let now = self.round;
         let b = now.bound;
-        if !rounds::under(b, frame, at) {
-            return Check::Failed(Refusal::NotBelow);
+        if !rounds::under(b, f.bytes, at) {
+            return Err(Refusal::NotBelow);
         }
-        Check::Passed
+        Ok(())
     }
 
     // Incomplete, or validation failed: the next round opens below t, or the rounds are spent.
-    fn fall(self, p: Plan, t: Timestamp, desk: &[u8], item: &[u8]) -> Took
-        requires { plan_ok p ≡ true }
-        ensures { outcome (said_of result.answer) result.session desk.now item.now ≡ failing p self t desk.now item.now }
+    fn fall(self, p: Accepted, t: Timestamp, desk: &[u8], item: &[u8]) -> Took
+        ensures { outcome (said_of result.answer) result.session desk.now item.now ≡ failing p.plan self t desk.now item.now }
     {
         let round = self.round.number;
-        if round >= p.w {
+        if round >= p.plan.w {
             let s = self.over();
             return Took {
                 session: s,
-                answer: Answer::RoundsSpent(round),
+                answer: Ok(Answer::RoundsSpent(round)),
             };
         }
         let s = self.next(t);
         Took {
             session: s,
-            answer: Answer::Open,
+            answer: Ok(Answer::Open),
         }
     }
 
     // What a closed round comes to, where node a leads the candidate's set.
-    fn act_on(self, p: Plan, c: Close, a: usize, desk: &mut [u8], item: &mut [u8]) -> Took
-        requires { (Acting p c desk.old item.old) × (c.lead ≡ Node a) }
-        ensures { outcome (said_of result.answer) result.session desk.new item.new ≡ act_on c.verdict p self (told c) a desk.old item.old }
+    fn act_on(self, p: Accepted, c: Close, a: usize, desk: &mut [u8], item: &mut [u8]) -> Took
+        requires { (Acting p.plan c desk.old item.old) × (c.lead ≡ Some a) }
+        ensures { outcome (said_of result.answer) result.session desk.new item.new ≡ act_on c.verdict p.plan self (told c) a desk.old item.old }
     {
         let v = c.verdict;
         let t = c.stamp;
@@ -91,7 +90,7 @@ impl Session {
                 let s = self.over();
                 Took {
                     session: s,
-                    answer: Answer::Done(t, round),
+                    answer: Ok(Answer::Done(t, round)),
                 }
             }
             Verdict::Repair => {
@@ -102,14 +101,14 @@ impl Session {
                 let s = self.store(t);
                 Took {
                     session: s,
-                    answer: Answer::Open,
+                    answer: Ok(Answer::Open),
                 }
             }
             Verdict::Aborted => {
                 let s = self.over();
                 Took {
                     session: s,
-                    answer: Answer::Aborted(round),
+                    answer: Ok(Answer::Aborted(round)),
                 }
             }
             Verdict::Incomplete => self.fall(p, t, &desk[..], &item[..]),
@@ -117,69 +116,71 @@ impl Session {
     }
 
     // What a closed round comes to.
-    fn act(self, p: Plan, c: Close, desk: &mut [u8], item: &mut [u8]) -> Took
-        requires { Acting p c desk.old item.old }
-        ensures { outcome (said_of result.answer) result.session desk.new item.new ≡ acted p self (told c) desk.old item.old }
+    fn act(self, p: Accepted, c: Close, desk: &mut [u8], item: &mut [u8]) -> Took
+        requires { Acting p.plan c desk.old item.old }
+        ensures { outcome (said_of result.answer) result.session desk.new item.new ≡ acted p.plan self (told c) desk.old item.old }
     {
         let l = c.lead;
         let round = self.round.number;
         match l {
-            Lead::Nobody => {
+            None => {
                 let s = self.over();
                 Took {
                     session: s,
-                    answer: Answer::NeverWritten(round),
+                    answer: Ok(Answer::NeverWritten(round)),
                 }
             }
-            Lead::Node(a) => self.act_on(p, c, a, desk, item),
+            Some(a) => self.act_on(p, c, a, desk, item),
         }
     }
 
     // After a mark in a read round: still open, or closed and acted on.
-    fn settle(self, p: Plan, desk: &mut [u8], item: &mut [u8]) -> Took
-        requires { (plan_ok p ≡ true) × (length desk.old ≡ p.n * record_length p) × (length item.old ≡ p.m * p.f) }
-        ensures { outcome (said_of result.answer) result.session desk.new item.new ≡ settled p self desk.old item.old }
+    fn settle(self, p: Accepted, desk: &mut [u8], item: &mut [u8]) -> Took
+        requires { (length desk.old ≡ p.plan.n * record_length p.plan) × (length item.old ≡ p.plan.m * p.plan.f) }
+        ensures { outcome (said_of result.answer) result.session desk.new item.new ≡ settled p.plan self desk.old item.old }
     {
         if self.round_open(p) {
             return Took {
                 session: self,
-                answer: Answer::Open,
+                answer: Ok(Answer::Open),
             };
         }
         let marks = self.marks;
         let slots = terms::slots_of(p);
-        let member = p.member;
+        let member = p.plan.member;
         let t = terms::thresholds_of(p);
         let c = rounds::closing(marks, &desk[..], slots, member, t);
         self.act(p, c, desk, item)
     }
 
     // An accepted reply of a read round.
-    fn hear(self, p: Plan, h: Header, frame: &[u8], desk: &mut [u8], item: &mut [u8]) -> Took
-        requires { (plan_ok p ≡ true) × (good_reply p frame.now ≡ true) × (h ≡ header_in frame.now) × (length desk.old ≡ p.n * record_length p) × (length item.old ≡ p.m * p.f) }
-        ensures { outcome (said_of result.answer) result.session desk.new item.new ≡ heard p self frame.now desk.old item.old }
+    fn hear(self, f: Reply, desk: &mut [u8], item: &mut [u8]) -> Took
+        requires { (length desk.old ≡ f.plan.plan.n * record_length f.plan.plan) × (length item.old ≡ f.plan.plan.m * f.plan.plan.f) }
+        ensures { outcome (said_of result.answer) result.session desk.new item.new ≡ heard f.entry.plan.plan self f.entry.bytes.now desk.old item.old }
     {
+        let p = f.plan;
+        let h = f.head;
         let i = h.node as usize;
-        if !bears_record(p, h, frame) {
+        if !bears_record(f) {
             let s = self.marked(i, Heard::First);
             return s.settle(p, desk, item);
         }
         let r = terms::record_length(p);
         let at = frame::head_bytes(h.version);
-        octets::copy(frame, at, r, desk, i * r);
+        octets::copy(f.bytes, at, r, desk, i * r);
         let s = self.marked(i, Heard::Record);
         s.settle(p, desk, item)
     }
 
     // After a mark in a repair round: still open, or done, with the item from the first m slots.
-    fn keep(self, p: Plan, desk: &[u8], item: &mut [u8]) -> Took
-        requires { (plan_ok p ≡ true) × (length desk.now ≡ p.n * record_length p) × (length item.old ≡ p.m * p.f) }
-        ensures { outcome (said_of result.answer) result.session desk.now item.new ≡ stored p self desk.now item.old }
+    fn keep(self, p: Accepted, desk: &[u8], item: &mut [u8]) -> Took
+        requires { (length desk.now ≡ p.plan.n * record_length p.plan) × (length item.old ≡ p.plan.m * p.plan.f) }
+        ensures { outcome (said_of result.answer) result.session desk.now item.new ≡ stored p.plan self desk.now item.old }
     {
         if self.round_open(p) {
             return Took {
                 session: self,
-                answer: Answer::Open,
+                answer: Ok(Answer::Open),
             };
         }
         let t = self.stamp;
@@ -188,22 +189,22 @@ impl Session {
         let s = self.over();
         Took {
             session: s,
-            answer: Answer::Done(t, round),
+            answer: Ok(Answer::Done(t, round)),
         }
     }
 
     // An accepted reply.
-    fn accept(self, p: Plan, h: Header, frame: &[u8], desk: &mut [u8], item: &mut [u8]) -> Took
-        requires { (plan_ok p ≡ true) × (good_reply p frame.now ≡ true) × (h ≡ header_in frame.now) × (length desk.old ≡ p.n * record_length p) × (length item.old ≡ p.m * p.f) }
-        ensures { outcome (said_of result.answer) result.session desk.new item.new ≡ accepted p self frame.now desk.old item.old }
+    fn accept(self, f: Reply, desk: &mut [u8], item: &mut [u8]) -> Took
+        requires { (length desk.old ≡ f.plan.plan.n * record_length f.plan.plan) × (length item.old ≡ f.plan.plan.m * f.plan.plan.f) }
+        ensures { outcome (said_of result.answer) result.session desk.new item.new ≡ accepted f.entry.plan.plan self f.entry.bytes.now desk.old item.old }
     {
         let now = self.round;
         if now.storing() {
-            let i = h.node as usize;
+            let i = f.head.node as usize;
             let s = self.marked(i, Heard::Record);
-            return s.keep(p, &desk[..], item);
+            return s.keep(f.plan, &desk[..], item);
         }
-        self.hear(p, h, frame, desk, item)
+        self.hear(f, desk, item)
     }
 
     // A reply to a reader.
@@ -211,17 +212,24 @@ impl Session {
         ensures { ReadReplyCall p self reply.now desk.old item.old result desk.new item.new }
     {
         match self.check(Operation::Read, p, reply, &desk[..], item.len()) {
-            Taken::Refused(k) => Took {
+            Err(k) => Took {
                 session: self,
-                answer: Answer::Refused(k),
+                answer: Err(k),
             },
-            Taken::Reply(h) => match self.check_record(p, h, reply) {
-                Check::Failed(k) => Took {
-                    session: self,
-                    answer: Answer::Refused(k),
-                },
-                Check::Passed => self.accept(p, h, reply, desk, item),
-            },
+            Ok(h) => {
+                let f = Reply {
+                    plan: Accepted { plan: p },
+                    head: h,
+                    bytes: reply,
+                };
+                match self.check_record(f) {
+                    Err(k) => Took {
+                        session: self,
+                        answer: Err(k),
+                    },
+                    Ok(()) => self.accept(f, desk, item),
+                }
+            }
         }
     }
 }

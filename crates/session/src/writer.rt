@@ -10,11 +10,12 @@ ghost use Rattle.session.specs.Session.{said_of};
 ghost use Rattle.session.specs.Reply.{reply_ladder};
 ghost use Rattle.session.specs.Writer.{timed_of, kth_reply, leaves, time_turn, write_turn, accepted_write, WriteReplyCall};
 
-use crate::{Answer, Session, Taken, Took};
+use crate::reply::Reply;
+use crate::{Answer, Session, Took};
 use frame::Header;
-use rounds::{Heard, Mark};
+use rounds::Heard;
 use standing::Operation;
-use terms::{Plan, Time};
+use terms::{Accepted, Plan, Time};
 
 // The time that a time reply bears.
 fn time_in(h: Header, reply: &[u8]) -> Time
@@ -32,29 +33,28 @@ impl Session {
         ensures { result ≡ timed_of self i t.0 }
     {
         self.times[i] = t;
-        self.marks[i] = Mark { is: Heard::Record };
+        self.marks[i] = Heard::Record;
         self
     }
 
     // Q-2: the (b+1)-th greatest of the time replies.
-    fn kth_reply(self, p: Plan) -> Time
-        requires { plan_ok p ≡ true }
-        ensures { result.0 ≡ kth_reply p self }
+    fn kth_reply(self, p: Accepted) -> Time
+        ensures { result.0 ≡ kth_reply p.plan self }
     {
         let marks = self.marks;
         let times = self.times;
-        clock::kth_greatest(marks, times, p.b + 1)
+        clock::kth_greatest(marks, times, p.plan.b + 1)
     }
 
     // The time round, after a reply: open, or at N-t replies the write round opens, with all records made.
-    fn time_turn(self, p: Plan, desk: &mut [u8], item: &[u8], cross: &mut [u8]) -> Took
-        requires { (plan_ok p ≡ true) × (length item.now ≡ p.m * p.f) × (length desk.old ≡ p.n * record_length p) × (512 ≤ length cross.old) }
-        ensures { leaves (said_of result.answer) result.session desk.new ≡ time_turn p self desk.old item.now }
+    fn time_turn(self, p: Accepted, desk: &mut [u8], item: &[u8], cross: &mut [u8]) -> Took
+        requires { (length item.now ≡ p.plan.m * p.plan.f) × (length desk.old ≡ p.plan.n * record_length p.plan) × (512 ≤ length cross.old) }
+        ensures { leaves (said_of result.answer) result.session desk.new ≡ time_turn p.plan self desk.old item.now }
     {
         if self.round_open(p) {
             return Took {
                 session: self,
-                answer: Answer::Open,
+                answer: Ok(Answer::Open),
             };
         }
         let g = self.kth_reply(p);
@@ -62,57 +62,49 @@ impl Session {
             let s = self.over();
             return Took {
                 session: s,
-                answer: Answer::ClockSpent,
+                answer: Ok(Answer::ClockSpent),
             };
         }
         let t = recover::write_records(p, Time(g.0 + 1), item, desk, cross);
         let s = self.store(t);
         Took {
             session: s,
-            answer: Answer::Open,
+            answer: Ok(Answer::Open),
         }
     }
 
     // The write round, after a reply: open, or done at N-t replies.
-    fn write_turn(self, p: Plan) -> Took
-        requires { plan_ok p ≡ true }
-        ensures { (d : List ℕ) → leaves (said_of result.answer) result.session d ≡ write_turn p self d }
+    fn write_turn(self, p: Accepted) -> Took
+        ensures { (d : List ℕ) → leaves (said_of result.answer) result.session d ≡ write_turn p.plan self d }
     {
         if self.round_open(p) {
             return Took {
                 session: self,
-                answer: Answer::Open,
+                answer: Ok(Answer::Open),
             };
         }
         let t = self.stamp;
         let s = self.over();
         Took {
             session: s,
-            answer: Answer::Done(t, 0),
+            answer: Ok(Answer::Done(t, 0)),
         }
     }
 
     // A reply that nothing refuses.
-    fn accept_write(
-        self,
-        p: Plan,
-        h: Header,
-        reply: &[u8],
-        desk: &mut [u8],
-        item: &[u8],
-        cross: &mut [u8],
-    ) -> Took
-        requires { (first (reply_ladder Write p self reply.now desk.old (length item.now)) (λ k. k) 0 ≡ 0) × (h ≡ header_in reply.now) × (512 ≤ length cross.old) }
+    fn accept_write(self, f: Reply, desk: &mut [u8], item: &[u8], cross: &mut [u8]) -> Took
+        requires { (first (reply_ladder Write f.plan.plan self f.bytes.now desk.old (length item.now)) (λ k. k) 0 ≡ 0) × (512 ≤ length cross.old) }
         ensures { leaves (said_of result.answer) result.session desk.new
-            ≡ accepted_write p self reply.now desk.old item.now }
+            ≡ accepted_write f.entry.plan.plan self f.entry.bytes.now desk.old item.now }
     {
-        let i = h.node as usize;
+        let p = f.plan;
+        let i = f.head.node as usize;
         let now = self.round;
         if now.storing() {
             let s = self.marked(i, Heard::Record);
             return s.write_turn(p);
         }
-        let s = self.timed(i, time_in(h, reply));
+        let s = self.timed(i, time_in(f.head, f.bytes));
         s.time_turn(p, desk, item, cross)
     }
 
@@ -130,11 +122,18 @@ impl Session {
     {
         let c = self.check(Operation::Write, p, reply, &desk[..], item.len());
         match c {
-            Taken::Refused(k) => Took {
+            Err(k) => Took {
                 session: self,
-                answer: Answer::Refused(k),
+                answer: Err(k),
             },
-            Taken::Reply(h) => self.accept_write(p, h, reply, desk, item, cross),
+            Ok(h) => {
+                let f = Reply {
+                    plan: Accepted { plan: p },
+                    head: h,
+                    bytes: reply,
+                };
+                self.accept_write(f, desk, item, cross)
+            }
         }
     }
 

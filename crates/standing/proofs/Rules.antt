@@ -1,11 +1,11 @@
 -- How code goes down a list of rules, and what the rules on a round and on lengths say where they hold. Assumes nothing.
-use mathlib.Core.Path.{◌≡◌, sym, ap, ◌∙◌}
+use mathlib.Core.Path.{◌≡◌, sym, ◌∙◌}
 use mathlib.Core.Bool.{Bool, true, false}
 use mathlib.Core.List.{List, [], ◌∷◌}
 use Prim.Native.Nat.{ℕ, ◌*◌, ◌≤◌}
 use native.Mathlib.Nat.{le_trans, mul-le-mul_right, mul-le-mul_left}
 use native.Mathlib.Omega.{arith}
-use borrow.Author.Tests.{leb-true, le-leb, eqb-true, eq-eqb}
+use borrow.Author.Tests.{leb-true, le-leb, eqb-true}
 use lib.Dec.{leb, eqb}
 use Rattle.terms.specs.Ladder.{all, ◌and◌, ◌or◌}
 use Rattle.terms.specs.Terms.{record_length}
@@ -88,10 +88,6 @@ desk_fits p desk item e = (lengths_are p desk item e).desk_is
 pub record Room (p : Plan) (desk request : ℕ) : Type 0 where
   pub desk_is : desk ≡ p.n * record_length p
   pub request_low : longest 1 p ≤ request
-
-pub room_last : (p : Plan) (desk request r : ℕ) (x : Bool) → r ≡ record_length p → desk ≡ p.n * r → x ≡ leb (longest 1 p) request → x ≡ room_ok p desk request
-unfolding room_ok
-room_last p desk request r x er e q = rw (eq-eqb desk (p.n * record_length p) (e ∙ ap (λ (y : ℕ). p.n * y) er)) q
 
 pub room_is : (p : Plan) (desk request : ℕ) → room_ok p desk request ≡ true → Room p desk request
 unfolding room_ok

@@ -10,7 +10,7 @@
 --   read_request        a read round's request: kind 5, or kind 6 with the bound
 --   lengths_ok room_ok   2: of a reply, the desk and the item; of a request owed, the desk and the request buffer
 -- Assumes nothing.
-use Rattle.std.specs.Prelude.{ℕ, ◌+◌, ◌-◌, ◌*◌, Bool, true, false, not, cond, List, [], ◌∷◌, ltb, leb, eqb}
+use Rattle.std.specs.Prelude.{ℕ, ◌+◌, ◌-◌, ◌*◌, Bool, true, false, not, cond, List, [], ◌∷◌, ltb, leb, eqb, Option, None, Some}
 use Rattle.octets.specs.Bytes.{be}
 use Rattle.terms.specs.Ladder.{all, ◌and◌, ◌or◌}
 use Rattle.terms.specs.Terms.{record_length}
@@ -18,8 +18,6 @@ use Rattle.terms.specs.Stamp.{stamp_number}
 use Rattle.terms.specs.declared.Plan.{Plan}
 use Rattle.terms.specs.declared.Timestamp.{Timestamp}
 use Rattle.frame.specs.Frame.{frame, longest, write_reply_kind, read_reply_kind, time_reply_kind, read_latest_kind, read_previous_kind}
-use Rattle.rounds.specs.declared.Bound.{Bound}
-use Rattle.rounds.specs.declared.Bound.TheVariants.{Free, Under}
 use Rattle.standing.specs.declared.Round.{Round}
 use Rattle.standing.specs.declared.Operation.{Operation}
 use Rattle.standing.specs.declared.Operation.TheVariants.{Write, Read}
@@ -58,7 +56,7 @@ in_stage r g = record { stage = g; number = r.number; bound = r.bound }
 
 -- below the candidate's timestamp
 abbrev pub next_round : Round → Timestamp → Round
-next_round r t = record { stage = Asking; number = r.number + 1; bound = Under t }
+next_round r t = record { stage = Asking; number = r.number + 1; bound = Some t }
 
 -- ---- what a round awaits and asks for
 abbrev pub replies : Plan → ℕ
@@ -73,14 +71,14 @@ unfoldable pub awaits_in : Operation → Round → ℕ → Bool
 awaits_in o r k = cond (is_storing r.stage) (eqb k write_reply_kind) (cond (is_read o) (eqb k read_reply_kind) (eqb k time_reply_kind))
 
 -- "round 1 asks kind 5, later rounds kind 6 with the last candidate's timestamp as bound": it is the bound that tells
-unfoldable pub read_request : Bound → ℕ → ℕ → List ℕ
-read_request Free node ask = frame read_latest_kind node ask []
-read_request (Under u) node ask = frame read_previous_kind node ask (be 40 (stamp_number u))
+unfoldable pub read_request : Option Timestamp → ℕ → ℕ → List ℕ
+read_request None node ask = frame read_latest_kind node ask []
+read_request (Some u) node ask = frame read_previous_kind node ask (be 40 (stamp_number u))
 
 -- ---- refusal 9
-abbrev pub bound_ok : Bound → ℕ → Bool
-bound_ok Free round = leb round 1
-bound_ok (Under u) round = ltb 1 round and leb 1 u.time.0
+abbrev pub bound_ok : Option Timestamp → ℕ → Bool
+bound_ok None round = leb round 1
+bound_ok (Some u) round = ltb 1 round and leb 1 u.time.0
 
 -- "round 1 to W, and 1 in a write; a bound exactly when round is above 1, time 1 or more"
 unfoldable pub round_rules : ℕ → Operation → Round → Bool

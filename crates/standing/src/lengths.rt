@@ -3,28 +3,21 @@ ghost use Rattle.std.specs.Prelude.{◌≡◌, true};
 ghost use Rattle.terms.specs.Terms.{plan_ok};
 ghost use Rattle.standing.specs.Standing.{lengths_ok, room_ok};
 
-use terms::Plan;
+use terms::Accepted;
 
 // Of a reply: the desk and the item.
-pub fn lengths_ok(p: Plan, desk: usize, item: usize) -> bool
-    requires { plan_ok p ≡ true }
-    ensures { result ≡ lengths_ok p desk item }
+#[tactic(auto, unfolding(crate::specs::Standing::lengths_ok))]
+pub fn lengths_ok(p: Accepted, desk: usize, item: usize) -> bool
+    ensures { result ≡ lengths_ok p.plan desk item }
 {
-    let r = terms::record_length(p);
-    if desk != (p.n as usize) * r {
-        return false;
-    }
-    item == (p.m as usize) * (p.f as usize)
+    desk == p.plan.n as usize * terms::record_length(p)
+        && item == p.plan.m as usize * p.plan.f as usize
 }
 
 // Of a request owed: the desk and the request buffer.
-pub fn room_ok(p: Plan, desk: usize, request: usize) -> bool
-    requires { plan_ok p ≡ true }
-    ensures { result ≡ room_ok p desk request }
+#[tactic(auto, unfolding(crate::specs::Standing::room_ok))]
+pub fn room_ok(p: Accepted, desk: usize, request: usize) -> bool
+    ensures { result ≡ room_ok p.plan desk request }
 {
-    let r = terms::record_length(p);
-    if desk != (p.n as usize) * r {
-        return false;
-    }
-    frame::holds_any(1, p, request)
+    desk == p.plan.n as usize * terms::record_length(p) && frame::holds_any(1, p, request)
 }

@@ -1,5 +1,6 @@
 -- The hypotheses of the theorems can be met. One node, one fragment of one byte (N1 t0 b0 Q1 m1 F1, R = 73), a fresh book with room for two
 -- records, and two write requests, of times 1 and 2: two runs of them, in two orders and with a repeat. Assumes nothing.
+use Rattle.std.specs.Prelude.{Ok, Err}
 use Prim.{tt}
 use mathlib.Core.Path.{◌≡◌, refl, sym, ap, ◌∙◌, subst}
 use mathlib.Core.Bool.{Bool, true, false, not}
@@ -30,8 +31,6 @@ use Rattle.record.specs.Record.{hashes_ok, time_zero, fragment_hash, prefix_of}
 use Rattle.book.specs.Records.{holds, kept, timed, rising}
 use Rattle.book.specs.Book.{laid_out, laid_as, header, joined, records_of, node_of, book_head}
 use Rattle.book.proofs.Lists.{length_insert}
-use Rattle.node.specs.declared.Answer.TheVariants.{Refused, Replied}
-use Rattle.node.specs.declared.Made.TheVariants.{Fresh}
 use Rattle.node.specs.Fresh.{FreshCall, freshened}
 use Rattle.terms.specs.declared.Refusal.TheVariants.{OutsidePlan}
 use Rattle.store.proofs.Node as calls
@@ -84,7 +83,7 @@ fresh = record {
 }
 
 -- it is what the making of a fresh book leaves
-pub made_so : FreshCall plan 0 (zeros room) Fresh book
+pub made_so : FreshCall plan 0 (zeros room) (Ok tt) book
 unfolding freshened first book plan
 made_so = record { is = rw (accepted_plan, length_zeros room) }
 
@@ -286,7 +285,7 @@ module _ (t : ℕ) (low : 0 < t) (high : t < 256) (is : (record_of 1 ≡ record_
       rw (ne_eqb (kind_of (request t)) time_request_kind (λ z. omega arith), eq-eqb (kind_of (request t)) write_request_kind k)
       (ap (λ (n : ℕ). replied (framed 1 n)) (length_part (body_of (request t)) 0 40 (omega arith)))
 
-  acknowledges : NodeCall plan (request t) b (zeros 88) (Replied (framed 1 40)) (left_of t b).book (left_of t b).reply
+  acknowledges : NodeCall plan (request t) b (zeros 88) (Ok (framed 1 40)) (left_of t b).book (left_of t b).reply
   unfolding left_of
   acknowledges =
       let s = one.served_is q.laid (request t) (zeros 88) roomy (passing t low high) own fits in
@@ -310,7 +309,7 @@ module _ (t : ℕ) (low : 0 < t) (high : t < 256) (is : (record_of 1 ≡ record_
 -- ---- two runs of calls
 pub brought : ℕ → List ℕ → Delivery
 brought t b =
-    record { node = 0; request = request t; reply = zeros 88; answer = Replied (framed 1 40); book_left = (left_of t b).book; reply_left = (left_of t b).reply }
+    record { node = 0; request = request t; reply = zeros 88; answer = Ok (framed 1 40); book_left = (left_of t b).book; reply_left = (left_of t b).reply }
 
 pub first_run : List Delivery
 first_run = brought 1 book ∷ brought 2 (left_of 1 book).book ∷ []
@@ -391,13 +390,13 @@ same_bytes = theorems.any_order plan books set first_run second_run given_first 
 pub left : ServedOutcome
 left = left_of 1 book
 
-pub acknowledged : NodeCall plan (request 1) book (zeros 88) (Replied (framed 1 40)) left.book left.reply
+pub acknowledged : NodeCall plan (request 1) book (zeros 88) (Ok (framed 1 40)) left.book left.reply
 unfolding left
 acknowledged = acknowledges 1 (omega arith) (omega arith) (inl refl) book [] takes_fresh (omega (arith, alone (record_of 1)))
 
 -- it is a history of one call, and its record is there for good
 pub call : Call
-call = record { plan = plan; request = request 1; reply = zeros 88; answer = Replied (framed 1 40); book_left = left.book; reply_left = left.reply }
+call = record { plan = plan; request = request 1; reply = zeros 88; answer = Ok (framed 1 40); book_left = left.book; reply_left = left.reply }
 
 pub history : History book (call ∷ [])
 unfolding call
@@ -421,7 +420,7 @@ abbrev rest_of : List Rung → List Rung
 rest_of [] = []
 rest_of (x ∷ xs) = xs
 
-pub refused_so : NodeCall off_plan [] [] [] (Refused OutsidePlan) [] []
+pub refused_so : NodeCall off_plan [] [] [] (Err OutsidePlan) [] []
 refused_so =
     calls.is_refused off_plan [] [] [] OutsidePlan
     (record { before = []; after = rest_of (node_ladder off_plan [] [] []); is = λ i. on 1 (not (off_plan_no i)) ∷ rest_of (node_ladder off_plan [] [] []); none = tt })

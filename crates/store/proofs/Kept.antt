@@ -1,4 +1,6 @@
 -- A good book stays good, and no record is ever lost. Assumes nothing.
+use Rattle.terms.specs.declared.Refusal.{Refusal}
+use Rattle.std.specs.Prelude.{Result, Ok, Err}
 use mathlib.Core.Path.{◌≡◌, refl, sym, ap, ◌∙◌, subst}
 use mathlib.Core.Bool.{Bool, true, false, cond, not}
 use mathlib.Core.List.{List, [], ◌∷◌}
@@ -23,8 +25,6 @@ use Rattle.book.specs.Book.{records_of, node_of, count_of, used_of, good_book, b
 use Rattle.book.proofs.Lists.{length_insert}
 use Rattle.book.proofs.Laid as laid
 use Rattle.node.specs.Node.{served, answered, ServedOutcome, served_outcome, refused, replied, node_ladder, writes, other_held, no_room, NodeCall}
-use Rattle.node.specs.declared.Answer.{Answer}
-use Rattle.node.specs.declared.Answer.TheVariants.{Refused, Replied}
 use Rattle.node.proofs.Laws as nodes
 use Rattle.store.specs.Deliver.{Among, passes}
 use Rattle.store.specs.History.{Call, History, last_book, After}
@@ -122,9 +122,9 @@ module _ (p : Plan) (f b y : List ℕ) (g : good_book p b ≡ true) (o : Octets 
   start_of c = one.itself p b c.plan g o (nodes.lengths_are p (length b) (length y) c.lengths).high
 
   -- Whatever a call answers, it leaves a good book good and with all its records.
-  pub call_keeps : (a : Answer) (b₂ y₂ : List ℕ) → NodeCall p f b y a b₂ y₂ → After p b b₂
-  call_keeps (Refused r) b₂ y₂ c = same_after p b b₂ g (theorems.refused_is p f b y r b₂ y₂ c).1
-  call_keeps (Replied n) b₂ y₂ c = go (writes (header_in f)) refl
+  pub call_keeps : (a : Result ℕ Refusal) (b₂ y₂ : List ℕ) → NodeCall p f b y a b₂ y₂ → After p b b₂
+  call_keeps (Err r) b₂ y₂ c = same_after p b b₂ g (theorems.refused_is p f b y r b₂ y₂ c).1
+  call_keeps (Ok n) b₂ y₂ c = go (writes (header_in f)) refl
     where
       q : None (node_ladder p f b y) × (served_outcome (replied n) b₂ y₂ ≡ answered p (header_in f) (body_of f) b y)
       q = theorems.replied_is p f b y n b₂ y₂ c
@@ -136,19 +136,19 @@ module _ (p : Plan) (f b y : List ℕ) (g : good_book p b ≡ true) (o : Octets 
       go false w = same_after p b b₂ g (ap (λ (o : ServedOutcome). o.book) q.1 ∙ one.answered_book p f b y ∙ nodes.after_other p (header_in f) (body_of f) b w)
 
   -- A write request that was acknowledged is in the book.
-  pub call_stores : (n : ℕ) (b₂ y₂ : List ℕ) → NodeCall p f b y (Replied n) b₂ y₂ → writes (header_in f) ≡ true → Among (body_of f) (records_of p b₂)
+  pub call_stores : (n : ℕ) (b₂ y₂ : List ℕ) → NodeCall p f b y (Ok n) b₂ y₂ → writes (header_in f) ≡ true → Among (body_of f) (records_of p b₂)
   call_stores n b₂ y₂ c w =
       let m = theorems.clear p f b y (theorems.replied_is p f b y n b₂ y₂ c).0 in
       subst (λ (x : List ℕ). Among (body_of f) (records_of p x)) (sym (ap (λ (o : ServedOutcome). o.book) c.is)) (written p f b y (start_of m) m w).1
 
 -- A call under another plan does no harm: it is refused, or its plan has the same N and F.
-pub any_call_keeps : (p q : Plan) (f b y : List ℕ) (a : Answer) (b₂ y₂ : List ℕ) → good_book p b ≡ true → Octets b → NodeCall q f b y a b₂ y₂
+pub any_call_keeps : (p q : Plan) (f b y : List ℕ) (a : Result ℕ Refusal) (b₂ y₂ : List ℕ) → good_book p b ≡ true → Octets b → NodeCall q f b y a b₂ y₂
     → After p b b₂
-any_call_keeps p q f b y (Refused r) b₂ y₂ g o c = same_after p b b₂ g (theorems.refused_is q f b y r b₂ y₂ c).1
-any_call_keeps p q f b y (Replied n) b₂ y₂ g o c =
+any_call_keeps p q f b y (Err r) b₂ y₂ g o c = same_after p b b₂ g (theorems.refused_is q f b y r b₂ y₂ c).1
+any_call_keeps p q f b y (Ok n) b₂ y₂ g o c =
     let h : good_book q b ≡ true = (theorems.clear q f b y (theorems.replied_is q f b y n b₂ y₂ c).0).good in
     let s = theorems.same_plan q p b h g in
-    let k = call_keeps q f b y h o (Replied n) b₂ y₂ c in
+    let k = call_keeps q f b y h o (Ok n) b₂ y₂ c in
     record {
       good = sym (theorems.same_good q p b₂ s.0 s.1) ∙ k.good;
       keeps =
@@ -166,8 +166,8 @@ history_keeps p b (c ∷ cs) g h =
 
 -- A record that a node acknowledged is in every later book, whatever calls come between.
 pub stored_for_good : (p : Plan) (f b y : List ℕ) (n : ℕ) (b₂ y₂ : List ℕ) (cs : List Call) → good_book p b ≡ true → Octets b
-    → NodeCall p f b y (Replied n) b₂ y₂ → writes (header_in f) ≡ true
+    → NodeCall p f b y (Ok n) b₂ y₂ → writes (header_in f) ≡ true
     → History b₂ cs → Among (body_of f) (records_of p (last_book b₂ cs))
 stored_for_good p f b y n b₂ y₂ cs g o c w h =
-    let a = call_keeps p f b y g o (Replied n) b₂ y₂ c in
+    let a = call_keeps p f b y g o (Ok n) b₂ y₂ c in
     (history_keeps p b₂ cs a.good h).keeps (body_of f) (call_stores p f b y g o n b₂ y₂ c w)

@@ -7,6 +7,7 @@
 --   borne_held acked_write told_time   what a read reply bears is held; what a write reply bears is its request's timestamp; a time reply answers a time request
 --   Seeks reads_high      a request to read, without a bound or below one above a timestamp; the reply to it
 -- Assumes nothing.
+use Rattle.std.specs.Prelude.{Ok}
 use Prim.Native.Nat.{ℕ, ◌≤◌, ◌<◌}
 use mathlib.Core.Path.{◌≡◌, refl, sym, ap, ◌∙◌, subst}
 use mathlib.Core.Bool.{Bool, true, false, cond}
@@ -31,7 +32,6 @@ use Rattle.book.proofs.Lists.{above_rising}
 use Rattle.book.proofs.Laid.{Sized}
 use Rattle.book.proofs.Laid as laid
 use Rattle.book.proofs.Laws as books
-use Rattle.node.specs.declared.Answer.TheVariants.{Replied}
 use Rattle.node.specs.Node.{Reply, reply_of, no_reply, reply_to, writes, NodeCall}
 use Rattle.store.specs.Deliver.{Among}
 use Rattle.store.proofs.Order.{among_first, among_later, among_case, among_none, among_above}
@@ -155,7 +155,7 @@ pub record Bears (p : Plan) (ts : ℕ) (f b out : List ℕ) : Type 0 where
   pub high : ts ≤ stamp rec
   pub is : out ≡ frame_of (replying (header_in f) read_reply_kind) rec
 
-module _ (p : Plan) (f b y : List ℕ) (good : good_book p b ≡ true) (n : ℕ) (b₂ y₂ : List ℕ) (c : NodeCall p f b y (Replied n) b₂ y₂) where
+module _ (p : Plan) (f b y : List ℕ) (good : good_book p b ≡ true) (n : ℕ) (b₂ y₂ : List ℕ) (c : NodeCall p f b y (Ok n) b₂ y₂) where
   sizes : Sized (record_length p) (records_of p b)
   sizes = laid.sized b (record_length p) (count_of b) (book_head 1) (books.good_is p b good).fill.inside
 

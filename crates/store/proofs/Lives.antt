@@ -3,6 +3,8 @@
 --   history_of history_on each_one each_before each_after executed_more   the calls before a moment, those from it on; what holds of each call holds of one
 --   Within              a call of a life: the book that it was on, good and of bytes
 -- Assumes nothing.
+use Rattle.terms.specs.declared.Refusal.{Refusal}
+use Rattle.std.specs.Prelude.{Result, Ok, Err}
 use Prim.Native.Nat.{ℕ}
 use Prim.{tt}
 use mathlib.Core.Path.{◌≡◌, refl, sym, ap, ◌∙◌, subst}
@@ -14,9 +16,6 @@ use Rattle.terms.specs.declared.Plan.{Plan}
 use Rattle.frame.specs.Frame.{header_in, body_of}
 use Rattle.book.specs.Records.{kept}
 use Rattle.book.specs.Book.{good_book, records_of}
-use Rattle.node.specs.declared.Answer.{Answer}
-use Rattle.node.specs.declared.Answer.TheVariants.{Refused, Replied}
-use Rattle.node.specs.declared.Made.TheVariants.{Fresh}
 use Rattle.node.specs.Fresh.{FreshCall}
 use Rattle.node.specs.Node.{writes, ServedOutcome, NodeCall}
 use Rattle.node.proofs.Laws as nodes
@@ -65,25 +64,25 @@ executed_more z cs xs ys e x =
     }
 
 -- ---- one call: a record that is held after it was held before it, or was written by it
-pub record Stores (f z : List ℕ) (a : Answer) : Type 0 where
+pub record Stores (f z : List ℕ) (a : Result ℕ Refusal) : Type 0 where
   pub kind : writes (header_in f) ≡ true
   pub body : body_of f ≡ z
   pub size : ℕ
-  pub replied : a ≡ Replied size
+  pub replied : a ≡ Ok size
 
 module _ (p : Plan) (f b y z : List ℕ) (g : good_book p b ≡ true) (o : Octets b) where
-  own_adds : (a : Answer) (b₂ y₂ : List ℕ) → NodeCall p f b y a b₂ y₂ → Among z (records_of p b₂) → Among z (records_of p b) ⊎ Stores f z a
-  own_adds (Refused r) b₂ y₂ c m = inl (subst (λ (x : List ℕ). Among z (records_of p x)) (calls.refused_is p f b y r b₂ y₂ c).1 m)
-  own_adds (Replied n) b₂ y₂ c m = go (writes (header_in f)) refl
+  own_adds : (a : Result ℕ Refusal) (b₂ y₂ : List ℕ) → NodeCall p f b y a b₂ y₂ → Among z (records_of p b₂) → Among z (records_of p b) ⊎ Stores f z a
+  own_adds (Err r) b₂ y₂ c m = inl (subst (λ (x : List ℕ). Among z (records_of p x)) (calls.refused_is p f b y r b₂ y₂ c).1 m)
+  own_adds (Ok n) b₂ y₂ c m = go (writes (header_in f)) refl
     where
       q : calls.Clear p f b y
       q = calls.clear p f b y (calls.replied_is p f b y n b₂ y₂ c).0
 
-      here : (body_of f ≡ z) ⊎ Among z (records_of p b) → writes (header_in f) ≡ true → Among z (records_of p b) ⊎ Stores f z (Replied n)
+      here : (body_of f ≡ z) ⊎ Among z (records_of p b) → writes (header_in f) ≡ true → Among z (records_of p b) ⊎ Stores f z (Ok n)
       here (inl e) w = inr (record { kind = w; body = e; size = n; replied = refl })
       here (inr k) w = inl k
 
-      go : (t : Bool) → writes (header_in f) ≡ t → Among z (records_of p b) ⊎ Stores f z (Replied n)
+      go : (t : Bool) → writes (header_in f) ≡ t → Among z (records_of p b) ⊎ Stores f z (Ok n)
       go true w =
           let x = keeps.executed p f b y (keeps.start_of p f b y g o q) q w in
           let rs : records_of p b₂ ≡ kept (body_of f) (records_of p b) =
@@ -94,15 +93,15 @@ module _ (p : Plan) (f b y z : List ℕ) (g : good_book p b ≡ true) (o : Octet
           inl (subst (λ (x : List ℕ). Among z (records_of p x)) e m)
 
 -- under whatever plan
-call_adds : (p q : Plan) (f b y z : List ℕ) (a : Answer) (b₂ y₂ : List ℕ) → good_book p b ≡ true → Octets b → NodeCall q f b y a b₂ y₂
+call_adds : (p q : Plan) (f b y z : List ℕ) (a : Result ℕ Refusal) (b₂ y₂ : List ℕ) → good_book p b ≡ true → Octets b → NodeCall q f b y a b₂ y₂
     → Among z (records_of p b₂) → Among z (records_of p b) ⊎ Stores f z a
-call_adds p q f b y z (Refused r) b₂ y₂ g o c m = inl (subst (λ (x : List ℕ). Among z (records_of p x)) (calls.refused_is q f b y r b₂ y₂ c).1 m)
-call_adds p q f b y z (Replied n) b₂ y₂ g o c m =
+call_adds p q f b y z (Err r) b₂ y₂ g o c m = inl (subst (λ (x : List ℕ). Among z (records_of p x)) (calls.refused_is q f b y r b₂ y₂ c).1 m)
+call_adds p q f b y z (Ok n) b₂ y₂ g o c m =
     let h : good_book q b ≡ true = (calls.clear q f b y (calls.replied_is q f b y n b₂ y₂ c).0).good in
     let s = calls.same_plan q p b h g in
-    go (own_adds q f b y z h o (Replied n) b₂ y₂ c (subst (Among z) (sym (calls.same_records q p b₂ s.0 s.1)) m)) (calls.same_records q p b s.0 s.1)
+    go (own_adds q f b y z h o (Ok n) b₂ y₂ c (subst (Among z) (sym (calls.same_records q p b₂ s.0 s.1)) m)) (calls.same_records q p b s.0 s.1)
   where
-    go : Among z (records_of q b) ⊎ Stores f z (Replied n) → records_of q b ≡ records_of p b → Among z (records_of p b) ⊎ Stores f z (Replied n)
+    go : Among z (records_of q b) ⊎ Stores f z (Ok n) → records_of q b ≡ records_of p b → Among z (records_of p b) ⊎ Stores f z (Ok n)
     go (inl k) e = inl (subst (Among z) e k)
     go (inr k) e = inr k
 
@@ -131,7 +130,7 @@ history_adds p z b (c ∷ cs) g h m =
         })
 
 -- WHAT A BOOK THAT WAS FRESH ONCE HOLDS WAS EXECUTED, by one of the calls that it went through
-pub held_executed : (p : Plan) (node : ℕ) (lent b z : List ℕ) (cs : List Call) → FreshCall p node lent Fresh b → History b cs → Among z (records_of p (last_book b cs)) → Executed z cs
+pub held_executed : (p : Plan) (node : ℕ) (lent b z : List ℕ) (cs : List Call) → FreshCall p node lent (Ok tt) b → History b cs → Among z (records_of p (last_book b cs)) → Executed z cs
 held_executed p node lent b z cs f h m = go (history_adds p z b cs (one.is_good i) h m)
   where
     i : one.Laid p node lent b []
@@ -154,7 +153,7 @@ within p b cs g h x =
     record { good = (keeps.history_keeps p b x.before g (history_of b x.before (x.call ∷ x.after) k)).good; bytes = r.0; call = r.1 }
 
 -- a record that was executed, under whatever plan, stays in a book that is good under this one
-stored_under : (p q : Plan) (f b y : List ℕ) (n : ℕ) (b₂ y₂ : List ℕ) (cs : List Call) → good_book p b ≡ true → Octets b → NodeCall q f b y (Replied n) b₂ y₂
+stored_under : (p q : Plan) (f b y : List ℕ) (n : ℕ) (b₂ y₂ : List ℕ) (cs : List Call) → good_book p b ≡ true → Octets b → NodeCall q f b y (Ok n) b₂ y₂
     → writes (header_in f) ≡ true → History b₂ cs → Among (body_of f) (records_of p (last_book b₂ cs))
 stored_under p q f b y n b₂ y₂ cs g o c w h =
     let k : good_book q b ≡ true = (calls.clear q f b y (calls.replied_is q f b y n b₂ y₂ c).0).good in
@@ -172,8 +171,8 @@ module _ (p : Plan) (z b : List ℕ) (early late : List Call) (g : good_book p b
       let t = x.at in
       let k = subst (History b) t.is (history_of b early late h) in
       let r = within p b early g (history_of b early late h) t in
-      let c : NodeCall t.call.plan t.call.request (last_book b t.before) t.call.reply (Replied x.size) t.call.book_left t.call.reply_left =
-      subst (λ (a : Answer). NodeCall t.call.plan t.call.request (last_book b t.before) t.call.reply a t.call.book_left t.call.reply_left) x.replied r.call in
+      let c : NodeCall t.call.plan t.call.request (last_book b t.before) t.call.reply (Ok x.size) t.call.book_left t.call.reply_left =
+      subst (λ (a : Result ℕ Refusal). NodeCall t.call.plan t.call.request (last_book b t.before) t.call.reply a t.call.book_left t.call.reply_left) x.replied r.call in
       let m = stored_under p t.call.plan t.call.request (last_book b t.before) t.call.reply x.size t.call.book_left t.call.reply_left t.after
       r.good r.bytes c x.kind (history_on b t.before (t.call ∷ t.after) k).2 in
       let e : last_book b early ≡ last_book t.call.book_left t.after = ap (last_book b) t.is ∙ last_on b t.before (t.call ∷ t.after) in

@@ -1,4 +1,6 @@
 -- The theorems of the node's two calls: what their contracts determine, and when each refusal is given. Assumes nothing.
+use Prim.{Unit, tt}
+use Rattle.std.specs.Prelude.{Result, Ok, Err}
 use mathlib.Core.Path.{◌≡◌, refl, sym, ap, ◌∙◌, subst}
 use mathlib.Core.Bool.{Bool, true, false, not}
 use mathlib.Core.List.{List, [], ◌∷◌}
@@ -19,27 +21,23 @@ use Rattle.frame.specs.Frame.{header_in, body_of, body_fits, suits, good_frame, 
 use Rattle.record.specs.Record.{hashes_ok, fragment_hash, prefix_of}
 use Rattle.book.specs.Book.{good_book, headed, filled, laid_as, laid_out, header, records_of, node_of}
 use Rattle.book.proofs.Laws as books
-use Rattle.node.specs.declared.Answer.{Answer}
-use Rattle.node.specs.declared.Answer.TheVariants.{Refused, Replied}
-use Rattle.node.specs.declared.Made.{Made}
-use Rattle.node.specs.declared.Made.TheVariants as make
 use Rattle.node.specs.Node.{NodeCall, served, answered, sends, book_after, said_served, SaidServed, refused, replied, ServedOutcome, served_outcome, node_ladder, book_reply_ok, time_fails, hash_fails, other_held, no_room}
 use Rattle.node.specs.Fresh.{FreshCall, FreshOutcome, made, fresh_outcome, said_made, freshened, fresh_ladder}
 use Rattle.node.specs.Fresh as fresh
 use Rattle.terms.proofs.Ladders as ladders
 
 -- ---- the paper's terms determine the answer
-pub served_one : (a b : Answer) → said_served a ≡ said_served b → a ≡ b
-served_one (Refused r) (Refused s) e = ap Refused (rungs.refusal_one r s (cc))
-served_one (Refused r) (Replied n) e = absurd (let z : ◌≡◌ {A = ℕ} 0 1 = cc in omega arith)
-served_one (Replied n) (Refused r) e = absurd (let z : ◌≡◌ {A = ℕ} 0 1 = cc in omega arith)
-served_one (Replied n) (Replied m) e = ap Replied (cc)
+pub served_one : (a b : Result ℕ Refusal) → said_served a ≡ said_served b → a ≡ b
+served_one (Err r) (Err s) e = ap Err (rungs.refusal_one r s (cc))
+served_one (Err r) (Ok n) e = absurd (let z : ◌≡◌ {A = ℕ} 0 1 = cc in omega arith)
+served_one (Ok n) (Err r) e = absurd (let z : ◌≡◌ {A = ℕ} 0 1 = cc in omega arith)
+served_one (Ok n) (Ok m) e = ap Ok (cc)
 
-pub made_one : (a b : Made) → said_made a ≡ said_made b → a ≡ b
-made_one (make.Refused r) (make.Refused s) e = ap make.Refused (rungs.refusal_one r s (cc))
-made_one (make.Refused r) make.Fresh e = absurd (let z : ◌≡◌ {A = ℕ} 0 1 = cc in omega arith)
-made_one make.Fresh (make.Refused r) e = absurd (let z : ◌≡◌ {A = ℕ} 0 1 = cc in omega arith)
-made_one make.Fresh make.Fresh e = refl
+pub made_one : (a b : Result (Unit {0}) Refusal) → said_made a ≡ said_made b → a ≡ b
+made_one (Err r) (Err s) e = ap Err (rungs.refusal_one r s (cc))
+made_one (Err r) (Ok u) e = absurd (let z : ◌≡◌ {A = ℕ} 0 1 = cc in omega arith)
+made_one (Ok u) (Err r) e = absurd (let z : ◌≡◌ {A = ℕ} 0 1 = cc in omega arith)
+made_one (Ok u) (Ok v) e = refl
 
 -- ---- refusals
 module _ (p : Plan) (f b y : List ℕ) where
@@ -56,7 +54,7 @@ module _ (p : Plan) (f b y : List ℕ) where
   replies_so = refl
 
   -- A call that answers refusal k changes no byte of the book or the reply buffer; its condition holds, and none before it in the order 1 to 8.
-  pub refused_is : (r : Refusal) (b₂ y₂ : List ℕ) → NodeCall p f b y (Refused r) b₂ y₂
+  pub refused_is : (r : Refusal) (b₂ y₂ : List ℕ) → NodeCall p f b y (Err r) b₂ y₂
       → Given (node_ladder p f b y) (refusal_number r) × (b₂ ≡ b) × (y₂ ≡ y)
   unfolding served
   refused_is r b₂ y₂ c =
@@ -70,12 +68,12 @@ module _ (p : Plan) (f b y : List ℕ) where
       c.is
 
   -- And so it answers wherever its condition holds and none before it.
-  pub is_refused : (r : Refusal) → Given (node_ladder p f b y) (refusal_number r) → NodeCall p f b y (Refused r) b y
+  pub is_refused : (r : Refusal) → Given (node_ladder p f b y) (refusal_number r) → NodeCall p f b y (Err r) b y
   unfolding served
   is_refused r g = record { is = sym (ladders.is_given (node_ladder p f b y) refuse (answered p (header_in f) (body_of f) b y) (refusal_number r) g) }
 
   -- A call that writes a reply meets none of the eight conditions, and does what the document says for its kind.
-  pub replied_is : (n : ℕ) (b₂ y₂ : List ℕ) → NodeCall p f b y (Replied n) b₂ y₂
+  pub replied_is : (n : ℕ) (b₂ y₂ : List ℕ) → NodeCall p f b y (Ok n) b₂ y₂
       → None (node_ladder p f b y) × (served_outcome (replied n) b₂ y₂ ≡ answered p (header_in f) (body_of f) b y)
   unfolding served
   replied_is n b₂ y₂ c =
@@ -116,7 +114,7 @@ module _ (p : Plan) (node : ℕ) (b : List ℕ) where
   abbrev done : FreshOutcome
   done = fresh_outcome made (over (laid_out p node []) b)
 
-  pub fresh_refused_is : (r : Refusal) (b₂ : List ℕ) → FreshCall p node b (make.Refused r) b₂
+  pub fresh_refused_is : (r : Refusal) (b₂ : List ℕ) → FreshCall p node b (Err r) b₂
       → Given (fresh_ladder p node b) (refusal_number r) × (b₂ ≡ b)
   unfolding freshened
   fresh_refused_is r b₂ c =
@@ -129,7 +127,7 @@ module _ (p : Plan) (node : ℕ) (b : List ℕ) where
       (λ n h. absurd (let s : fresh.refused (refusal_number r) ≡ made = ap (λ (o : FreshOutcome). o.answer) h in let z : ◌≡◌ {A = ℕ} 0 1 = cc in omega arith))
       c.is
 
-  pub fresh_is_refused : (r : Refusal) → Given (fresh_ladder p node b) (refusal_number r) → FreshCall p node b (make.Refused r) b
+  pub fresh_is_refused : (r : Refusal) → Given (fresh_ladder p node b) (refusal_number r) → FreshCall p node b (Err r) b
   unfolding freshened
   fresh_is_refused r g = record { is = sym (ladders.is_given (fresh_ladder p node b) refuse_fresh done (refusal_number r) g) }
 

@@ -4,6 +4,8 @@
 --   call_passes        what holds of every record of a good book holds of it after any call, under whatever plan
 --   history_passes, fresh_passes   so after any list of calls, and from a fresh book on
 -- Assumes nothing.
+use Rattle.terms.specs.declared.Refusal.{Refusal}
+use Rattle.std.specs.Prelude.{Result, Ok, Err}
 use Prim.{tt}
 use Prim.Native.Nat.{ℕ, ◌≤◌}
 use mathlib.Core.Path.{◌≡◌, refl, sym, ap, ◌∙◌, subst}
@@ -25,9 +27,6 @@ use Rattle.frame.proofs.Frames.{request_is}
 use Rattle.record.specs.Record.{hashes_ok, fragment_hash, prefix_of}
 use Rattle.book.specs.Records.{timed, rising, kept}
 use Rattle.book.specs.Book.{book_head, good_book, node_of, records_of, laid_out}
-use Rattle.node.specs.declared.Answer.{Answer}
-use Rattle.node.specs.declared.Answer.TheVariants.{Refused, Replied}
-use Rattle.node.specs.declared.Made.TheVariants.{Fresh}
 use Rattle.node.specs.Fresh.{FreshCall, FreshOutcome, fresh_outcome, made, freshened, fresh_ladder}
 use Rattle.node.specs.Fresh as fresh
 use Rattle.node.specs.Node.{NodeCall, ServedOutcome, served, writes, hash_fails}
@@ -40,7 +39,7 @@ use Rattle.store.proofs.Node as calls
 use Rattle.store.proofs.Kept as keeps
 
 -- ---- a fresh book
-module _ (p : Plan) (node : ℕ) (b b₂ : List ℕ) (c : FreshCall p node b Fresh b₂) where
+module _ (p : Plan) (node : ℕ) (b b₂ : List ℕ) (c : FreshCall p node b (Ok tt) b₂) where
   abbrev refuse : ℕ → FreshOutcome
   refuse k = fresh_outcome (fresh.refused k) b
 
@@ -89,7 +88,7 @@ same_plan_pass p q b en ef all z m =
 
 module _ (p : Plan) (f b y : List ℕ) (g : good_book p b ≡ true) (o : Octets b) (all : AllPass p b) where
   -- a write request that was executed
-  stores_passing : (n : ℕ) (b₂ y₂ : List ℕ) → NodeCall p f b y (Replied n) b₂ y₂ → writes (header_in f) ≡ true → Stays p b b₂
+  stores_passing : (n : ℕ) (b₂ y₂ : List ℕ) → NodeCall p f b y (Ok n) b₂ y₂ → writes (header_in f) ≡ true → Stays p b b₂
   unfolding hash_fails
   stores_passing n b₂ y₂ c w = (at, λ z m. go z (order.kept_only (body_of f) z (records_of p b) (subst (Among z) rs m)))
     where
@@ -115,9 +114,9 @@ module _ (p : Plan) (f b y : List ℕ) (g : good_book p b ≡ true) (o : Octets 
       go z (inl k) = (subst (λ (u : List ℕ). 1 ≤ time u) k (one.write_time f w q.time), ap (λ (S : ℕ). hashes_ok p S z) at ∙ ap (hashes_ok p (node_of b)) (sym k) ∙ hash)
       go z (inr k) = let r = all z k in (r.0, ap (λ (S : ℕ). hashes_ok p S z) at ∙ r.1)
 
-  own_passes : (a : Answer) (b₂ y₂ : List ℕ) → NodeCall p f b y a b₂ y₂ → Stays p b b₂
-  own_passes (Refused r) b₂ y₂ c = same_pass p b b₂ (calls.refused_is p f b y r b₂ y₂ c).1 all
-  own_passes (Replied n) b₂ y₂ c = go (writes (header_in f)) refl
+  own_passes : (a : Result ℕ Refusal) (b₂ y₂ : List ℕ) → NodeCall p f b y a b₂ y₂ → Stays p b b₂
+  own_passes (Err r) b₂ y₂ c = same_pass p b b₂ (calls.refused_is p f b y r b₂ y₂ c).1 all
+  own_passes (Ok n) b₂ y₂ c = go (writes (header_in f)) refl
     where
       go : (t : Bool) → writes (header_in f) ≡ t → Stays p b b₂
       go true w = stores_passing n b₂ y₂ c w
@@ -126,13 +125,13 @@ module _ (p : Plan) (f b y : List ℕ) (g : good_book p b ≡ true) (o : Octets 
           (ap (λ (u : ServedOutcome). u.book) (calls.replied_is p f b y n b₂ y₂ c).1 ∙ one.answered_book p f b y ∙ nodes.after_other p (header_in f) (body_of f) b w) all
 
 -- under whatever plan
-pub call_passes : (p q : Plan) (f b y : List ℕ) (a : Answer) (b₂ y₂ : List ℕ) → good_book p b ≡ true → Octets b → AllPass p b → NodeCall q f b y a b₂ y₂
+pub call_passes : (p q : Plan) (f b y : List ℕ) (a : Result ℕ Refusal) (b₂ y₂ : List ℕ) → good_book p b ≡ true → Octets b → AllPass p b → NodeCall q f b y a b₂ y₂
     → (node_of b₂ ≡ node_of b) × AllPass p b₂
-call_passes p q f b y (Refused r) b₂ y₂ g o all c = same_pass p b b₂ (calls.refused_is q f b y r b₂ y₂ c).1 all
-call_passes p q f b y (Replied n) b₂ y₂ g o all c =
+call_passes p q f b y (Err r) b₂ y₂ g o all c = same_pass p b b₂ (calls.refused_is q f b y r b₂ y₂ c).1 all
+call_passes p q f b y (Ok n) b₂ y₂ g o all c =
     let h : good_book q b ≡ true = (calls.clear q f b y (calls.replied_is q f b y n b₂ y₂ c).0).good in
     let s = calls.same_plan q p b h g in
-    let k = own_passes q f b y h o (same_plan_pass p q b (sym s.0) (sym s.1) all) (Replied n) b₂ y₂ c in
+    let k = own_passes q f b y h o (same_plan_pass p q b (sym s.0) (sym s.1) all) (Ok n) b₂ y₂ c in
     (k.0, same_plan_pass q p b₂ s.0 s.1 k.1)
 
 -- ---- over time

@@ -1,5 +1,6 @@
 -- WHAT A NODE'S REPLY IS: the frame that its contract gives (replied_frame), under the ask number of its request (replied_ask). A frame cut off by its
 -- length (cut_off). Assumes nothing.
+use Rattle.std.specs.Prelude.{Ok}
 use Prim.Native.Nat.{ℕ, ◌<◌, ◌^◌}
 use mathlib.Core.Path.{◌≡◌, sym, ap, ◌∙◌, subst}
 use mathlib.Core.List.{List}
@@ -14,7 +15,6 @@ use Rattle.frame.specs.Frame.{kind_of, ask_of, header_in, body_of, frame_of, fra
 use Rattle.frame.proofs.Built as built
 use Rattle.frame.proofs.Frames.{request_is}
 use Rattle.book.specs.Book.{records_of, node_of}
-use Rattle.node.specs.declared.Answer.TheVariants.{Replied}
 use Rattle.node.specs.Node.{replied, ServedOutcome, Reply, reply_to, sends, answered, NodeCall}
 use Rattle.store.proofs.Node as calls
 
@@ -23,7 +23,7 @@ pub cut_off : (f y y₂ : List ℕ) (n : ℕ) → y₂ ≡ over f y → n ≡ le
 unfolding over
 cut_off f y y₂ n e l = ap (take n) e ∙ take_at f (drop (length f) y) n (sym l)
 
-module _ (p : Plan) (f b y : List ℕ) (n : ℕ) (b₂ y₂ : List ℕ) (c : NodeCall p f b y (Replied n) b₂ y₂) where
+module _ (p : Plan) (f b y : List ℕ) (n : ℕ) (b₂ y₂ : List ℕ) (c : NodeCall p f b y (Ok n) b₂ y₂) where
   abbrev told : Reply
   told = reply_to (kind_of f) (body_of f) (records_of p b)
 

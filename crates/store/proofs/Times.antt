@@ -1,5 +1,6 @@
 -- THE TIME THAT A NODE TELLS is no lower than that of any record that it holds (tells_every_time): a greater timestamp has no lower time
 -- (time_order). Assumes nothing.
+use Rattle.std.specs.Prelude.{Ok}
 use Prim.Native.Nat.{ℕ, zero, suc, ◌+◌, ◌*◌, ◌^◌, ◌≤◌, ◌<◌}
 use mathlib.Core.Path.{◌≡◌, refl, sym, ap, ◌∙◌, subst}
 use mathlib.Core.Bool.{Bool, true, false}
@@ -23,7 +24,6 @@ use Rattle.book.specs.Records.{last_of}
 use Rattle.book.specs.Book.{records_from, records_of, count_of, book_head}
 use Rattle.book.proofs.Laid as laid
 use Rattle.book.proofs.Laws as books
-use Rattle.node.specs.declared.Answer.TheVariants.{Replied}
 use Rattle.node.specs.Node.{Reply, reply_of, reply_to, NodeCall}
 use Rattle.store.specs.Deliver.{Among}
 use Rattle.store.proofs.Order.{among_case, among_none}
@@ -62,7 +62,7 @@ each_record P b r h (suc m) at l z k = go (among_case (part b at r) z (records_f
     go (inl e) ih = subst P e (h at (omega (arith, suc-mul m r)))
     go (inr q) ih = ih q
 
-module _ (p : Plan) (f b y : List ℕ) (k : kind_of f ≡ time_request_kind) (n : ℕ) (b₂ y₂ : List ℕ) (c : NodeCall p f b y (Replied n) b₂ y₂) where
+module _ (p : Plan) (f b y : List ℕ) (k : kind_of f ≡ time_request_kind) (n : ℕ) (b₂ y₂ : List ℕ) (c : NodeCall p f b y (Ok n) b₂ y₂) where
   abbrev body : List ℕ
   body = be 8 (time (last_of (records_of p b)))
 

@@ -10,8 +10,9 @@
 --   Ready, Delivers, Setting   what the demand takes of a node's book and a set, of a run, and of all N
 --   Contents              what it says of the bytes that are left
 -- books i is the book of node i. Assumes nothing.
+use Rattle.terms.specs.declared.Refusal.{Refusal}
 use Prim.{Unit}
-use Rattle.std.specs.Prelude.{ℕ, ◌+◌, ◌*◌, ◌≤◌, ◌<◌, ◌≡◌, Bool, true, cond, not, List, [], ◌∷◌, ◌⊎◌, eqb, length, drop}
+use Rattle.std.specs.Prelude.{ℕ, ◌+◌, ◌*◌, ◌≤◌, ◌<◌, ◌≡◌, Bool, true, cond, not, List, [], ◌∷◌, ◌⊎◌, eqb, length, drop, Result}
 use Rattle.octets.specs.Bytes.{over, Octets}
 use Rattle.terms.specs.Ladder.{◌and◌}
 use Rattle.terms.specs.Stamp.{stamp}
@@ -20,7 +21,6 @@ use Rattle.terms.specs.declared.Plan.{Plan}
 use Rattle.frame.specs.Frame.{body_of, good_request, header_in, longest}
 use Rattle.book.specs.Records.{holds, kept, rising}
 use Rattle.book.specs.Book.{good_book, laid_out, node_of, records_of, used_of, book_head}
-use Rattle.node.specs.declared.Answer.{Answer}
 use Rattle.node.specs.Node.{time_fails, hash_fails, writes, NodeCall}
 
 abbrev pub Among : List ℕ → List (List ℕ) → Type 0
@@ -50,7 +50,7 @@ pub record Delivery : Type 0 where
   pub node : ℕ
   pub request : List ℕ
   pub reply : List ℕ
-  pub answer : Answer
+  pub answer : Result ℕ Refusal
   pub book_left : List ℕ
   pub reply_left : List ℕ
 

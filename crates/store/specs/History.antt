@@ -7,16 +7,14 @@
 --   OfCalls            a book that such calls made of a fresh one
 --   AllPass            every record of a book has a time of 1 or more and passes its two hash checks
 -- Assumes nothing.
-use Prim.{Unit}
-use Rattle.std.specs.Prelude.{ℕ, ◌≤◌, ◌≡◌, true, List, [], ◌∷◌, ◌++◌, take}
+use Rattle.terms.specs.declared.Refusal.{Refusal}
+use Prim.{Unit, tt}
+use Rattle.std.specs.Prelude.{ℕ, ◌≤◌, ◌≡◌, true, List, [], ◌∷◌, ◌++◌, take, Result, Ok}
 use Rattle.octets.specs.Bytes.{Octets}
 use Rattle.terms.specs.Stamp.{time, stamp}
 use Rattle.terms.specs.declared.Plan.{Plan}
 use Rattle.frame.specs.Frame.{header_in, body_of}
 use Rattle.record.specs.Record.{hashes_ok}
-use Rattle.node.specs.declared.Answer.{Answer}
-use Rattle.node.specs.declared.Answer.TheVariants.{Replied}
-use Rattle.node.specs.declared.Made.TheVariants.{Fresh}
 use Rattle.node.specs.Fresh.{FreshCall}
 use Rattle.node.specs.Node.{writes, NodeCall}
 use Rattle.book.specs.Book.{good_book, node_of, records_of}
@@ -27,7 +25,7 @@ pub record Call : Type 0 where
   pub plan : Plan
   pub request : List ℕ
   pub reply : List ℕ
-  pub answer : Answer
+  pub answer : Result ℕ Refusal
   pub book_left : List ℕ
   pub reply_left : List ℕ
 
@@ -57,7 +55,7 @@ pub record Executed (z : List ℕ) (cs : List Call) : Type 0 where
   pub kind : writes (header_in at.call.request) ≡ true
   pub body : body_of at.call.request ≡ z
   pub size : ℕ
-  pub replied : at.call.answer ≡ Replied size
+  pub replied : at.call.answer ≡ Ok size
 
 pub record ExecutedAt (ts : ℕ) (cs : List Call) : Type 0 where
   pub rec : List ℕ
@@ -68,7 +66,7 @@ pub record ExecutedAt (ts : ℕ) (cs : List Call) : Type 0 where
 pub record Wrote (f : List ℕ) (cs : List Call) : Type 0 where
   pub at : Moment cs
   pub size : ℕ
-  pub replied : at.call.answer ≡ Replied size
+  pub replied : at.call.answer ≡ Ok size
   pub is : f ≡ take size at.call.reply_left
 
 -- what is left of a book b that was good under p
@@ -80,7 +78,7 @@ pub record After (p : Plan) (b b₂ : List ℕ) : Type 0 where
 pub record OfCalls (p : Plan) (node : ℕ) (b : List ℕ) : Type 0 where
   pub lent : List ℕ
   pub fresh : List ℕ
-  pub makes : FreshCall p node lent Fresh fresh
+  pub makes : FreshCall p node lent (Ok tt) fresh
   pub calls : List Call
   pub history : History fresh calls
   pub is : b ≡ last_book fresh calls

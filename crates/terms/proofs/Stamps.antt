@@ -1,12 +1,15 @@
 -- Timestamps as numbers. Assumes nothing.
 use mathlib.Core.Path.{◌≡◌, refl, sym, ap, ◌∙◌}
-use mathlib.Core.Bool.{Bool, true, false}
+use mathlib.Core.Bool.{Bool, true, false, ◌&&◌}
 use mathlib.Core.List.{List, ◌++◌, append_assoc}
 use Prim.Native.Nat.{ℕ, ◌+◌, ◌*◌, ◌^◌, ◌≤◌, ◌<◌}
 use native.Mathlib.Nat.{add-mul, add_assoc}
 use native.Mathlib.Omega.{arith}
 use lib.ListN.{length, length-append}
 use lib.Dec.{ltb, eqb}
+use Rattle.std.specs.Prelude.{Option, Some}
+use Rattle.std.proofs.Common.{Ordering}
+use Rattle.std.specs.Ordering.{is_lt, is_some_and, nat_cmp, partial_ordering_then}
 use borrow.Author.Tests.{lt-ltb, le-ltb, ltb-true, ltb-false, eq-eqb, ne_eqb, eqb-true, eqb-false}
 use Rattle.terms.specs.declared.Hash.{Hash}
 use Rattle.terms.specs.declared.Timestamp.{Timestamp}
@@ -41,10 +44,10 @@ pub then_same : (a b x y : ℕ) → a ≡ b → x ≡ y → then a x ≡ then b 
 then_same a b x y e f = λ i. then (e i) (f i)
 
 -- by the first word, then by the next: the tests of the code
-pub words_yes : (x y : ℕ) → x < y → true ≡ ltb x y
+words_yes : (x y : ℕ) → x < y → true ≡ ltb x y
 words_yes x y h = sym (lt-ltb x y h)
 
-pub words_no : (x y : ℕ) → y ≤ x → false ≡ ltb x y
+words_no : (x y : ℕ) → y ≤ x → false ≡ ltb x y
 words_no x y h = sym (le-ltb x y h)
 
 then_le : (a b x y : ℕ) → a ≡ b → y ≤ x → then b y ≤ then a x
@@ -58,15 +61,15 @@ pub record Words (h : Hash) : Type 0 where
   pub w3 : h.3 < 256 ^ 8
 
 module _ (a b : Hash) (w : Words a) where
-  pub less_0 : a.0 < b.0 → hash_number a < hash_number b
+  less_0 : a.0 < b.0 → hash_number a < hash_number b
   unfolding hash_number
   less_0 h = then_yes _ _ a.3 b.3 (then_yes _ _ a.2 b.2 (then_yes a.0 b.0 a.1 b.1 h w.w1) w.w2) w.w3
 
-  pub less_1 : a.0 ≡ b.0 → a.1 < b.1 → hash_number a < hash_number b
+  less_1 : a.0 ≡ b.0 → a.1 < b.1 → hash_number a < hash_number b
   unfolding hash_number
   less_1 e h = then_yes _ _ a.3 b.3 (then_yes _ _ a.2 b.2 (then_right a.0 b.0 a.1 b.1 e h) w.w2) w.w3
 
-  pub less_2 : a.0 ≡ b.0 → a.1 ≡ b.1 → a.2 < b.2 → hash_number a < hash_number b
+  less_2 : a.0 ≡ b.0 → a.1 ≡ b.1 → a.2 < b.2 → hash_number a < hash_number b
   unfolding hash_number
   less_2 e f h = then_yes _ _ a.3 b.3 (then_right _ _ a.2 b.2 (then_same a.0 b.0 a.1 b.1 e f) h) w.w3
 
@@ -77,16 +80,16 @@ then_last a b x y e = go (ltb x y) refl
     go true k = sym (lt-ltb (then a x) (then b y) (then_right a b x y e (ltb-true x y k)))
     go false k = sym (le-ltb (then a x) (then b y) (then_le a b x y e (ltb-false x y k)))
 
-pub less_3 : (a b : Hash) → a.0 ≡ b.0 → a.1 ≡ b.1 → a.2 ≡ b.2 → ltb a.3 b.3 ≡ ltb (hash_number a) (hash_number b)
+less_3 : (a b : Hash) → a.0 ≡ b.0 → a.1 ≡ b.1 → a.2 ≡ b.2 → ltb a.3 b.3 ≡ ltb (hash_number a) (hash_number b)
 unfolding hash_number
 less_3 a b e f g =
     then_last _ _ a.3 b.3 (then_same (then a.0 a.1) (then b.0 b.1) a.2 b.2 (then_same a.0 b.0 a.1 b.1 e f) g)
 
-pub no_of : (x y : ℕ) → y < x → false ≡ ltb x y
+no_of : (x y : ℕ) → y < x → false ≡ ltb x y
 no_of x y h = words_no x y (omega arith)
 
 -- a timestamp: the time, and then the hash
-pub stamp_0 : (t u : Timestamp) → Words t.verifier → t.verifier.0 < 256 ^ 8 → t.time.0 < u.time.0 → stamp_number t < stamp_number u
+stamp_0 : (t u : Timestamp) → Words t.verifier → t.verifier.0 < 256 ^ 8 → t.time.0 < u.time.0 → stamp_number t < stamp_number u
 unfolding stamp_number
 stamp_0 t u w w0 h =
     let a = t.verifier in
@@ -123,10 +126,58 @@ ltb_add k p q = go (ltb p q) refl
     go false e = let h = ltb-false p q e in sym (le-ltb (k + p) (k + q) (omega arith))
 
 -- of one time, by the hash
-pub stamp_1 : (t u : Timestamp) → t.time.0 ≡ u.time.0 → ltb (hash_number t.verifier) (hash_number u.verifier) ≡ ltb (stamp_number t) (stamp_number u)
+stamp_1 : (t u : Timestamp) → t.time.0 ≡ u.time.0 → ltb (hash_number t.verifier) (hash_number u.verifier) ≡ ltb (stamp_number t) (stamp_number u)
 stamp_1 t u e =
     ltb_add (lift t.time.0) (hash_number t.verifier) (hash_number u.verifier)
     ∙ (λ i. ltb (sym (stamp_split t) i) (lift (e i) + hash_number u.verifier)) ∙ ap (λ (x : ℕ). ltb (stamp_number t) x) (sym (stamp_split u))
+
+-- ---- the derived order: word by word, and a later word only where those before are the same
+abbrev then_by : ℕ → ℕ → Option Ordering → Option Ordering
+then_by x y o = partial_ordering_then (Some (nat_cmp x y)) o
+
+abbrev tells_less : Option Ordering → Bool
+tells_less o = is_some_and is_lt o
+
+module _ (x y : ℕ) (o : Option Ordering) (z : Bool) where
+  -- by a word that differs, or else by what is after it
+  word_by : (x < y → true ≡ z) → (y < x → false ≡ z) → (x ≡ y → tells_less o ≡ z) → tells_less (then_by x y o) ≡ z
+  word_by f g h = go (ltb x y) refl
+    where
+      same : (t : Bool) → eqb x y ≡ t → ltb x y ≡ false → tells_less (then_by x y o) ≡ z
+      same true e l = rw (l, e) (h (eqb-true x y e))
+      same false e l = rw (l, e) (let n = eqb-false x y e in let m = ltb-false x y l in g (omega arith))
+
+      go : (t : Bool) → ltb x y ≡ t → tells_less (then_by x y o) ≡ z
+      go true e = rw e (f (ltb-true x y e))
+      go false e = same (eqb x y) refl e
+
+last_word : (x y : ℕ) → tells_less (Some (nat_cmp x y)) ≡ ltb x y
+last_word x y = go (ltb x y) refl
+  where
+    same : (s : Bool) → eqb x y ≡ s → ltb x y ≡ false → tells_less (Some (nat_cmp x y)) ≡ false
+    same true e l = rw (l, e) refl
+    same false e l = rw (l, e) refl
+
+    go : (t : Bool) → ltb x y ≡ t → tells_less (Some (nat_cmp x y)) ≡ t
+    go true e = rw e refl
+    go false e = same (eqb x y) refl e
+
+hash_order : (a b : Hash) → Words a → Words b
+    → tells_less (then_by a.0 b.0 (then_by a.1 b.1 (then_by a.2 b.2 (Some (nat_cmp a.3 b.3))))) ≡ ltb (hash_number a) (hash_number b)
+hash_order a b w v =
+    let r : Bool = ltb (hash_number a) (hash_number b) in
+    word_by a.0 b.0 _ r (λ l. words_yes _ _ (less_0 a b w l)) (λ l. no_of _ _ (less_0 b a v l)) (λ e.
+    word_by a.1 b.1 _ r (λ l. words_yes _ _ (less_1 a b w e l)) (λ l. no_of _ _ (less_1 b a v (sym e) l)) (λ f.
+    word_by a.2 b.2 _ r (λ l. words_yes _ _ (less_2 a b w e f l)) (λ l. no_of _ _ (less_2 b a v (sym e) (sym f) l)) (λ g.
+    last_word a.3 b.3 ∙ less_3 a b e f g)))
+
+-- of one time, by the hash
+pub stamp_order : (t u : Timestamp) → Words t.verifier → Words u.verifier → t.verifier.0 < 256 ^ 8 → u.verifier.0 < 256 ^ 8
+    → tells_less (then_by t.time.0 u.time.0 (then_by t.verifier.0 u.verifier.0 (then_by t.verifier.1 u.verifier.1 (then_by t.verifier.2 u.verifier.2 (Some (nat_cmp t.verifier.3 u.verifier.3))))))
+    ≡ ltb (stamp_number t) (stamp_number u)
+stamp_order t u w v w0 v0 =
+    word_by t.time.0 u.time.0 _ (ltb (stamp_number t) (stamp_number u)) (λ l. words_yes _ _ (stamp_0 t u w w0 l)) (λ l. no_of _ _ (stamp_0 u t v v0 l))
+    (λ e. hash_order t.verifier u.verifier w v ∙ stamp_1 t u e)
 
 -- ---- the same number, word by word
 then_left : (a b x y : ℕ) → x < 256 ^ 8 → y < 256 ^ 8 → then a x ≡ then b y → a ≡ b
@@ -143,7 +194,7 @@ pub record SameWords (a b : Hash) : Type 0 where
   pub s2 : a.2 ≡ b.2
   pub s3 : a.3 ≡ b.3
 
-pub hash_one : (a b : Hash) → Words a → Words b → hash_number a ≡ hash_number b → SameWords a b
+hash_one : (a b : Hash) → Words a → Words b → hash_number a ≡ hash_number b → SameWords a b
 unfolding hash_number
 hash_one a b v w e =
     let e2 = then_left _ _ a.3 b.3 v.w3 w.w3 e in
@@ -162,11 +213,11 @@ eqb_same x y z w f g = go (eqb x y) refl
     go true e = sym (eq-eqb z w (f (eqb-true x y e)))
     go false e = sym (ne_eqb z w (λ k. eqb-false x y e (g k)))
 
-pub hash_3 : (a b : Hash) → Words a → Words b → a.0 ≡ b.0 → a.1 ≡ b.1 → a.2 ≡ b.2 → eqb a.3 b.3 ≡ eqb (hash_number a) (hash_number b)
+hash_3 : (a b : Hash) → Words a → Words b → a.0 ≡ b.0 → a.1 ≡ b.1 → a.2 ≡ b.2 → eqb a.3 b.3 ≡ eqb (hash_number a) (hash_number b)
 hash_3 a b v w e f g =
     eqb_same a.3 b.3 (hash_number a) (hash_number b) (λ h. same_hash a b (record { s0 = e; s1 = f; s2 = g; s3 = h })) (λ k. (hash_one a b v w k).s3)
 
-pub stamp_time : (t u : Timestamp) → Words t.verifier → Words u.verifier → t.verifier.0 < 256 ^ 8 → u.verifier.0 < 256 ^ 8
+stamp_time : (t u : Timestamp) → Words t.verifier → Words u.verifier → t.verifier.0 < 256 ^ 8 → u.verifier.0 < 256 ^ 8
     → stamp_number t ≡ stamp_number u → t.time.0 ≡ u.time.0
 unfolding stamp_number
 stamp_time t u v w v0 w0 e =
@@ -175,12 +226,34 @@ stamp_time t u v w v0 w0 e =
     then_left _ _ a.0 b.0 v0 w0 (then_left _ _ a.1 b.1 v.w1 w.w1 (then_left _ _ a.2 b.2 v.w2 w.w2 (then_left _ _ a.3 b.3 v.w3 w.w3 e)))
 
 -- of one time, by the hash
-pub stamp_2 : (t u : Timestamp) → t.time.0 ≡ u.time.0 → eqb (hash_number t.verifier) (hash_number u.verifier) ≡ eqb (stamp_number t) (stamp_number u)
+stamp_2 : (t u : Timestamp) → t.time.0 ≡ u.time.0 → eqb (hash_number t.verifier) (hash_number u.verifier) ≡ eqb (stamp_number t) (stamp_number u)
 stamp_2 t u e =
     let k : lift t.time.0 ≡ lift u.time.0 = ap lift e in
     let p = stamp_split t in
     let q = stamp_split u in
     eqb_same (hash_number t.verifier) (hash_number u.verifier) (stamp_number t) (stamp_number u) (λ h. omega arith) (λ h. omega arith)
+
+-- ---- the derived equality: of every word
+word_same : (x y : ℕ) (o z : Bool) → ((x ≡ y → ⊥) → false ≡ z) → (x ≡ y → o ≡ z) → (eqb x y && o) ≡ z
+word_same x y o z f g = go (eqb x y) refl
+  where
+    go : (t : Bool) → eqb x y ≡ t → (t && o) ≡ z
+    go true e = g (eqb-true x y e)
+    go false e = f (eqb-false x y e)
+
+hash_alike : (a b : Hash) → Words a → Words b → (eqb a.0 b.0 && (eqb a.1 b.1 && (eqb a.2 b.2 && eqb a.3 b.3))) ≡ eqb (hash_number a) (hash_number b)
+hash_alike a b w v =
+    let r : Bool = eqb (hash_number a) (hash_number b) in
+    word_same a.0 b.0 _ r (λ n. sym (ne_eqb _ _ (λ e. n (hash_one a b w v e).s0))) (λ e.
+    word_same a.1 b.1 _ r (λ n. sym (ne_eqb _ _ (λ e. n (hash_one a b w v e).s1))) (λ f.
+    word_same a.2 b.2 _ r (λ n. sym (ne_eqb _ _ (λ e. n (hash_one a b w v e).s2))) (λ g. hash_3 a b w v e f g)))
+
+pub stamp_alike : (t u : Timestamp) → Words t.verifier → Words u.verifier → t.verifier.0 < 256 ^ 8 → u.verifier.0 < 256 ^ 8
+    → (eqb t.time.0 u.time.0 && (eqb t.verifier.0 u.verifier.0 && (eqb t.verifier.1 u.verifier.1 && (eqb t.verifier.2 u.verifier.2 && eqb t.verifier.3 u.verifier.3))))
+    ≡ eqb (stamp_number t) (stamp_number u)
+stamp_alike t u w v w0 v0 =
+    word_same t.time.0 u.time.0 _ (eqb (stamp_number t) (stamp_number u)) (λ n. sym (ne_eqb _ _ (λ e. n (stamp_time t u w v w0 v0 e))))
+    (λ e. hash_alike t.verifier u.verifier w v ∙ stamp_2 t u e)
 
 -- ---- written: five words, one after the other, are its 40 bytes
 be_then : (n x y : ℕ) → y < 256 ^ 8 → be (n + 8) (then x y) ≡ be n x ++ be 8 y

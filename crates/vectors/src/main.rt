@@ -4,7 +4,7 @@
 
 ghost use Rattle.std.specs.Prelude.{◌≡◌, ◌<◌, ◌^◌, length};
 
-use lanes::{Batch, Rows};
+use lanes::{Batch, Messages, Rows};
 use std::io;
 
 // Of thirteen hashes of p and then s side by side, a group of eight, one of four and a single one: how many are what a hash alone is, up to the first that is not.
@@ -12,7 +12,7 @@ fn alike(p: &[u8], s: &[u8]) -> u64
     requires p_len_bound { length p.now < 2 ^ 60 }
     requires s_len_bound { length s.now < 2 ^ 60 }
 {
-    let x = Batch {
+    let batch = Batch {
         heads: Rows {
             first: 0,
             stride: 0,
@@ -27,13 +27,16 @@ fn alike(p: &[u8], s: &[u8]) -> u64
     };
     let d = sha256::digest_after(p, s);
     let mut out = [0u8; 416];
-    lanes::digests(p, s, x, &mut out, 0, 32);
-    let mut i: usize = 0;
-    while i < 13 {
+    let all = Messages {
+        heads: p,
+        bodies: s,
+        batch,
+    };
+    lanes::digests(&all, &mut out, 0, 32);
+    for i in 0..13 {
         if !octets::same(&d, 0, &out, 32 * i, 32) {
             return i as u64;
         }
-        i += 1;
     }
     13
 }

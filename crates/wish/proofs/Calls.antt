@@ -11,9 +11,8 @@ use Rattle.terms.specs.Ladder.{first}
 use Rattle.terms.proofs.Ladders.{by_ladder, is_given, is_passed}
 use Rattle.terms.proofs.Rungs.{refusal_one, stop, go_on}
 use Rattle.wish.specs.declared.Wish.{Wish}
-use Rattle.wish.specs.declared.Smallest.{Smallest}
-use Rattle.wish.specs.declared.Smallest.TheVariants as answer
-use Rattle.wish.specs.Wish.{RejectedFor, outside, unmet, wish_ladder, SaidSmallest, refused, counts, said_smallest, Says, SmallestCall}
+use Rattle.std.proofs.Common.{Ok, Err}
+use Rattle.wish.specs.Wish.{Smallest, RejectedFor, outside, unmet, wish_ladder, SaidSmallest, refused, counts, said_smallest, Says, SmallestCall}
 use Rattle.wish.specs.Closed.{nodes_for, quorum_for, answer_for}
 use Rattle.wish.proofs.Laws.{unmet_by_nodes, met_within, none_met, none_met_back, smallest, closed_forms}
 
@@ -37,13 +36,13 @@ said_one w x y g h = said_is w x g ∙ sym (said_is w y h)
 
 -- the answer is told by its terms
 same : (a b : Smallest) → said_smallest a ≡ said_smallest b → a ≡ b
-same (answer.Refused r) (answer.Refused s) e = ap answer.Refused (refusal_one r s cc)
-same (answer.Refused r) (answer.Counts n q) e = absurd (let z : ◌≡◌ {A = ℕ} 0 1 = cc in omega arith)
-same (answer.Counts n q) (answer.Refused r) e = absurd (let z : ◌≡◌ {A = ℕ} 0 1 = cc in omega arith)
-same (answer.Counts n q) (answer.Counts n₂ q₂) e =
-    let f : n ≡ n₂ = cc in
-    let g : q ≡ q₂ = cc in
-    λ i. answer.Counts (f i) (g i)
+same (Err r) (Err s) e = ap Err (refusal_one r s cc)
+same (Err r) (Ok c) e = absurd (let z : ◌≡◌ {A = ℕ} 0 1 = cc in omega arith)
+same (Ok c) (Err r) e = absurd (let z : ◌≡◌ {A = ℕ} 0 1 = cc in omega arith)
+same (Ok c) (Ok d) e =
+    let f : c.n ≡ d.n = cc in
+    let g : c.q ≡ d.q = cc in
+    λ i. Ok (record { n = f i; q = g i })
 
 pub call_one : (w : Wish) (a b : Smallest) → SmallestCall w a → SmallestCall w b → a ≡ b
 call_one w a b c d = same a b (said_one w (said_smallest a) (said_smallest b) c.is d.is)

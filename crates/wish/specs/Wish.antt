@@ -6,17 +6,18 @@
 --   AcceptedFor RejectedFor    document 01 accepts N and Q for a wish, whatever F and W in range and the clients are; it does so with none
 --   SmallestFor          N is the smallest that is accepted, and Q the smallest with it
 --   outside unmet        the conditions of the refusals; wish_ladder, their order: 1, 20
+--   Smallest              what the code answers
 --   SaidSmallest Says    an answer, and when it is the one; SmallestCall, the contract of the call
 -- Assumes nothing.
-use Rattle.std.specs.Prelude.{ℕ, zero, suc, ◌≤◌, ◌<◌, ◌≡◌, Bool, true, false, not, List, [], ◌∷◌, ltb, eqb}
+use Rattle.std.specs.Prelude.{ℕ, zero, suc, ◌≤◌, ◌<◌, ◌≡◌, Bool, true, false, not, List, [], ◌∷◌, ltb, eqb, Result, Ok, Err}
 use Rattle.terms.specs.Ladder.{Rung, on, None, Given, ◌or◌}
 use Rattle.terms.specs.Terms.{plan_ok, counts_ok, refusal_number}
 use Rattle.terms.specs.declared.Plan.{Plan}
 use Rattle.terms.specs.declared.Member.{Member}
 use Rattle.terms.specs.declared.Clients.{Clients}
+use Rattle.terms.specs.declared.Refusal.{Refusal}
 use Rattle.wish.specs.declared.Wish.{Wish}
-use Rattle.wish.specs.declared.Smallest.{Smallest}
-use Rattle.wish.specs.declared.Smallest.TheVariants as answer
+use Rattle.wish.specs.declared.Counts as answer
 
 -- ---- the counts of a plan; F, W and the clients are free
 pub record Counts : Type 0 where
@@ -75,9 +76,12 @@ pub data SaidSmallest : Type 0 where
   refused : ℕ → SaidSmallest
   counts : (n q : ℕ) → SaidSmallest
 
+abbrev pub Smallest : Type 0
+Smallest = Result answer.Counts Refusal
+
 abbrev pub said_smallest : Smallest → SaidSmallest
-said_smallest (answer.Refused r) = refused (refusal_number r)
-said_smallest (answer.Counts n q) = counts n q
+said_smallest (Err r) = refused (refusal_number r)
+said_smallest (Ok c) = counts c.n c.q
 
 -- a refusal is the first of the ladder that applies; N and Q are given where none does, and are the smallest
 abbrev pub Says : Wish → SaidSmallest → Type 0

@@ -3,10 +3,10 @@ use Rattle.answers.specs.Answers.{counts_after}
 use mathlib.Core.Path.{refl}
 use Rattle.answers.proofs.put_counts.Goals as goal
 
-pub returns-in-Refused : goal.returns-in-Refused
+pub returns-in-Err : goal.returns-in-Err
 unfolding counts_after
-returns-in-Refused c = laws.counts_told _ _ _ _ c.in-Refused.is refl
+returns-in-Err c = laws.counts_told _ _ _ _ c.in-Err.is refl
 
-pub returns-in-Counts : goal.returns-in-Counts
+pub returns-in-Ok : goal.returns-in-Ok
 unfolding counts_after
-returns-in-Counts c = laws.counts_told _ _ _ _ c.in-Counts.is c.write_counts.ensures
+returns-in-Ok c = laws.counts_told _ _ _ _ c.in-Ok.is c.write_counts.ensures

@@ -3,10 +3,10 @@ use Rattle.answers.specs.Answers.{told_after}
 use mathlib.Core.Path.{refl}
 use Rattle.answers.proofs.put_told.Goals as goal
 
-pub returns-in-Refused : goal.returns-in-Refused
+pub returns-in-Err : goal.returns-in-Err
 unfolding told_after
-returns-in-Refused c = laws.ran_told _ _ _ _ c.in-Refused.is refl
+returns-in-Err c = laws.ran_told _ _ _ _ c.in-Err.is refl
 
-pub returns-in-Did : goal.returns-in-Did
+pub returns-in-Ok : goal.returns-in-Ok
 unfolding told_after
-returns-in-Did c = laws.ran_told _ _ _ _ c.in-Did.is c.write_told.ensures
+returns-in-Ok c = laws.ran_told _ _ _ _ c.in-Ok.is c.write_told.ensures

@@ -6,19 +6,6 @@ use Rattle.book.proofs.Turns as turns
 use Rattle.book.proofs.Laws as laws
 use Rattle.book.proofs.filled.Goals as goal
 
-pub overflow_mul-k : goal.overflow_mul-k
-overflow_mul-k c = let q = c.requires in
-    let a = c.args in
-    let l = turns.mul_small a.k.count a.k.each q.1 q.2 in
-    omega arith
-
-pub overflow_add-k : goal.overflow_add-k
-overflow_add-k c = let q = c.requires in
-    let a = c.args in
-    let h = laws.head_of a.p a.book.now a.k q.0 in
-    let l = turns.mul_small a.k.count a.k.each q.1 q.2 in
-    omega arith
-
 pub returns-then-book-k : goal.returns-then-book-k
 returns-then-book-k c = let q = c.requires in
     let a = c.args in
@@ -26,20 +13,10 @@ returns-then-book-k c = let q = c.requires in
     let t = c.if-book-k.true in
     laws.fill_no _ _ _ (λ i. let j = i.inside in omega arith)
 
-pub rising-requires : goal.rising-requires
-rising-requires c = let q = c.requires in
-    let l = q.3 in
-    (c.if-book-k.false, omega arith)
-
 pub returns-then-not-rising : goal.returns-then-not-rising
 returns-then-not-rising c = let s = ap rising (laws.records_of_lem _ _ _ c.requires.0) in
     let g = c.rising in
     laws.fill_no _ _ _ (λ i. clash (sym i.rise ∙ sym s ∙ sym g.ensures ∙ c.if-not-rising.true))
-
-pub timed-requires : goal.timed-requires
-timed-requires c = let q = c.requires in
-    let l = q.3 in
-    (c.if-book-k.false, omega arith)
 
 pub returns : goal.returns
 returns c = let e = c.requires.0 in

@@ -3,19 +3,11 @@ use native.Mathlib.Omega.{arith}
 use Rattle.book.proofs.Laws as laws
 use Rattle.book.proofs.good.Goals as goal
 
-pub headed-requires : goal.headed-requires
-headed-requires c = let h = c.header_of-k.ensures in
-    (c.requires.1, h.0, h.1, h.2)
-
 pub returns-then-not-headed : goal.returns-then-not-headed
 returns-then-not-headed c = let h = c.header_of-k.ensures in
     let o = c.shared_slice_known-1 in
     let g = c.headed in
     laws.bad_head _ _ _ (λ i. omega (arith, o.given i)) h.0 h.1 (sym g.ensures ∙ c.if-not-headed.true)
-
-pub filled-requires : goal.filled-requires
-filled-requires c = let h = c.header_of-k.ensures in
-    (h.0, h.1, h.2, h.3)
 
 pub returns-then-filled : goal.returns-then-filled
 returns-then-filled c = let h = c.header_of-k.ensures in

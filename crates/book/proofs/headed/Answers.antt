@@ -6,19 +6,6 @@ use Rattle.book.proofs.Turns as turns
 use Rattle.book.proofs.Laws as laws
 use Rattle.book.proofs.headed.Goals as goal
 
-pub overflow_sub-k : goal.overflow_sub-k
-overflow_sub-k c = let h = laws.head_of c.args.p c.args.book.now c.args.k c.requires.1 in
-    omega arith
-
-pub overflow_mul-k : goal.overflow_mul-k
-overflow_mul-k c = let l = turns.mul_small c.args.k.count c.args.k.each c.requires.2 c.requires.3 in
-    omega arith
-
-pub overflow_add-k : goal.overflow_add-k
-overflow_add-k c = let h = laws.head_of c.args.p c.args.book.now c.args.k c.requires.1 in
-    let l = turns.mul_small c.args.k.count c.args.k.each c.requires.2 c.requires.3 in
-    omega arith
-
 pub returns-then-get-k : goal.returns-then-get-k
 returns-then-get-k c = laws.head_no _ _ _ _ (λ i. c.if-get-k.true (c.get.ensures.0 ∙ i.used ∙ sym (laws.length_of _ _ _ c.requires.1)))
 

@@ -10,14 +10,6 @@ pub overflow_add-at : goal.overflow_add-at
 overflow_add-at c = let q = laws.placed_fits _ _ _ _ _ c.requires in
     omega arith
 
-pub overflow_mul-end : goal.overflow_mul-end
-overflow_mul-end c = let q = laws.placed_fits _ _ _ _ _ c.requires in
-    omega arith
-
-pub overflow_add-end : goal.overflow_add-end
-overflow_add-end c = let q = laws.placed_fits _ _ _ _ _ c.requires in
-    omega arith
-
 pub overflow_sub-end : goal.overflow_sub-end
 overflow_sub-end c = let q = laws.placed_fits _ _ _ _ _ c.requires in
     omega arith

@@ -1,10 +1,6 @@
 use Rattle.book.proofs.Laws as laws
 use Rattle.book.proofs.last_below.Goals as goal
 
-pub place-i-requires : goal.place-i-requires
-place-i-requires c = let q = c.requires in
-    (q.0.inside, q.0.long, q.1)
-
 pub span_of-requires : goal.span_of-requires
 span_of-requires c = let q = c.requires in
     (laws.place_low c.args.k _ _ _ c.place-i.ensures, q.0.inside)

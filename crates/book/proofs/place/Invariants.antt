@@ -1,13 +1,10 @@
-use mathlib.Core.Path.{◌≡◌}
-use Prim.Native.Nat.{◌+◌, ◌-◌, ◌*◌, ◌≤◌}
+use Rattle.std.proofs.Common.{◌≡◌, ◌+◌}
 use Rattle.octets.specs.Bytes.{part, num}
 use Rattle.book.specs.Records.{below}
-use Rattle.book.specs.Book.{records_from}
+use Rattle.book.specs.Book.{records_in}
+use Rattle.book.proofs.Turns.{left}
 use Rattle.book.proofs.place.Given as goal
 
 abbrev pub invariant-loop-i : goal.invariant-loop-i
-invariant-loop-i l = (l.i ≤ l.m) × (l.p ≡ l.initial.p + l.i * l.r) ×
-    (below (num (part l.src l.s 40)) (records_from l.book l.r l.m l.initial.p) ≡ l.i + below (num (part l.src l.s 40)) (records_from l.book l.r (l.m - l.i) l.p))
-
-abbrev pub decreases-loop-i : goal.decreases-loop-i
-decreases-loop-i l = l.m - l.i
+invariant-loop-i l =
+    below (num (part l.src l.s 40)) (records_in l.k l.book) ≡ l.i + below (num (part l.src l.s 40)) (left l.book l.k.each l.k.head l.k.count l.i)

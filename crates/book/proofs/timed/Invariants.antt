@@ -1,12 +1,8 @@
-use mathlib.Core.Path.{◌≡◌}
-use Prim.Native.Nat.{◌+◌, ◌*◌, ◌≤◌}
-use lib.ListN.{length}
+use Rattle.std.proofs.Common.{◌≡◌}
 use Rattle.book.specs.Records.{timed}
-use Rattle.book.specs.Book.{records_from}
+use Rattle.book.specs.Book.{records_in}
+use Rattle.book.proofs.Turns.{left}
 use Rattle.book.proofs.timed.Given as goal
 
-abbrev pub invariant-loop-m : goal.invariant-loop-m
-invariant-loop-m l = (l.p + l.m * l.r ≤ length l.book) × (timed (records_from l.book l.r l.initial.m l.initial.p) ≡ timed (records_from l.book l.r l.m l.p))
-
-abbrev pub decreases-loop-m : goal.decreases-loop-m
-decreases-loop-m l = l.m
+abbrev pub invariant-loop-i : goal.invariant-loop-i
+invariant-loop-i l = timed (records_in l.k l.book) ≡ timed (left l.book l.k.each l.k.head l.k.count l.i)

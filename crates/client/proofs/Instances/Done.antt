@@ -27,7 +27,7 @@ use Rattle.frame.specs.Frame.{body_of, frame_node, shaped, body_fits, one_of, fo
 use Rattle.record.specs.Record.{stamp_of, cross_of, fragment_of}
 use Rattle.record.specs.Desk.{stamp_made}
 use Rattle.record.proofs.Desks.{time_made}
-use Rattle.rounds.specs.declared.Lead.TheVariants.{Node}
+use Rattle.std.proofs.Common.{Some}
 use Rattle.rounds.specs.Rounds.{heard_count, every, slot_stamp, ahead_of, step_of, lead_of, joins_of, set_of, under_of, slot_fits, slots_fit}
 use Rattle.recover.specs.Records.{cross_for, stamp_for}
 use Rattle.session.specs.Session.{done}
@@ -248,7 +248,7 @@ module _ where
   unfolding reply_4 plan bears record_length heard_count be be_onto num num_from part
   count_so = refl
 
-  pub lead_so : lead_of (after_reply plan second_heard reply_4).marks (desk_after plan reply_4 desk_good) (slots_of plan) 3 ≡ Node 0
+  pub lead_so : lead_of (after_reply plan second_heard reply_4).marks (desk_after plan reply_4 desk_good) (slots_of plan) 3 ≡ Some 0
   unfolding reply_4 plan bears record_length be be_onto num num_from part lead_of step_of ahead_of
   lead_so = refl
 

@@ -1,5 +1,6 @@
 -- The read clause of the third demand at calls that met their contracts: round 1 of the read of Instances/Read (N3 t1 b0 Q2 m1 F1), a record
 -- that does not validate and a first triple, in both orders. Assumes nothing.
+use Rattle.std.specs.Prelude.{Ok}
 use Prim.{tt}
 use mathlib.Core.Path.{◌≡◌, refl, sym, ap}
 use mathlib.Core.Bool.{false}
@@ -36,10 +37,10 @@ abbrev pub heard_1 : Session
 heard_1 = marked_of start 1 First
 
 abbrev pub turned_1 : Turn
-turned_1 = turn reply_2 Open heard_1 desk (0 ∷ [])
+turned_1 = turn reply_2 (Ok Open) heard_1 desk (0 ∷ [])
 
 abbrev pub turned_2 : Turn
-turned_2 = turn reply_1 Open second_round desk_poor (0 ∷ [])
+turned_2 = turn reply_1 (Ok Open) second_round desk_poor (0 ∷ [])
 
 met_first : ReadReplyCall plan start reply_2 desk (0 ∷ []) turned_1.took desk (0 ∷ [])
 unfolding reply_2 desk plan read_reply first plan_ok counts_ok limits_ok column_of all record_length lengths_ok in_range standing_rules round_rules open_rules heard_count every slots_fit slot_fits slot_stamp

@@ -10,6 +10,8 @@
 --   late_so            a late reply of round 1, which comes in round 2, is not counted
 --   back_so            the item is the one that was written
 -- Assumes nothing.
+use Rattle.terms.specs.declared.Refusal.{Refusal}
+use Rattle.std.specs.Prelude.{Ok, Result, Err}
 use Prim.{tt}
 use Prim.Native.Nat.{ℕ, ◌*◌, ◌≤◌, ◌<◌}
 use native.Mathlib.Omega.{arith}
@@ -33,16 +35,15 @@ use Rattle.fragments.specs.Fragments.{among, from, fragment, laid, tabulate, rat
 use Rattle.frame.specs.Frame.{frame, ask_of, shaped, body_fits, one_of, for_party, good_frame, good_reply, write_reply_kind, read_reply_kind, suits}
 use Rattle.record.specs.Record.{fragment_hash, hashes_ok, time_zero, prefix_of}
 use Rattle.record.specs.Desk.{slot_of, row, cross_made, desk_of, stamp_made}
-use Rattle.rounds.specs.declared.Bound.TheVariants.{Free}
+use Rattle.std.proofs.Common.{None}
 use Rattle.rounds.specs.declared.Heard.TheVariants.{First, Record}
 use Rattle.rounds.specs.Rounds.{heard_count, every, slot_stamp, ahead_of, step_of, lead_of, joins_of, set_of, close_with, under_of, slot_fits, slots_fit}
 use Rattle.recover.specs.Recover.{validates, slot_filled, refilled, sound, repaired, collected}
 use Rattle.session.specs.declared.Session.{Session}
 use Rattle.standing.specs.declared.Operation.TheVariants.{Write, Read}
 use Rattle.session.specs.declared.Answer.{Answer}
-use Rattle.session.specs.declared.Answer.TheVariants.{Refused, Open, Done}
+use Rattle.session.specs.declared.Answer.TheVariants.{Open, Done}
 use Rattle.session.specs.declared.opening.Opened.{Opened}
-use Rattle.session.specs.declared.opening.Opening.TheVariants.{Accepted}
 use Rattle.session.specs.Session.{ask_now, marked_of, next_of, storing_of, ended_of, refused}
 use Rattle.session.specs.Opening.{fresh_of, open_with, OpenCall}
 use Rattle.session.specs.Ranges.{standing_rules, open_rules, in_range}
@@ -100,7 +101,7 @@ desk_full = good ++ (good ++ good)
 
 -- ---- the sessions
 abbrev pub start : Session
-start = fresh_of Read 1 Free ask
+start = fresh_of Read 1 None ask
 
 abbrev pub first_heard : Session
 first_heard = marked_of start 0 Record
@@ -121,7 +122,7 @@ abbrev pub ended : Session
 ended = ended_of (marked_of once_stored 2 Record)
 
 -- ---- the calls, each with an item buffer of one byte
-abbrev pub turn : List ℕ → Answer → Session → List ℕ → List ℕ → Turn
+abbrev pub turn : List ℕ → Result Answer Refusal → Session → List ℕ → List ℕ → Turn
 turn f a s d i = record { reply = f; item = 0 ∷ []; took = record { answer = a; session = s }; desk_left = d; item_left = i }
 
 unfoldable pub reply_1 : List ℕ
@@ -143,63 +144,63 @@ unfoldable pub reply_6 : List ℕ
 reply_6 = frame write_reply_kind 2 7 stamp_bytes
 
 abbrev pub call_1 : Turn
-call_1 = turn reply_1 Open first_heard desk_poor (0 ∷ [])
+call_1 = turn reply_1 (Ok Open) first_heard desk_poor (0 ∷ [])
 
 abbrev pub call_2 : Turn
-call_2 = turn reply_2 Open second_round desk_poor (0 ∷ [])
+call_2 = turn reply_2 (Ok Open) second_round desk_poor (0 ∷ [])
 
 abbrev pub call_3 : Turn
-call_3 = turn reply_3 Open second_heard desk_good (0 ∷ [])
+call_3 = turn reply_3 (Ok Open) second_heard desk_good (0 ∷ [])
 
 abbrev pub call_4 : Turn
-call_4 = turn reply_4 Open repair_round desk_full (0 ∷ [])
+call_4 = turn reply_4 (Ok Open) repair_round desk_full (0 ∷ [])
 
 abbrev pub call_5 : Turn
-call_5 = turn reply_5 Open once_stored desk_full (0 ∷ [])
+call_5 = turn reply_5 (Ok Open) once_stored desk_full (0 ∷ [])
 
 abbrev pub call_6 : Turn
-call_6 = turn reply_6 (Done (stamp_at desk_good 0) 2) ended desk_full (7 ∷ [])
+call_6 = turn reply_6 (Ok (Done (stamp_at desk_good 0) 2)) ended desk_full (7 ∷ [])
 
 abbrev pub opened : Opened
-opened = record { answer = Accepted; session = start }
+opened = record { answer = (Ok tt); session = start }
 
 pub opened_so : OpenCall Read plan ask opened
 unfolding open_with first plan_ok counts_ok limits_ok column_of all plan
 opened_so = record { is = refl }
 
-pub met_1 : ReadReplyCall plan (start) reply_1 desk (0 ∷ []) (record { answer = Open; session = first_heard }) desk_poor (0 ∷ [])
+pub met_1 : ReadReplyCall plan (start) reply_1 desk (0 ∷ []) (record { answer = Ok Open; session = first_heard }) desk_poor (0 ∷ [])
 unfolding reply_1 hash poor stamp_bytes good desk desk_poor desk_good desk_full plan read_reply first plan_ok counts_ok limits_ok column_of all record_length lengths_ok in_range standing_rules round_rules open_rules heard_count every slots_fit slot_fits slot_stamp under_of num num_from part
     good_reply good_frame suits shaped for_party one_of body_fits awaited ask_in awaits_in is_heard bears be be_onto accepted heard settled
     hashes_ok time_zero fragment_hash prefix_of alike put stamp_at stamp_number then sha256 sha.after compress_of added_of rounds_of round_of T1 T2 schedule_of words padding big_endian K
 met_1 = record { is = refl }
 
-met_2 : ReadReplyCall plan (first_heard) reply_2 desk_poor (0 ∷ []) (record { answer = Open; session = second_round }) desk_poor (0 ∷ [])
+met_2 : ReadReplyCall plan (first_heard) reply_2 desk_poor (0 ∷ []) (record { answer = Ok Open; session = second_round }) desk_poor (0 ∷ [])
 unfolding reply_2 hash poor stamp_bytes good desk desk_poor desk_good desk_full plan read_reply first plan_ok counts_ok limits_ok column_of all record_length lengths_ok in_range standing_rules round_rules open_rules heard_count every slots_fit slot_fits slot_stamp under_of num num_from part
     good_reply good_frame suits shaped for_party one_of body_fits awaited ask_in awaits_in is_heard bears be be_onto accepted heard settled
     hashes_ok time_zero fragment_hash prefix_of alike put stamp_at stamp_number then sha256 sha.after compress_of added_of rounds_of round_of T1 T2 schedule_of words padding big_endian K act_for act_on sound failing close_with lead_of step_of ahead_of set_of joins_of decided class_of
     validates row cross_made regenerated among tabulate value blend weight_of ratio xtime mul_n mul square sum_pow inv div
 met_2 = record { is = refl }
 
-met_3 : ReadReplyCall plan (second_round) reply_3 desk_poor (0 ∷ []) (record { answer = Open; session = second_heard }) desk_good (0 ∷ [])
+met_3 : ReadReplyCall plan (second_round) reply_3 desk_poor (0 ∷ []) (record { answer = Ok Open; session = second_heard }) desk_good (0 ∷ [])
 unfolding reply_3 hash poor stamp_bytes good desk desk_poor desk_good desk_full plan read_reply first plan_ok counts_ok limits_ok column_of all record_length lengths_ok in_range standing_rules round_rules open_rules heard_count every slots_fit slot_fits slot_stamp under_of num num_from part
     good_reply good_frame suits shaped for_party one_of body_fits awaited ask_in awaits_in is_heard bears be be_onto accepted heard settled
     hashes_ok time_zero fragment_hash prefix_of alike put stamp_at stamp_number then sha256 sha.after compress_of added_of rounds_of round_of T1 T2 schedule_of words padding big_endian K
 met_3 = record { is = refl }
 
-met_4 : ReadReplyCall plan (second_heard) reply_4 desk_good (0 ∷ []) (record { answer = Open; session = repair_round }) desk_full (0 ∷ [])
+met_4 : ReadReplyCall plan (second_heard) reply_4 desk_good (0 ∷ []) (record { answer = Ok Open; session = repair_round }) desk_full (0 ∷ [])
 unfolding reply_4 hash poor stamp_bytes good desk desk_poor desk_good desk_full plan read_reply first plan_ok counts_ok limits_ok column_of all record_length lengths_ok in_range standing_rules round_rules open_rules heard_count every slots_fit slot_fits slot_stamp under_of num num_from part
     good_reply good_frame suits shaped for_party one_of body_fits awaited ask_in awaits_in is_heard bears be be_onto accepted heard settled
     hashes_ok time_zero fragment_hash prefix_of alike put stamp_at stamp_number then sha256 sha.after compress_of added_of rounds_of round_of T1 T2 schedule_of words padding big_endian K act_for act_on sound failing close_with lead_of step_of ahead_of set_of joins_of decided class_of
     validates row cross_made regenerated among tabulate value blend weight_of ratio xtime mul_n mul square sum_pow inv div repaired refilled slot_filled
 met_4 = record { is = refl }
 
-met_5 : ReadReplyCall plan (repair_round) reply_5 desk_full (0 ∷ []) (record { answer = Open; session = once_stored }) desk_full (0 ∷ [])
+met_5 : ReadReplyCall plan (repair_round) reply_5 desk_full (0 ∷ []) (record { answer = Ok Open; session = once_stored }) desk_full (0 ∷ [])
 unfolding reply_5 hash poor stamp_bytes good desk desk_poor desk_good desk_full plan read_reply first plan_ok counts_ok limits_ok column_of all record_length lengths_ok in_range standing_rules round_rules open_rules heard_count every slots_fit slot_fits slot_stamp under_of num num_from part
     good_reply good_frame suits shaped for_party one_of body_fits awaited ask_in awaits_in is_heard bears be be_onto accepted heard settled
     hashes_ok time_zero fragment_hash prefix_of alike put stamp_at stamp_number then stored
 met_5 = record { is = refl }
 
-met_6 : ReadReplyCall plan (once_stored) reply_6 desk_full (0 ∷ []) (record { answer = Done (stamp_at desk_good 0) 2; session = ended }) desk_full (7 ∷ [])
+met_6 : ReadReplyCall plan (once_stored) reply_6 desk_full (0 ∷ []) (record { answer = Ok (Done (stamp_at desk_good 0) 2); session = ended }) desk_full (7 ∷ [])
 unfolding reply_6 hash poor stamp_bytes good desk desk_poor desk_good desk_full plan read_reply first plan_ok counts_ok limits_ok column_of all record_length lengths_ok in_range standing_rules round_rules open_rules heard_count every slots_fit slot_fits slot_stamp under_of num num_from part
     good_reply good_frame suits shaped for_party one_of body_fits awaited ask_in awaits_in is_heard bears be be_onto accepted heard settled
     hashes_ok time_zero fragment_hash prefix_of alike put stamp_at stamp_number then stored collected laid from regenerated among tabulate value
@@ -284,7 +285,7 @@ rested_so =
 unfoldable pub late : List ℕ
 late = frame read_reply_kind 2 5 []
 
-pub late_met : ReadReplyCall plan second_heard late desk_good (0 ∷ []) (record { answer = Refused NotAwaited; session = second_heard }) desk_good (0 ∷ [])
+pub late_met : ReadReplyCall plan second_heard late desk_good (0 ∷ []) (record { answer = Err NotAwaited; session = second_heard }) desk_good (0 ∷ [])
 unfolding late hash stamp_bytes good desk_good plan read_reply first plan_ok counts_ok limits_ok column_of all record_length lengths_ok in_range standing_rules round_rules open_rules heard_count every
     slots_fit slot_fits slot_stamp under_of num num_from part good_reply good_frame suits shaped for_party one_of body_fits awaited ask_in awaits_in be be_onto stamp_at stamp_number then
     desk_poor poor
@@ -298,7 +299,7 @@ pub late_so : NotCounted (refused 10)
 late_so =
     (late_read_reply plan start desk (call_1 ∷ call_2 ∷ call_3 ∷ [])
     (replies_so.0, (replies_so.1.0, (replies_so.1.1.0, tt))) (λ a b. omega arith) late asked_first
-    desk_good (0 ∷ []) (record { answer = Refused NotAwaited; session = second_heard }) desk_good (0 ∷ []) late_met).0
+    desk_good (0 ∷ []) (record { answer = Err NotAwaited; session = second_heard }) desk_good (0 ∷ []) late_met).0
 
 -- ---- the item is the one that was written: the desk that the repair filled is the one that a writer of the byte 7 fills at time 1
 module _ where

@@ -2,6 +2,7 @@
 -- has heard records of one timestamp and cross checksum from nodes 0 and 1, with the fragments 00 and 80, hears the first triple from node
 -- 2. Two of three replies are unclassifiable, and a repair round opens. Fragments 2 and 3 are then 1b and 9b, as in document 01's table.
 -- Assumes nothing.
+use Rattle.std.specs.Prelude.{Ok}
 use Prim.{tt}
 use Prim.Native.Nat.{ℕ, ◌*◌, ◌<◌}
 use mathlib.Core.Path.{◌≡◌, refl}
@@ -21,7 +22,7 @@ use Rattle.fragments.specs.Fragments.{among, from, laid, tabulate, ratio, weight
 use Rattle.recover.specs.Recover.{slot_filled, refilled, sound, repaired, collected}
 use Rattle.frame.specs.Frame.{shaped, body_fits, one_of, for_party, good_frame, good_reply, suits}
 use Rattle.record.specs.Desk.{fragment_in}
-use Rattle.rounds.specs.declared.Bound.TheVariants.{Free}
+use Rattle.std.proofs.Common.{None}
 use Rattle.rounds.specs.declared.Heard.TheVariants.{First, Record}
 use Rattle.rounds.specs.Rounds.{heard_count, every, slot_stamp, ahead_of, step_of, lead_of, joins_of, set_of, close_with, under_of, slot_fits, slots_fit, unheard}
 use Rattle.session.specs.declared.Session.{Session}
@@ -35,7 +36,6 @@ use Rattle.session.specs.Reply.{awaited, is_heard, bears}
 use Rattle.session.specs.Reader.{act_on, act_for, closed, settled, heard, stored, accepted, read_reply, ReadReplyCall}
 use Rattle.session.specs.Opening.{fresh_of, open_with, OpenCall}
 use Rattle.session.specs.declared.opening.Opened.{Opened}
-use Rattle.session.specs.declared.opening.Opening.TheVariants.{Accepted}
 use Rattle.session.proofs.Kept.{Kept}
 use Rattle.client.specs.Endings.{after_reply, desk_after}
 use Rattle.client.specs.Turns.{Turn, ReadTurn, Calls}
@@ -55,7 +55,7 @@ pub desk : List ℕ
 desk = slot 0 ++ (slot 128 ++ replicate 338 0)
 
 pub session : Session
-session = with_marks (fresh_of Read 1 Free (record { 0 = 5 })) (record { is = Record } ∷ record { is = Record } ∷ replicate 14 unheard)
+session = with_marks (fresh_of Read 1 None (record { 0 = 5 })) (Record ∷ Record ∷ replicate 14 unheard)
 
 -- kind 7 of node 2, ask number 5, the first triple
 pub frame : List ℕ
@@ -65,7 +65,7 @@ pub item : List ℕ
 item = 0 ∷ 0 ∷ []
 
 pub took : Took
-took = record { answer = Open; session = storing_of (marked_of session 2 First) (stamp_at desk 0) }
+took = record { answer = Ok Open; session = storing_of (marked_of session 2 First) (stamp_at desk 0) }
 
 pub left : List ℕ
 left = repaired plan (closed plan (marked_of session 2 First) desk) 0 desk
@@ -106,7 +106,7 @@ stored_small = (refl, refl, refl)
 
 turn_open : ℕ → Session → Turn
 turn_open k s =
-    record { reply = stored_by k; item = item; took = record { answer = Open; session = marked_of s k Record }; desk_left = left; item_left = item }
+    record { reply = stored_by k; item = item; took = record { answer = Ok Open; session = marked_of s k Record }; desk_left = left; item_left = item }
 
 pub first_turn : Turn
 first_turn = turn_open 0 took.session
@@ -120,7 +120,7 @@ last_turn =
     record {
       reply = stored_by 3;
       item = item;
-      took = record { answer = Done (stamp_at desk 0) 1; session = ended_of (marked_of second_turn.took.session 3 Record) };
+      took = record { answer = Ok (Done (stamp_at desk 0) 1); session = ended_of (marked_of second_turn.took.session 3 Record) };
       desk_left = left;
       item_left = 0 ∷ 128 ∷ [];
     }
@@ -141,7 +141,7 @@ ends_so = repair_ends plan session frame desk item refl took left item opens_so 
 
 -- ---- an opened read that hears a first triple
 pub opened : Opened
-opened = record { answer = Accepted; session = fresh_of Read 1 Free (record { 0 = 5 }) }
+opened = record { answer = (Ok tt); session = fresh_of Read 1 None (record { 0 = 5 }) }
 
 opened_so : OpenCall Read plan (record { 0 = 5 }) opened
 unfolding opened open_with first plan_ok counts_ok limits_ok column_of all plan
@@ -152,7 +152,7 @@ heard_one =
     record {
       reply = frame;
       item = item;
-      took = record { answer = Open; session = marked_of (fresh_of Read 1 Free (record { 0 = 5 })) 2 First };
+      took = record { answer = Ok Open; session = marked_of (fresh_of Read 1 None (record { 0 = 5 })) 2 First };
       desk_left = desk;
       item_left = item;
     }
@@ -173,5 +173,5 @@ every_so =
     every_session Read plan (record { 0 = 5 }) opened opened_so opened_accepted desk desk_long (heard_one ∷ [])
     (inr (small_octets frame frame_small, heard_so), tt)
   where
-    opened_accepted : opened.answer ≡ Accepted
+    opened_accepted : opened.answer ≡ (Ok tt)
     opened_accepted = unfold opened in refl

@@ -1,6 +1,7 @@
 -- The hypotheses of the theorems on read rounds can be met. Two nodes, replication, one byte (N2 t0 b0 Q1 m1 F1, R = 105), a read that has
 -- just opened, a desk of zeros; node 0 answers with the first triple, node 1 with its record of a save at time 3: the two replies in both
 -- orders. Assumes nothing.
+use Rattle.std.specs.Prelude.{Ok}
 use Prim.{tt}
 use mathlib.Core.Path.{◌≡◌, refl, ap, ◌∙◌}
 use mathlib.Core.Bool.{Bool, true, false, not}
@@ -29,13 +30,12 @@ use Rattle.frame.proofs.Frames.{reply_back}
 use Rattle.frame.proofs.Built as built
 use Rattle.record.specs.Record.{hashes_ok, time_zero}
 use Rattle.record.specs.Desk.{slot_of}
-use Rattle.rounds.specs.declared.Bound.TheVariants.{Free}
-use Rattle.rounds.specs.declared.Mark.{Mark}
+use Rattle.std.proofs.Common.{None}
+use Rattle.rounds.specs.declared.Heard.{Heard}
 use Rattle.rounds.specs.Rounds.{bit_of, unheard, under_of}
 use Rattle.session.specs.declared.Session.{Session}
 use Rattle.standing.specs.declared.Operation.TheVariants.{Read}
 use Rattle.session.specs.declared.opening.Opened.{Opened}
-use Rattle.session.specs.declared.opening.Opening.TheVariants.{Accepted as Granted}
 use Rattle.session.specs.Opening.{fresh_of, open_with, OpenCall}
 use Rattle.standing.specs.Standing.{lengths_ok, ask_in, awaits_in}
 use Rattle.session.specs.Reply.{awaited, is_heard, bears}
@@ -64,10 +64,10 @@ pub ask : Ask
 ask = record { 0 = 5 }
 
 pub session : Session
-session = fresh_of Read 1 Free ask
+session = fresh_of Read 1 None ask
 
 pub opening : Opened
-opening = record { session = session; answer = Granted }
+opening = record { session = session; answer = (Ok tt) }
 
 pub opened_so : OpenCall Read plan ask opening
 unfolding opening session ask open_with first plan
@@ -123,7 +123,7 @@ module _ (node : ℕ) (body : List ℕ) (low : node < 2) (fits : body_fits plan 
 
   is_fresh : is_heard session (frame_node (reply node body)) ≡ false
   unfolding is_heard session
-  is_fresh = ap (λ (m : Mark). eqb (bit_of m.is) 1) (get_or-replicate 16 (frame_node (reply node body)) unheard unheard (omega (arith, node_is)))
+  is_fresh = ap (λ (m : Heard). eqb (bit_of m) 1) (get_or-replicate 16 (frame_node (reply node body)) unheard unheard (omega (arith, node_is)))
 
   -- it is accepted where it bears no record, and where it bears one of a time that is not 0 and whose hashes hold
   accepted_so : (t : Bool) → bears plan (reply node body) ≡ t → (t and time_zero body) ≡ false → (t and not (hashes_ok plan node body)) ≡ false

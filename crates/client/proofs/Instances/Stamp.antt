@@ -3,6 +3,7 @@
 --   calls              its two calls, each by its contract
 --   item_so            the item is the one that was written
 -- Assumes nothing.
+use Rattle.std.specs.Prelude.{Ok}
 use Prim.{tt}
 use Prim.Native.Nat.{ℕ}
 use mathlib.Core.Path.{◌≡◌, refl, sym, ap, ◌∙◌, subst}
@@ -56,14 +57,14 @@ abbrev pub ended : Session
 ended = ended_of (marked_of one_heard 2 Record)
 
 abbrev pub first_call : Turn
-first_call = turn first_reply Open one_heard desk_one (0 ∷ [])
+first_call = turn first_reply (Ok Open) one_heard desk_one (0 ∷ [])
 
 abbrev pub call : Turn
 call =
     record {
       reply = second_reply;
       item = 0 ∷ [];
-      took = record { answer = Done (stamp_at desk_one 137) 1; session = ended };
+      took = record { answer = Ok (Done (stamp_at desk_one 137) 1); session = ended };
       desk_left = desk_two;
       item_left = 7 ∷ [];
     }

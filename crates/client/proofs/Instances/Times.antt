@@ -1,5 +1,6 @@
 -- The time clause of the third demand at calls that met their contracts: the write of Instances/Write (N3 t1 b0 Q2 m1 F1) as it opens, time 3 of
 -- node 0 and time 9 of node 1, in both orders; the write round opens with the records of time 10. Assumes nothing.
+use Rattle.std.specs.Prelude.{Ok}
 use Prim.{tt}
 use Prim.Native.Nat.{ℕ}
 use mathlib.Core.Path.{◌≡◌, refl, sym, ap}
@@ -41,16 +42,16 @@ records = records_for plan 10 (7 ∷ [])
 
 -- ---- node 0 first; node 1 first
 abbrev pub call_1 : Turn
-call_1 = turn (reply_of 0 3) Open (timed_of start 0 3) desk
+call_1 = turn (reply_of 0 3) (Ok Open) (timed_of start 0 3) desk
 
 abbrev pub call_2 : Turn
-call_2 = turn (reply_of 1 9) Open write_round records
+call_2 = turn (reply_of 1 9) (Ok Open) write_round records
 
 abbrev pub turned_1 : Turn
-turned_1 = turn (reply_of 1 9) Open (timed_of start 1 9) desk
+turned_1 = turn (reply_of 1 9) (Ok Open) (timed_of start 1 9) desk
 
 abbrev pub turned_2 : Turn
-turned_2 = turn (reply_of 0 3) Open write_round records
+turned_2 = turn (reply_of 0 3) (Ok Open) write_round records
 
 -- the first calls, and the second
 met_1 : WriteReplyCall plan start (reply_of 0 3) desk (7 ∷ []) call_1.took desk × WriteReplyCall plan start (reply_of 1 9) desk (7 ∷ []) turned_1.took desk

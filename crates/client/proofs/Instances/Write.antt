@@ -4,6 +4,8 @@
 --   calls kept_so      the four calls, each by its contract; the session is in its ranges
 --   late_so            a late time reply, which comes in the write round, is not counted
 -- Assumes nothing.
+use Rattle.terms.specs.declared.Refusal.{Refusal}
+use Rattle.std.specs.Prelude.{Ok, Result, Err}
 use Prim.{tt}
 use Prim.Native.Nat.{ℕ}
 use mathlib.Core.Path.{◌≡◌, refl, sym, ◌∙◌}
@@ -18,15 +20,14 @@ use Rattle.terms.specs.Stamp.{then, stamp_at, stamp_number}
 use Rattle.terms.specs.Terms.{plan_ok, counts_ok, limits_ok, column_of, record_length}
 use Rattle.terms.specs.declared.Refusal.TheVariants.{NotAwaited}
 use Rattle.frame.specs.Frame.{frame, ask_of, shaped, body_fits, one_of, for_party, good_frame, good_reply, time_reply_kind, write_reply_kind, suits}
-use Rattle.rounds.specs.declared.Bound.TheVariants.{Free}
+use Rattle.std.proofs.Common.{None}
 use Rattle.rounds.specs.declared.Heard.TheVariants.{Record}
 use Rattle.rounds.specs.Rounds.{heard_count, every}
 use Rattle.session.specs.declared.Session.{Session}
 use Rattle.standing.specs.declared.Operation.TheVariants.{Write}
 use Rattle.session.specs.declared.Answer.{Answer}
-use Rattle.session.specs.declared.Answer.TheVariants.{Refused, Open, Done}
+use Rattle.session.specs.declared.Answer.TheVariants.{Open, Done}
 use Rattle.session.specs.declared.opening.Opened.{Opened}
-use Rattle.session.specs.declared.opening.Opening.TheVariants.{Accepted}
 use Rattle.session.specs.Session.{ask_now, marked_of, storing_of, ended_of, refused, still_open}
 use Rattle.session.specs.Opening.{fresh_of, open_with, OpenCall}
 use Rattle.session.specs.Ranges.{standing_rules, open_rules, in_range}
@@ -45,7 +46,7 @@ use Rattle.client.proofs.Instances.Read.{plan, ask, hash, stamp_bytes, good, des
 
 -- ---- the sessions
 abbrev pub start : Session
-start = fresh_of Write 1 Free ask
+start = fresh_of Write 1 None ask
 
 abbrev pub once_timed : Session
 once_timed = timed_of start 0 0
@@ -66,23 +67,23 @@ time_reply node = frame time_reply_kind node 5 (replicate 8 0)
 unfoldable pub write_reply_of : ℕ → List ℕ
 write_reply_of node = frame write_reply_kind node 6 stamp_bytes
 
-abbrev pub turn : List ℕ → Answer → Session → List ℕ → Turn
+abbrev pub turn : List ℕ → Result Answer Refusal → Session → List ℕ → Turn
 turn f a s d = record { reply = f; item = 7 ∷ []; took = record { answer = a; session = s }; desk_left = d; item_left = 7 ∷ [] }
 
 abbrev pub call_1 : Turn
-call_1 = turn (time_reply 0) Open once_timed desk
+call_1 = turn (time_reply 0) (Ok Open) once_timed desk
 
 abbrev pub call_2 : Turn
-call_2 = turn (time_reply 1) Open write_round desk_full
+call_2 = turn (time_reply 1) (Ok Open) write_round desk_full
 
 abbrev pub call_3 : Turn
-call_3 = turn (write_reply_of 0) Open once_stored desk_full
+call_3 = turn (write_reply_of 0) (Ok Open) once_stored desk_full
 
 abbrev pub call_4 : Turn
-call_4 = turn (write_reply_of 2) (Done (stamp_at stamp_bytes 0) 0) ended desk_full
+call_4 = turn (write_reply_of 2) (Ok (Done (stamp_at stamp_bytes 0) 0)) ended desk_full
 
 abbrev pub opened : Opened
-opened = record { answer = Accepted; session = start }
+opened = record { answer = (Ok tt); session = start }
 
 pub opened_so : OpenCall Write plan ask opened
 unfolding open_with first plan_ok counts_ok limits_ok column_of all plan
@@ -135,7 +136,7 @@ pub kept_so : Kept plan ended desk_full
 kept_so = every_session Write plan ask opened opened_so refl desk desk_long (call_1 ∷ call_2 ∷ call_3 ∷ call_4 ∷ []) replies_so
 
 -- ---- node 2 answers the time round late, when the write round has heard node 0: refused 10
-pub late_met : WriteReplyCall plan once_stored (time_reply 2) desk_full (7 ∷ []) (record { answer = Refused NotAwaited; session = once_stored }) desk_full
+pub late_met : WriteReplyCall plan once_stored (time_reply 2) desk_full (7 ∷ []) (record { answer = Err NotAwaited; session = once_stored }) desk_full
 unfolding time_reply stamp_bytes hash good desk_full plan write_reply first plan_ok counts_ok limits_ok column_of all record_length lengths_ok in_range standing_rules round_rules open_rules heard_count every
     num num_from part good_reply good_frame suits shaped for_party one_of body_fits awaited ask_in awaits_in be be_onto stamp_at
 late_met = record { is = refl }
@@ -147,5 +148,5 @@ asked_first = refl
 pub late_so : NotCounted (refused 10)
 late_so =
     (late_write_reply plan start desk (call_1 ∷ call_2 ∷ call_3 ∷ []) (replies_so.0, (replies_so.1.0, (replies_so.1.1.0, tt)))
-    (λ a b. let z : ◌≡◌ {A = ℕ} 0 1 = cc in omega arith) (time_reply 2) asked_first desk_full (7 ∷ []) (record { answer = Refused NotAwaited; session = once_stored }) desk_full
+    (λ a b. let z : ◌≡◌ {A = ℕ} 0 1 = cc in omega arith) (time_reply 2) asked_first desk_full (7 ∷ []) (record { answer = Err NotAwaited; session = once_stored }) desk_full
     late_met).0

@@ -89,7 +89,7 @@ module _ (p : Plan) (s : Session) (f d i : List ℕ) (t : Taken p s f d i) where
           high = q.high;
           counted = q.counted;
           bounded = q.bounded;
-          rest = rest_set s.marks p.n k (record { is = heard_as p f }) low ∙ q.rest;
+          rest = rest_set s.marks p.n k (heard_as p f) low ∙ q.rest;
           opening = q.opening;
         };
         slots = record { stamped = o.stamped; firsts = rw g.round; few = few; slots = rw g.round new };

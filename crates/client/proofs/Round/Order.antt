@@ -68,7 +68,7 @@ same_all step c (chain r q) x a = same_all step c r x a ∙ same_all step c q x 
 
 -- ---- two replies
 marks_comm : (p : Plan) (s : Session) (f g : List ℕ) → (frame_node g ≡ frame_node f → ⊥) → after_reply p (after_reply p s f) g ≡ after_reply p (after_reply p s g) f
-marks_comm p s f g n = ap (with_marks s) (set_comm s.marks (frame_node f) (frame_node g) (record { is = heard_as p f }) (record { is = heard_as p g }) (λ e. n (sym e)))
+marks_comm p s f g n = ap (with_marks s) (set_comm s.marks (frame_node f) (frame_node g) (heard_as p f) (heard_as p g) (λ e. n (sym e)))
 
 module _ (p : Plan) where
   abbrev at : List ℕ → ℕ

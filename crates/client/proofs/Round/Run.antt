@@ -18,7 +18,6 @@ use Rattle.terms.specs.declared.Plan.{Plan}
 use Rattle.terms.proofs.Rungs.{clash}
 use Rattle.frame.specs.Frame.{frame_node}
 use Rattle.rounds.specs.declared.Heard.{Heard}
-use Rattle.rounds.specs.declared.Mark.{Mark}
 use Rattle.rounds.specs.Rounds.{heard_at, heard_count, bit_of, mark_of, unheard, unheards}
 use Rattle.rounds.proofs.Laws.{count_set, not_heard}
 use Rattle.session.specs.declared.Session.{Session}
@@ -39,15 +38,15 @@ each_both P Q [] a b = tt
 each_both P Q (f ∷ fs) a b = ((a.0, b.0), each_both P Q fs a.1 b.1)
 
 -- ---- marks: a node is marked as heard, and no other
-module _ (ms : List Mark) (k : ℕ) (h : Heard) (b : bit_of h ≡ 1) (low : k < length ms) where
-  pub one_more : heard_at ms k ≡ false → heard_count (set ms k (record { is = h })) ≡ heard_count ms + 1
-  one_more e = count_set ms k (record { is = h }) low (not_heard (mark_of ms k) e) b ∙ omega arith
+module _ (ms : List Heard) (k : ℕ) (h : Heard) (b : bit_of h ≡ 1) (low : k < length ms) where
+  pub one_more : heard_at ms k ≡ false → heard_count (set ms k h) ≡ heard_count ms + 1
+  one_more e = count_set ms k h low (not_heard (mark_of ms k) e) b ∙ omega arith
 
-  now_heard : heard_at (set ms k (record { is = h })) k ≡ true
-  now_heard = ap (λ (m : Mark). eqb (bit_of m.is) 1) (get_or-set_same ms k (record { is = h }) unheard low) ∙ ap (λ (n : ℕ). eqb n 1) b
+  now_heard : heard_at (set ms k h) k ≡ true
+  now_heard = ap (λ (m : Heard). eqb (bit_of m) 1) (get_or-set_same ms k h unheard low) ∙ ap (λ (n : ℕ). eqb n 1) b
 
-pub others_stay : (ms : List Mark) (k : ℕ) (h : Heard) (j : ℕ) → (j ≡ k → ⊥) → heard_at (set ms k (record { is = h })) j ≡ heard_at ms j
-others_stay ms k h j n = ap (λ (m : Mark). eqb (bit_of m.is) 1) (get_or-set_other ms k j (record { is = h }) unheard n)
+pub others_stay : (ms : List Heard) (k : ℕ) (h : Heard) (j : ℕ) → (j ≡ k → ⊥) → heard_at (set ms k h) j ≡ heard_at ms j
+others_stay ms k h j n = ap (λ (m : Heard). eqb (bit_of m) 1) (get_or-set_other ms k j h unheard n)
 
 -- ---- a round of one kind, under a plan, each call lent the item i
 pub record Kind (p : Plan) (i : List ℕ) : Type 1 where
@@ -61,7 +60,7 @@ pub record Kind (p : Plan) (i : List ℕ) : Type 1 where
   pub settles : Session → List ℕ → Outcome
   -- what is known of them
   pub bit : (f : List ℕ) → bit_of (mark f) ≡ 1
-  pub marks : (s : Session) (f : List ℕ) → (after s f).marks ≡ set s.marks (frame_node f) (record { is = mark f })
+  pub marks : (s : Session) (f : List ℕ) → (after s f).marks ≡ set s.marks (frame_node f) (mark f)
   pub asks_on : (s : Session) (f : List ℕ) → Asks s → Asks (after s f)
   pub waits : (s : Session) (d : List ℕ) → round_open p s ≡ true → settles s d ≡ round_at s d i
   pub said_so : (s : Session) (d : List ℕ) → is_refused (settles s d).said ≡ false
@@ -102,14 +101,14 @@ module _ (p : Plan) (i : List ℕ) (k : Kind p i) where
     counted = ap heard_count (k.marks s f) ∙ one_more s.marks (frame_node f) (k.mark f) (k.bit f) in_marks (k.fresh s d f q a)
 
     longer : length (k.after s f).marks ≡ 16
-    longer = ap length (k.marks s f) ∙ length-set s.marks (frame_node f) (record { is = k.mark f }) ∙ l
+    longer = ap length (k.marks s f) ∙ length-set s.marks (frame_node f) (k.mark f) ∙ l
 
     -- so what is accepted behind it is of another node
     apart : (z : List ℕ) → Ok (k.after s f) (k.filed d f) z → Apart f z
     unfolding is_heard
     apart z c e =
         let m : heard_at (k.after s f).marks (frame_node f) ≡ true =
-        ap (λ (ms : List Mark). heard_at ms (frame_node f)) (k.marks s f) ∙ now_heard s.marks (frame_node f) (k.mark f) (k.bit f) in_marks in
+        ap (λ (ms : List Heard). heard_at ms (frame_node f)) (k.marks s f) ∙ now_heard s.marks (frame_node f) (k.mark f) (k.bit f) in_marks in
         clash (sym m ∙ ap (heard_at (k.after s f).marks) (sym e) ∙ k.fresh (k.after s f) (k.filed d f) z (k.asks_on s f q) c)
 
   -- a reply that is not the last leaves the round open, for the others

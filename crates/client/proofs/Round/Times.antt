@@ -54,7 +54,7 @@ times_comm : (s : Session) (f g : List ℕ) → (frame_node g ≡ frame_node f �
 times_comm s f g n =
     (λ j.
     with_marks (with_times s (set_comm s.times (frame_node f) (frame_node g) (record { 0 = time (body_of f) }) (record { 0 = time (body_of g) }) (λ e. n (sym e)) j))
-    (set_comm s.marks (frame_node f) (frame_node g) (record { is = Record }) (record { is = Record }) (λ e. n (sym e)) j))
+    (set_comm s.marks (frame_node f) (frame_node g) Record Record (λ e. n (sym e)) j))
 
 module _ (p : Plan) (i : List ℕ) where
   time_open : (s : Session) (d : List ℕ) → round_open p s ≡ true → handed i (time_turn p s d i) ≡ round_at s d i

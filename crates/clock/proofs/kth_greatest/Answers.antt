@@ -1,25 +1,24 @@
-use mathlib.Core.Path.{◌≡◌, refl, ap, ◌∙◌}
-use native.Mathlib.Omega.{arith}
-use borrow.Author.Rules.{rules}
-use lib.ListN.{length}
+use Rattle.std.proofs.Common.{◌∙◌, sym, rules, tests}
+use Rattle.std.proofs.lemmas.Iterator.{YieldsList-from_slice, YieldsList-from_zip, YieldsList-from_map}
+use Rattle.std.proofs.lemmas.Iterator.Consumers.{max_from_yields_List, YieldsList-from_filter, YieldsList-at}
+use Rattle.std.proofs.lemmas.Iterator.Adapters.{option_map_id}
+use Rattle.clock.specs.Clock.{times_heard}
 use Rattle.clock.proofs.Laws as laws
-use Rattle.clock.specs.Clock.{times_heard, greatest_with}
 use Rattle.clock.proofs.kth_greatest.Goals as goal
 
-pub loop-i-init : goal.loop-i-init
-unfolding times_heard greatest_with
-loop-i-init c = (omega arith, refl)
-
-pub loop-i-preserved : goal.loop-i-preserved
-loop-i-preserved c = let a = c.args in
-    let e : length a.marks ≡ 16 = search rules in
-    let f : length a.times ≡ 16 = search rules in (
-      omega arith,
-      laws.kth_turn a.marks a.times c.loop-i.i (omega arith) (omega arith) _ _ _ _ c.loop-i.invariant.1 c.better-best.ensures,
-    )
-
 pub returns : goal.returns
-returns c = let a = c.args in
-    let e : length a.marks ≡ 16 = search rules in
-    let f : length a.times ≡ 16 = search rules in
-    c.loop-i.invariant.1 ∙ ap (greatest_with a.k (times_heard a.marks a.times) 0) (laws.heard_all a.marks a.times c.loop-i.i (omega arith) (omega arith))
+returns c =
+    let a = c.args in
+    let replies = times_heard a.marks a.times in
+    c.unwrap_or.ensures
+    ∙ laws.greatest_by a.k replies a.marks a.times _
+    (sym (option_map_id _)
+    ∙ max_from_yields_List c.map.result _ c.max-greatest.ensures.ran
+    (YieldsList-from_map _ (laws.time_of a.k replies)
+    (YieldsList-at c.map.ensures.source
+    (YieldsList-from_filter _ (laws.enough a.k replies)
+    (YieldsList-at c.filter.ensures.source
+    (YieldsList-from_zip (YieldsList-at c.zip.ensures.first (YieldsList-from_slice a.marks cc))
+    (YieldsList-at c.zip.ensures.second (YieldsList-from_slice a.times cc))))
+    c.filter.ensures.closure (λ x b q k. search (rules, tests))))
+    c.map.ensures.closure (λ x r q k. search rules)))

@@ -1,26 +1,15 @@
-use mathlib.Core.Path.{◌≡◌, refl, ap, ◌∙◌}
-use native.Mathlib.Omega.{arith}
-use borrow.Author.Rules.{rules}
-use lib.ListN.{length}
+use Rattle.std.proofs.Common.{◌∙◌, rules, tests}
+use Rattle.std.proofs.lemmas.Iterator.{YieldsList-from_slice, YieldsList-from_zip}
+use Rattle.std.proofs.lemmas.Iterator.Consumers.{count_from_yields_List, YieldsList-from_filter, YieldsList-at}
 use Rattle.clock.proofs.Laws as laws
-use Rattle.clock.specs.Clock.{times_heard, or_more}
 use Rattle.clock.proofs.or_more.Goals as goal
 
-pub loop-i-init : goal.loop-i-init
-unfolding times_heard or_more
-loop-i-init c = (omega arith, omega arith, refl)
-
-pub loop-i-preserved : goal.loop-i-preserved
-loop-i-preserved c = let a = c.args in
-    let e : length a.marks ≡ 16 = search rules in
-    let f : length a.times ≡ 16 = search rules in (
-      omega arith,
-      omega arith,
-      laws.more_turn a.marks a.times c.loop-i.i (omega arith) (omega arith) _ _ _ c.loop-i.invariant.2 c.reaches-n.ensures.0,
-    )
-
 pub returns : goal.returns
-returns c = let a = c.args in
-    let e : length a.marks ≡ 16 = search rules in
-    let f : length a.times ≡ 16 = search rules in
-    c.loop-i.invariant.2 ∙ ap (or_more a.v.0) (laws.heard_all a.marks a.times c.loop-i.i (omega arith) (omega arith))
+returns c =
+    count_from_yields_List c.filter.result _ c.count.ensures.ran
+    (YieldsList-from_filter _ (laws.counts c.args.v.0)
+    (YieldsList-at c.filter.ensures.source
+    (YieldsList-from_zip (YieldsList-at c.zip.ensures.first (YieldsList-from_slice c.args.marks.now cc))
+    (YieldsList-at c.zip.ensures.second (YieldsList-from_slice c.args.times.now cc))))
+    c.filter.ensures.closure (λ x b q k. search (rules, tests)))
+    ∙ laws.more_by c.args.v.0 c.args.marks.now c.args.times.now

@@ -1,4 +1,3 @@
-use Prim.Native.Nat.{◌≤◌, ◌-◌}
 use mathlib.Core.Path.{◌≡◌}
 use mathlib.Core.Bool.{true}
 use Rattle.sha256.specs.Sha256.{bytes_of}
@@ -7,7 +6,4 @@ use Rattle.crosscheck.proofs.Entries.{agrees}
 use Rattle.crosscheck.proofs.are_entries.Given as goal
 
 abbrev pub invariant-loop-l : goal.invariant-loop-l
-invariant-loop-l l = (l.l ≤ l.n) × (agrees (λ k. bytes_of (lane_of l.h k)) l.s l.at l.l ≡ true)
-
-abbrev pub decreases-loop-l : goal.decreases-loop-l
-decreases-loop-l l = l.n - l.l
+invariant-loop-l l = agrees (λ k. bytes_of (lane_of l.h k)) l.s l.at l.l ≡ true

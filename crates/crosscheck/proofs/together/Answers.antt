@@ -6,5 +6,5 @@ use Rattle.record.proofs.Desks.{row_same}
 use Rattle.crosscheck.proofs.together.Goals as goal
 
 pub returns : goal.returns
-returns c = let a = c.args in
-    (c.hash_all.ensures.0, c.are_entries.ensures ∙ ap (λ (l : List ℕ). alike l (part a.desk.now (a.at + 32 * a.g.first) (32 * a.g.n))) (row_same _ _ a.g.n c.hash_all.ensures.1))
+returns c = let g = c.args.g in
+    c.are_entries.ensures ∙ ap (λ (l : List ℕ). alike l (part g.desk.now (c.args.at + 32 * g.first) (32 * g.n))) (row_same _ _ g.n c.hash_all.ensures)

@@ -13,7 +13,7 @@ header_of-h-requires c = let s = c.shaped in
 
 pub suits-requires : goal.suits-requires
 suits-requires c = let s = c.shaped in
-    (c.requires, (laws.shaped_is _ (sym s.ensures ∙ c.if-not-shaped.false)).low)
+    (laws.shaped_is _ (sym s.ensures ∙ c.if-not-shaped.false)).low
 
 pub returns-then-not-suits : goal.returns-then-not-suits
 returns-then-not-suits c = let s = c.shaped in

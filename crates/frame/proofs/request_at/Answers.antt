@@ -13,7 +13,7 @@ header_of-h-requires c = let s = c.shaped in
 
 pub suits-requires : goal.suits-requires
 suits-requires c = let s = c.shaped in
-    (c.requires, (laws.shaped_is _ (sym s.ensures ∙ c.if-not-shaped.false)).low)
+    (laws.shaped_is _ (sym s.ensures ∙ c.if-not-shaped.false)).low
 
 pub returns-then-not-suits : goal.returns-then-not-suits
 returns-then-not-suits c = let s = c.shaped in
@@ -21,11 +21,3 @@ returns-then-not-suits c = let s = c.shaped in
     laws.request_shut _ _ _
     (sym (laws.frame_read Node _ _ _ (sym s.ensures ∙ c.if-not-shaped.false) c.header_of-h.ensures.0 t.ensures)
     ∙ c.if-not-suits.true)
-
-pub returns : goal.returns
-returns c = let s = c.shaped in
-    let t = c.suits in
-    let h = c.header_of-h.ensures.0 in
-    laws.request_elsewhere _ _ _ _
-    (sym (laws.frame_read Node _ _ _ (sym s.ensures ∙ c.if-not-shaped.false) h t.ensures) ∙ c.if-not-suits.false)
-    h c.if-here-node.false

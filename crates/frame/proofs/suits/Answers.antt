@@ -12,4 +12,4 @@ pub returns : goal.returns
 returns c = let f = c.for_party in
     let a = c.args in
     laws.suits_last _ _ _ _ _ (sym f.ensures ∙ c.if-not-for_party.false)
-    (c.body_fits.ensures ∙ ap (λ (x : ℕ). body_fits a.p a.h.kind (a.n - x)) c.head_bytes-head.ensures)
+    (c.body_fits.ensures ∙ ap (λ (x : ℕ). body_fits a.p.plan a.h.kind (a.n - x)) c.head_bytes-head.ensures)

@@ -3,12 +3,6 @@ use Rattle.octets.proofs.Laws.{length_part}
 use Rattle.frame.proofs.Built as built
 use Rattle.frame.proofs.with_part.Goals as goal
 
-pub overflow_sub-end : goal.overflow_sub-end
-overflow_sub-end c = let e = c.head-end.ensures.1 in omega arith
-
-pub copy-requires : goal.copy-requires
-copy-requires c = let e = c.head-end.ensures.1 in (omega arith, omega arith)
-
 pub returns : goal.returns
 returns c = let h = c.head-end in
     built.whole_is _ _ _ _ _ _ _ _ (length_part _ _ _ (omega arith)) h.ensures.1 (omega (arith, h.ensures.1)) h.ensures.0 c.copy.ensures

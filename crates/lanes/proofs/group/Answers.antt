@@ -4,5 +4,5 @@ use Rattle.lanes.proofs.Batches.{stored_hashes}
 use Rattle.lanes.proofs.group.Goals as goal
 
 pub returns : goal.returns
-returns c = c.store_all.ensures
-    ∙ stored_hashes _ _ c.args.x _ _ _ _ _ c.args.x.n _ c.requires.0 (omega arith) c.start.ensures c.absorb.ensures
+returns c = let m = c.args.m.now in
+    c.store_all.ensures ∙ stored_hashes _ _ m.batch _ _ _ _ _ m.batch.n _ m.lying (omega arith) c.start.ensures c.absorb.ensures

@@ -1,12 +1,6 @@
 use native.Mathlib.Omega.{arith}
-use Rattle.lanes.proofs.Windows.{standing_still, standing_rolled}
+use Rattle.lanes.proofs.Windows.{standing_rolled}
 use Rattle.lanes.proofs.words_for.Goals as goal
-
-pub returns-then-t-eq0 : goal.returns-then-t-eq0
-returns-then-t-eq0 c = let a = c.args in standing_still a.n a.t _ (omega arith) c.requires.2
 
 pub returns-then-t-eq0-2 : goal.returns-then-t-eq0-2
 returns-then-t-eq0-2 c = standing_rolled c.args.n c.args.t _ _ (omega arith) c.requires.0 (omega arith) c.roll.ensures
-
-pub returns-else-t-eq0-2 : goal.returns-else-t-eq0-2
-returns-else-t-eq0-2 c = standing_still c.args.n c.args.t _ (omega arith) c.requires.2

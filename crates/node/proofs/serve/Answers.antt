@@ -14,25 +14,19 @@ returns-then-not-plan_ok c =
     let at_plan : Down (λ (l : List Rung). l) 1 = top 1 (node_ladder c.args.p c.args.request.now c.args.book.now c.args.reply.now) refl in
     laws.called _ _ _ _ _ _ _ (stop _ _ (at_plan) (laws.so_not c.plan_ok.ensures (ap not c.if-not-plan_ok.true)) refl)
 
-pub lengths_ok-requires : goal.lengths_ok-requires
-lengths_ok-requires c =
-    let at_plan : Down (λ (l : List Rung). l) 1 = top 1 (node_ladder c.args.p c.args.request.now c.args.book.now c.args.reply.now) refl in
-    let at_lengths : Down (λ (l : List Rung). l) 2 = next 2 (at_plan) refl (laws.so_not c.plan_ok.ensures (ap not c.if-not-plan_ok.false)) in
-    not-false _ (left 1 (at_lengths))
-
 pub returns-then-not-lengths_ok : goal.returns-then-not-lengths_ok
 returns-then-not-lengths_ok c =
     let at_plan : Down (λ (l : List Rung). l) 1 = top 1 (node_ladder c.args.p c.args.request.now c.args.book.now c.args.reply.now) refl in
     let at_lengths : Down (λ (l : List Rung). l) 2 = next 2 (at_plan) refl (laws.so_not c.plan_ok.ensures (ap not c.if-not-plan_ok.false)) in
     laws.called _ _ _ _ _ _ _ (stop _ _ (at_lengths) (laws.so_not c.lengths_ok.ensures (ap not c.if-not-lengths_ok.true)) refl)
 
-pub good-shape-requires : goal.good-shape-requires
-good-shape-requires c =
+pub good-requires : goal.good-requires
+good-requires c =
     let at_plan : Down (λ (l : List Rung). l) 1 = top 1 (node_ladder c.args.p c.args.request.now c.args.book.now c.args.reply.now) refl in
     let at_lengths : Down (λ (l : List Rung). l) 2 = next 2 (at_plan) refl (laws.so_not c.plan_ok.ensures (ap not c.if-not-plan_ok.false)) in
     let at_book : Down (λ (l : List Rung). l) 3 = next 3 (at_lengths) refl (laws.so_not c.lengths_ok.ensures (ap not c.if-not-lengths_ok.false)) in
     let d = at_book in
-    (not-false _ (left 1 d), (laws.lengths_are _ _ _ (not-false _ (left 2 d))).low)
+    (laws.lengths_are _ _ _ (not-false _ (left 2 d))).low
 
 pub serve_at-requires : goal.serve_at-requires
 serve_at-requires c =
@@ -40,14 +34,14 @@ serve_at-requires c =
     let at_lengths : Down (λ (l : List Rung). l) 2 = next 2 (at_plan) refl (laws.so_not c.plan_ok.ensures (ap not c.if-not-plan_ok.false)) in
     let at_book : Down (λ (l : List Rung). l) 3 = next 3 (at_lengths) refl (laws.so_not c.lengths_ok.ensures (ap not c.if-not-lengths_ok.false)) in
     let d = at_book in
-    record { plan = not-false _ (left 1 d); lengths = not-false _ (left 2 d); book = books.was_good _ _ _ (books.checked_as _ _ _ _ c.in-Good.is c.good-shape.ensures) }
+    record { plan = not-false _ (left 1 d); lengths = not-false _ (left 2 d); book = books.was_good _ _ _ (books.checked_as _ _ _ _ c.in-Some.is c.good.ensures) }
 
-pub returns-in-Bad : goal.returns-in-Bad
-returns-in-Bad c =
+pub returns-in_default : goal.returns-in_default
+returns-in_default c =
     let at_plan : Down (λ (l : List Rung). l) 1 = top 1 (node_ladder c.args.p c.args.request.now c.args.book.now c.args.reply.now) refl in
     let at_lengths : Down (λ (l : List Rung). l) 2 = next 2 (at_plan) refl (laws.so_not c.plan_ok.ensures (ap not c.if-not-plan_ok.false)) in
     let at_book : Down (λ (l : List Rung). l) 3 = next 3 (at_lengths) refl (laws.so_not c.lengths_ok.ensures (ap not c.if-not-lengths_ok.false)) in
-    laws.called _ _ _ _ _ _ _ (stop _ _ (at_book) (ap not (books.was_bad _ _ (books.checked_as _ _ _ _ c.in-Bad.is c.good-shape.ensures))) refl)
+    laws.called _ _ _ _ _ _ _ (stop _ _ (at_book) (ap not (books.was_bad _ _ (books.checked_as _ _ _ _ c.in_default.is c.good.ensures))) refl)
 
-pub returns-in-Good : goal.returns-in-Good
-returns-in-Good c = c.serve_at.ensures
+pub returns : goal.returns
+returns c = c.serve_at.ensures

@@ -12,24 +12,21 @@ use Rattle.node.specs.Node.{node_ladder}
 use Rattle.node.proofs.Laws as laws
 use Rattle.node.proofs.serve_at.Goals as goal
 
-pub request_at-door-requires : goal.request_at-door-requires
-request_at-door-requires c = c.requires.plan
-
 pub respond-requires : goal.respond-requires
 respond-requires c =
-    let opened : let a = c.args in Opened (good_request a.p a.k.node a.request.now) a.request.now c.in-Open.h = frames.was_open _ _ _ (sym c.in-Open.is ∙ c.request_at-door.ensures) in
+    let opened : let a = c.args in Opened (good_request a.p.plan a.k.node a.request.now) a.request.now c.in-Some.h = frames.was_open _ _ _ (sym c.in-Some.is ∙ c.request_at.ensures) in
     let s = c.requires in
     laws.admitted _ _ _ _ _ _ _ s.plan s.lengths s.book refl (opened)
 
-pub returns-in-Bad : goal.returns-in-Bad
-returns-in-Bad c =
-    let at_frame : Down (λ (l : List Rung). l) 4 = record { start = (node_ladder c.args.p c.args.request.now c.args.book.now c.args.reply.now); none = (ap not c.requires.plan, (ap not c.requires.lengths, (ap not c.requires.book.good, tt))) } in
-    laws.called _ _ _ _ _ _ _ (stop _ _ (at_frame) (ap not ((laws.here _ _ _ (books.node_of_lem _ _ _ c.requires.book.is)) (frames.was_shut _ _ (sym c.in-Bad.is ∙ c.request_at-door.ensures)))) refl)
+pub returns-in_default : goal.returns-in_default
+returns-in_default c =
+    let at_frame : Down (λ (l : List Rung). l) 4 = record { start = (node_ladder c.args.p.plan c.args.request.now c.args.book.now c.args.reply.now); none = (ap not c.requires.plan, (ap not c.requires.lengths, (ap not c.requires.book.good, tt))) } in
+    laws.called _ _ _ _ _ _ _ (stop _ _ (at_frame) (ap not ((laws.here _ _ _ (books.node_of_lem _ _ _ c.requires.book.is)) (frames.was_shut _ _ (sym c.in_default.is ∙ c.request_at.ensures)))) refl)
 
-pub returns-in-Open : goal.returns-in-Open
-returns-in-Open c =
-    let at_frame : Down (λ (l : List Rung). l) 4 = record { start = (node_ladder c.args.p c.args.request.now c.args.book.now c.args.reply.now); none = (ap not c.requires.plan, (ap not c.requires.lengths, (ap not c.requires.book.good, tt))) } in
-    let opened : let a = c.args in Opened (good_request a.p a.k.node a.request.now) a.request.now c.in-Open.h = frames.was_open _ _ _ (sym c.in-Open.is ∙ c.request_at-door.ensures) in
+pub returns : goal.returns
+returns c =
+    let at_frame : Down (λ (l : List Rung). l) 4 = record { start = (node_ladder c.args.p.plan c.args.request.now c.args.book.now c.args.reply.now); none = (ap not c.requires.plan, (ap not c.requires.lengths, (ap not c.requires.book.good, tt))) } in
+    let opened : let a = c.args in Opened (good_request a.p.plan a.k.node a.request.now) a.request.now c.in-Some.h = frames.was_open _ _ _ (sym c.in-Some.is ∙ c.request_at.ensures) in
     let at_work : Down (λ (l : List Rung). l) 5 = next 5 (at_frame) refl (ap not ((laws.here _ _ _ (books.node_of_lem _ _ _ c.requires.book.is)) opened.good)) in
     laws.called _ _ _ _ _ _ _ (goes_on _ _ (at_work)
     (laws.is_responded _ _ _ _ _ _ (opened).is c.respond.ensures))

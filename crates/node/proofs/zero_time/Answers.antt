@@ -9,7 +9,7 @@ use Rattle.node.proofs.Laws as laws
 use Rattle.node.proofs.zero_time.Goals as goal
 
 pub time_zero-requires : goal.time_zero-requires
-time_zero-requires c = let l = laws.stamped _ _ _ c.requires.1 c.requires.0 c.in-3.is in
+time_zero-requires c = let l = laws.stamped _ _ _ c.requires c.args.p.within c.in-3.is in
     omega (arith, c.head_bytes-at.ensures)
 
 pub returns-in-3 : goal.returns-in-3

@@ -6,6 +6,3 @@ use Rattle.octets.proofs.put_num.Given as goal
 
 abbrev pub invariant-loop-i : goal.invariant-loop-i
 invariant-loop-i l = (l.i ≤ l.n) × (length l.b ≡ length l.initial.b) × laws.Putting l.initial.b l.b l.at l.n l.x l.i l.y
-
-abbrev pub decreases-loop-i : goal.decreases-loop-i
-decreases-loop-i l = l.i

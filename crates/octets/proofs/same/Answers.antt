@@ -1,18 +1,14 @@
-use mathlib.Core.Path.{◌≡◌, refl, sym}
+use mathlib.Core.Path.{◌≡◌, ◌∙◌}
+use Prim.Native.Nat.{◌+◌, ◌-◌}
 use native.Mathlib.Omega.{arith}
 use Rattle.octets.specs.Bytes.{part}
-use Rattle.octets.proofs.Meaning as laws
+use Rattle.octets.proofs.Words.{same_bytes}
 use Rattle.octets.proofs.same.Goals as goal
 
-pub loop-k-init : goal.loop-k-init
-unfolding part
-loop-k-init c = (omega arith, refl)
-
-pub returns-then-a-i : goal.returns-then-a-i
-returns-then-a-i c = sym (laws.same_not _ _ _ _ _ _ (omega arith) c.if-a-i.true)
-
-pub loop-k-preserved : goal.loop-k-preserved
-loop-k-preserved c = (omega arith, laws.same_more _ _ _ _ _ (omega arith) (omega arith) c.loop-k.invariant.1 c.if-a-i.false)
-
 pub returns : goal.returns
-returns c = let e : c.loop-k.k ≡ c.args.n = omega arith in sym (laws.is_alike _ _ (rw (← e) c.loop-k.invariant.1))
+unfolding part
+returns c =
+    let a = c.args in
+    let k : a.i + a.n - a.i ≡ a.n = omega arith in
+    let m : a.j + a.n - a.j ≡ a.n = omega arith in
+    (rw (k, m) at c.eq.ensures) ∙ same_bytes _ _

@@ -1,14 +1,14 @@
-use mathlib.Core.Path.{◌≡◌, ◌∙◌}
-use Prim.Native.Nat.{◌+◌, ◌-◌}
+use mathlib.Core.Path.{◌≡◌, ap, ◌∙◌}
+use mathlib.Core.List.{◌++◌}
+use Prim.Native.Nat.{ℕ, ◌+◌, ◌-◌}
 use native.Mathlib.Omega.{arith}
+use lib.ListN.{take, drop}
+use Rattle.octets.proofs.Laws.{put_within}
 use Rattle.octets.proofs.within.Goals as goal
 
-pub returns-then-at-from : goal.returns-then-at-from
-returns-then-at-from c = let a = c.args in
-    let e : a.at + (a.from - a.at) ≡ a.from = omega arith in
-    c.down.ensures ∙ rw e
-
-pub returns-else-at-from : goal.returns-else-at-from
-returns-else-at-from c = let a = c.args in
-    let e : a.from + (a.at - a.from) ≡ a.at = omega arith in
-    c.up.ensures ∙ rw e
+pub returns : goal.returns
+returns c =
+    let a = c.args in
+    let b = a.b.now in
+    let k : a.from + a.n - a.from ≡ a.n = omega arith in
+    c.copy_within.ensures.after ∙ ap (λ (n : ℕ). take a.at b ++ take n (drop a.from b) ++ drop (a.at + n) b) k ∙ put_within b a.from a.n a.at (omega arith)

@@ -1,12 +1,9 @@
+use Rattle.std.proofs.Common.{◌∙◌, rules, tests}
+use Rattle.std.proofs.lemmas.Iterator.Search.{all_from_yields_List}
+use Rattle.std.proofs.lemmas.Iterator.{YieldsList-from_slice}
+use lib.Dec.{leb}
 use Rattle.packing.proofs.Laws as laws
-use native.Mathlib.Omega.{arith}
 use Rattle.packing.proofs.marks_shaped.Goals as goal
 
-pub returns-then-b-i-gt2 : goal.returns-then-b-i-gt2
-returns-then-b-i-gt2 c = laws.shaped_stop _ c.loop-i.i (omega arith) (omega arith) c.loop-i.invariant
-
-pub loop-i-preserved : goal.loop-i-preserved
-loop-i-preserved c = laws.shaped_on _ c.loop-i.i (omega arith) (omega arith) c.loop-i.invariant
-
 pub returns : goal.returns
-returns c = laws.shaped_end _ c.loop-i.i (omega arith) c.loop-i.invariant
+returns c = all_from_yields_List (λ k. leb k 2) _ _ _ c.all.ensures.ran (YieldsList-from_slice c.args.b.now (cc)) (λ x b q k. search (rules, tests)) ∙ laws.shaped_is c.args.b.now

@@ -1,16 +1,14 @@
+use Rattle.std.proofs.Common.{◌≡◌, ◌∙◌, ap, sym, rules, length}
+use Rattle.packing.specs.SessionBytes.{session_shaped}
 use Rattle.packing.proofs.Laws as laws
-use Rattle.terms.proofs.Picks as picks
-use Rattle.packing.specs.SessionBytes.{session_of}
-use mathlib.Core.Path.{sym, ◌∙◌}
 use Rattle.packing.proofs.session_of.Goals as goal
+use Rattle.packing.proofs.session_of.Goals.{in_default-via-in-Some+else-session_shaped, in_default-via-in_default}
 
-pub returns-then-not-session_shaped : goal.returns-then-not-session_shaped
-unfolding session_of
-returns-then-not-session_shaped c = picks.no _ _ (sym c.session_shaped.ensures ∙ c.if-not-session_shaped.true) c.none.ensures
-
-pub session_at-requires : goal.session_at-requires
-session_at-requires c = laws.session_length_lem _ (sym c.session_shaped.ensures ∙ c.if-not-session_shaped.false)
-
-pub returns : goal.returns
-unfolding session_of
-returns c = picks.yes _ _ (sym c.session_shaped.ensures ∙ c.if-not-session_shaped.false) c.session_at.ensures
+pub returns-in_default : goal.returns-in_default
+returns-in_default c =
+    elim c.in_default.branch [
+      | in_default-via-in-Some+else-session_shaped w ↦
+          let same : w.in-Some.b.now ≡ c.args.x.now = search rules in
+          laws.no_code _ _ c.none.ensures (sym (w.session_shaped.ensures ∙ ap session_shaped same) ∙ w.if-session_shaped.false)
+      | in_default-via-in_default w ↦ let short : length c.args.x.now ≡ 237 → ⊥ = search rules in laws.no_code _ _ c.none.ensures (laws.not_long _ short)
+    ]

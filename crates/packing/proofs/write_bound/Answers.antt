@@ -1,8 +1,8 @@
+use Rattle.std.proofs.Common.{rules}
 use Rattle.packing.proofs.Laws as laws
 use Rattle.packing.proofs.write_bound.Goals as goal
 
-pub returns-in-Free : goal.returns-in-Free
-returns-in-Free c = laws.bound_free _ _ _ _ c.in-Free.is c.zero_stamp-t.ensures c.put_bound.ensures
-
-pub returns-in-Under : goal.returns-in-Under
-returns-in-Under c = laws.bound_under _ _ _ _ c.in-Under.is c.put_bound-in-Under.ensures
+pub returns : goal.returns
+returns c =
+    laws.bound_laid _ _ c.args.b _ _ _ (search rules) c.unwrap_or.ensures c.zero_stamp.ensures
+    (laws.bound_put _ _ _ _ c.unwrap_or.result (search rules) c.put_num.ensures c.put_stamp.ensures)

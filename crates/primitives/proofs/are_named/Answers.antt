@@ -3,9 +3,6 @@ use mathlib.Core.Path.{sym, ◌∙◌}
 use native.Mathlib.Omega.{arith}
 use Rattle.primitives.proofs.are_named.Goals as goal
 
-pub is_apart-requires : goal.is_apart-requires
-is_apart-requires c = (omega arith, omega arith)
-
 pub returns-then-not-is_apart : goal.returns-then-not-is_apart
 returns-then-not-is_apart c = sym (c.loop-k.invariant ∙ named_stop c.args.f c.args.desk c.args.nodes.now c.loop-k.k (omega arith) (sym c.is_apart.ensures ∙ c.if-not-is_apart.true))
 

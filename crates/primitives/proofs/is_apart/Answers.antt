@@ -1,20 +1,13 @@
 use Prim.Native.Nat.{◌+◌}
 use Rattle.fragments.specs.Fragments.{among}
 use mathlib.Core.Bool.{not}
-use lib.ListN.{get_or}
-use Rattle.primitives.proofs.Laws.{apart_yes, apart_no, small, tail}
+use Rattle.primitives.proofs.Laws.{apart_yes, apart_no, tail}
 use mathlib.Core.Path.{ap, ◌∙◌}
 use native.Mathlib.Omega.{arith}
 use Rattle.primitives.proofs.is_apart.Goals as goal
 
 pub returns-then-p-gt15 : goal.returns-then-p-gt15
 returns-then-p-gt15 c = apart_no _ _ _ _ (λ h. omega arith)
-
-pub overflow_mul-p : goal.overflow_mul-p
-overflow_mul-p c = omega (arith, small (get_or c.args.nodes.now c.args.k 0) c.args.f (omega arith) (omega arith))
-
-pub overflow_add-p : goal.overflow_add-p
-overflow_add-p c = omega (arith, small (get_or c.args.nodes.now c.args.k 0) c.args.f (omega arith) (omega arith))
 
 pub returns-then-p-f : goal.returns-then-p-f
 returns-then-p-f c = apart_no _ _ _ _ (λ h. omega arith)

@@ -1,12 +1,9 @@
-use Rattle.primitives.proofs.Laws.{done, refused, hash_is}
+use Rattle.primitives.proofs.Laws.{done, hash_is}
 use Rattle.octets.proofs.Meaning.{put_whole}
 use Rattle.sha256.proofs.Laws.{sha256_length}
 use mathlib.Core.Path.{sym, ◌∙◌}
 use native.Mathlib.Omega.{arith}
 use Rattle.primitives.proofs.primitives_sha256.Goals as goal
-
-pub returns-then-not-hash_fits : goal.returns-then-not-hash_fits
-returns-then-not-hash_fits c = refused _ _ _ (sym c.hash_fits.ensures ∙ c.if-not-hash_fits.true)
 
 pub digest_into-requires : goal.digest_into-requires
 digest_into-requires c = let h = hash_is _ _ _ (sym c.hash_fits.ensures ∙ c.if-not-hash_fits.false) in (h.0, omega arith)

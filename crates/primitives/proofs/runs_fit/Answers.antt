@@ -1,4 +1,4 @@
-use Rattle.primitives.proofs.Laws.{runs_yes, runs_no, small}
+use Rattle.primitives.proofs.Laws.{runs_yes, runs_no}
 use native.Mathlib.Omega.{arith}
 use Rattle.primitives.proofs.runs_fit.Goals as goal
 
@@ -13,9 +13,6 @@ returns-then-f-lt1 c = runs_no _ _ _ (λ h. omega arith)
 
 pub returns-then-f-gt1024 : goal.returns-then-f-gt1024
 returns-then-f-gt1024 c = runs_no _ _ _ (λ h. omega arith)
-
-pub overflow_mul-result : goal.overflow_mul-result
-overflow_mul-result c = omega (arith, small c.args.count c.args.f (omega arith) (omega arith))
 
 pub returns : goal.returns
 returns c = runs_yes _ _ _ (omega arith) (omega arith) (omega arith) (omega arith)

@@ -14,4 +14,4 @@ returns c = let x = c.prefixes-x in
     let z = x.result.size in
     c.matches.ensures
     ∙ ap (λ (l : List _). alike l (part a.s.now a.at 32))
-    (laws.hashed a.p i _ a.fragment.now (taken x.result.bytes (16 * i) (16 * i + z - 16 * i) z (omega arith) ∙ x.ensures.2 i c.requires.2))
+    (laws.hashed a.p i _ a.fragment.now (taken x.result.bytes (16 * i) (16 * i + z - 16 * i) z (omega arith) ∙ x.ensures.1 i c.requires.2))

@@ -6,4 +6,4 @@ use Rattle.record.proofs.prefixes.Goals as goal
 
 pub returns : goal.returns
 unfolding prefix_of part
-returns c = (refl, omega arith, λ k h. refl)
+returns c = (omega arith, λ k h. refl)

@@ -4,52 +4,33 @@ use Rattle.fragments.specs.Inside.{points_of}
 use Rattle.recover.proofs.Laws as laws
 use Rattle.recover.proofs.valid.Goals as goal
 
-pub overflow_mul-at : goal.overflow_mul-at
-overflow_mul-at c = let r = laws.head_room _ _ c.slots_of-slots.ensures c.args.a _ c.requires.3 in omega (arith, r)
-
-pub overflow_add-at : goal.overflow_add-at
-overflow_add-at c = let r = laws.head_room _ _ c.slots_of-slots.ensures c.args.a _ c.requires.3 in let q = slots_are _ _ c.requires.0 c.slots_of-slots.ensures in omega (arith, r)
-
 pub loop-i-init : goal.loop-i-init
-loop-i-init c = let a = c.args in (omega arith, c.requires.2, laws.agreed_none a.p a.desk.now (points_of a.b) a.a)
+loop-i-init c = let a = c.args in (c.requires.1, laws.agreed_none a.p.plan a.desk.now (points_of a.b) a.a)
 
 pub overflow_cast-i : goal.overflow_cast-i
-overflow_cast-i c = let q = slots_are _ _ c.requires.0 c.slots_of-slots.ensures in omega arith
-
-pub regenerate-requires : goal.regenerate-requires
-regenerate-requires c = rw c.slots_of-slots.ensures (c.requires.4, c.requires.1, c.loop-i.invariant.1)
-
-pub overflow_mul-i : goal.overflow_mul-i
-overflow_mul-i c = let q = slots_are _ _ c.requires.0 c.slots_of-slots.ensures in
-    omega arith
-
-pub overflow_add-at-in-loop-i : goal.overflow_add-at-in-loop-i
-overflow_add-at-in-loop-i c = let q = slots_are _ _ c.requires.0 c.slots_of-slots.ensures in
-    let r = laws.head_room _ _ c.slots_of-slots.ensures c.args.a _ c.requires.3 in
-    omega (arith, r)
+overflow_cast-i c = let q = slots_are _ _ c.args.p.within c.slots_of-slots.ensures in omega arith
 
 pub entry_ok-requires : goal.entry_ok-requires
-entry_ok-requires c = let q = slots_are _ _ c.requires.0 c.slots_of-slots.ensures in
-    let r = laws.head_room _ _ c.slots_of-slots.ensures c.args.a _ c.requires.3 in
+entry_ok-requires c = let q = slots_are _ _ c.args.p.within c.slots_of-slots.ensures in
+    let r = laws.head_room _ _ c.slots_of-slots.ensures c.args.a _ c.requires.2 in
     (omega arith, omega (arith, r, c.loop-i-test.true), omega (arith, q.n_is, q.n_high, c.loop-i-test.true))
 
 pub returns-then-not-entry_ok : goal.returns-then-not-entry_ok
 returns-then-not-entry_ok c = let a = c.args in
-    let q = slots_are _ _ c.requires.0 c.slots_of-slots.ensures in
-    let r = laws.head_room _ _ c.slots_of-slots.ensures a.a _ c.requires.3 in
-    laws.agreed_not a.p a.desk.now (points_of a.b) a.a c.loop-i.i c.entry_ok.result _ c.slots_of-slots.result c.slots_of-slots.ensures
-    c.regenerate.ensures c.entry_ok.ensures (omega arith) (omega (arith, c.requires.3)) c.if-not-entry_ok.true
+    let q = slots_are _ _ c.args.p.within c.slots_of-slots.ensures in
+    let r = laws.head_room _ _ c.slots_of-slots.ensures a.a _ c.requires.2 in
+    laws.agreed_not a.p.plan a.desk.now (points_of a.b) a.a c.loop-i.i c.entry_ok.result _ c.slots_of-slots.result c.slots_of-slots.ensures
+    c.regenerate.ensures c.entry_ok.ensures (omega arith) (omega (arith, c.requires.2)) c.if-not-entry_ok.true
 
 pub loop-i-preserved : goal.loop-i-preserved
 loop-i-preserved c = let a = c.args in
-    let q = slots_are _ _ c.requires.0 c.slots_of-slots.ensures in (
-      omega arith,
-      laws.refit a.p a.desk.now (points_of a.b) c.slots_of-slots.result c.loop-i.i _ c.slots_of-slots.ensures c.requires.1 c.regenerate.ensures,
-      laws.agreed_more a.p a.desk.now (points_of a.b) a.a c.loop-i.i c.entry_ok.result _ c.slots_of-slots.result c.slots_of-slots.ensures
-          c.regenerate.ensures c.entry_ok.ensures (omega (arith, c.requires.3)) c.loop-i.invariant.2 c.if-not-entry_ok.false,
+    let q = slots_are _ _ c.args.p.within c.slots_of-slots.ensures in (
+      laws.refit a.p.plan a.desk.now (points_of a.b) c.slots_of-slots.result c.loop-i.i _ c.slots_of-slots.ensures c.requires.0 c.regenerate.ensures,
+      laws.agreed_more a.p.plan a.desk.now (points_of a.b) a.a c.loop-i.i c.entry_ok.result _ c.slots_of-slots.result c.slots_of-slots.ensures
+          c.regenerate.ensures c.entry_ok.ensures (omega (arith, c.requires.2)) c.loop-i.invariant.1 c.if-not-entry_ok.false,
     )
 
 pub returns : goal.returns
 returns c = let a = c.args in
-    let q = slots_are _ _ c.requires.0 c.slots_of-slots.ensures in
-    laws.agreed_all a.p a.desk.now (points_of a.b) a.a c.loop-i.i (omega arith) c.loop-i.invariant.2
+    let q = slots_are _ _ c.args.p.within c.slots_of-slots.ensures in
+    laws.agreed_all a.p.plan a.desk.now (points_of a.b) a.a c.loop-i.i (omega arith) c.loop-i.invariant.1

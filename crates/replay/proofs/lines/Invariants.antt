@@ -1,6 +1,6 @@
--- Each line goes on past where it began.
-use Rattle.std.proofs.Common.{length, ◌-◌}
+-- Each line leaves less of the text.
+use Rattle.std.proofs.Common.{length}
 use Rattle.replay.proofs.lines.Given as goal
 
-abbrev pub decreases-loop-at : goal.decreases-loop-at
-decreases-loop-at l = length l.text - l.at
+abbrev pub decreases-loop-fields : goal.decreases-loop-fields
+decreases-loop-fields l = length l.fields.left.now

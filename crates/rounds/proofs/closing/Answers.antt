@@ -1,20 +1,19 @@
-use mathlib.Core.Path.{refl}
-use native.Mathlib.Omega.{arith}
+use Rattle.std.proofs.Common.{refl, arith, rules}
 use Rattle.octets.proofs.Laws.{slot_room}
 use Rattle.rounds.proofs.Laws as laws
 use Rattle.rounds.proofs.closing.Goals as goal
 
 pub members-set-requires : goal.members-set-requires
-members-set-requires c = (c.requires.0, c.requires.2, c.requires.3, laws.lead_room _ _ _ _ _ _ c.leading-lead.ensures c.in-Node.is)
+members-set-requires c = (laws.lead_room _ _ _ _ _ _ c.leading-lead.ensures c.in-Some.is, c.requires.2)
 
 pub overflow_mul-a : goal.overflow_mul-a
-overflow_mul-a c = let h = slot_room c.in-Node.a _ _ _ (laws.lead_room _ _ _ _ _ _ c.leading-lead.ensures c.in-Node.is) c.requires.0 in omega (arith, h, c.well_formed)
+overflow_mul-a c = let h = slot_room c.in-Some.a _ _ _ (laws.lead_room _ _ _ _ _ _ c.leading-lead.ensures c.in-Some.is) c.requires.0 in omega (arith, h, c.well_formed)
 
-pub stamp_at-stamp-requires : goal.stamp_at-stamp-requires
-stamp_at-stamp-requires c = let h = slot_room c.in-Node.a _ _ _ (laws.lead_room _ _ _ _ _ _ c.leading-lead.ensures c.in-Node.is) c.requires.0 in omega (arith, h)
+pub stamp_at-requires : goal.stamp_at-requires
+stamp_at-requires c = let h = slot_room c.in-Some.a _ _ _ (laws.lead_room _ _ _ _ _ _ c.leading-lead.ensures c.in-Some.is) c.requires.0 in omega (arith, h)
 
-pub returns-in-Nobody : goal.returns-in-Nobody
-returns-in-Nobody c = (laws.close_none _ _ _ _ _ _ _ c.leading-lead.ensures c.in-Nobody.is c.zero_stamp-stamp.ensures, refl, omega arith)
+pub returns-in-None : goal.returns-in-None
+returns-in-None c = (laws.close_none _ _ _ _ _ _ _ c.leading-lead.ensures c.in-None.is c.zero_stamp.ensures, refl, omega arith)
 
-pub returns-in-Node : goal.returns-in-Node
-returns-in-Node c = (laws.close_some _ _ _ _ _ c.in-Node.a _ c.members-set.result _ _ c.leading-lead.ensures c.in-Node.is c.requires.3 c.members-set.ensures.2 c.members-set.ensures.1 c.members-set.ensures.0 c.decide-verdict.ensures c.stamp_at-stamp.ensures, c.members-set.ensures.2, c.members-set.ensures.1)
+pub returns-in-Some : goal.returns-in-Some
+returns-in-Some c = (laws.close_some _ _ _ _ _ c.in-Some.a _ c.members-set.result _ _ c.leading-lead.ensures c.in-Some.is c.requires.3 (search rules) c.members-set.ensures.1 c.members-set.ensures.0 c.decide.ensures c.stamp_at.ensures, search rules, c.members-set.ensures.1)

@@ -1,19 +1,9 @@
-use mathlib.Core.Path.{◌≡◌, refl}
-use native.Mathlib.Omega.{arith}
-use borrow.Author.Rules.{rules}
-use lib.ListN.{length}
+use Rattle.std.proofs.Common.{rules, tests}
+use Rattle.std.proofs.lemmas.Iterator.Search.{all_from_yields_List}
+use Rattle.std.proofs.lemmas.Iterator.{YieldsList-from_slice}
 use Rattle.rounds.specs.Rounds.{is_not_first}
 use Rattle.rounds.proofs.Laws as laws
 use Rattle.rounds.proofs.none_first.Goals as goal
 
-pub loop-i-init : goal.loop-i-init
-loop-i-init c = (omega arith, refl)
-
-pub returns-then-not-not_first : goal.returns-then-not-not_first
-returns-then-not-not_first c = let e : length c.args.marks ≡ 16 = search rules in laws.every_stop is_not_first c.args.marks c.loop-i.i _ _ (omega arith) c.loop-i.invariant.1 c.not_first.ensures c.if-not-not_first.true
-
-pub loop-i-preserved : goal.loop-i-preserved
-loop-i-preserved c = let e : length c.args.marks ≡ 16 = search rules in (omega arith, laws.every_on is_not_first c.args.marks c.loop-i.i _ _ (omega arith) c.loop-i.invariant.1 c.not_first.ensures c.if-not-not_first.false)
-
 pub returns : goal.returns
-returns c = let e : length c.args.marks ≡ 16 = search rules in laws.every_end is_not_first c.args.marks c.loop-i.i _ (omega arith) c.loop-i.invariant.1
+returns c = laws.every_all is_not_first _ _ (all_from_yields_List is_not_first _ _ _ c.all.ensures.ran (YieldsList-from_slice c.args.marks (cc)) (λ x b q k. search (rules, tests)))

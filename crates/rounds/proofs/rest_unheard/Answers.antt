@@ -1,19 +1,9 @@
-use mathlib.Core.Path.{◌≡◌, refl}
-use native.Mathlib.Omega.{arith}
-use borrow.Author.Rules.{rules}
-use lib.ListN.{length}
+use Rattle.std.proofs.Common.{rules, tests, drop}
+use Rattle.std.proofs.lemmas.Iterator.Search.{all_from_yields_List}
+use Rattle.std.proofs.lemmas.Iterator.{YieldsList-from_slice}
 use Rattle.rounds.specs.Rounds.{is_unheard}
 use Rattle.rounds.proofs.Laws as laws
 use Rattle.rounds.proofs.rest_unheard.Goals as goal
 
-pub loop-i-init : goal.loop-i-init
-loop-i-init c = (omega arith, refl)
-
-pub returns-then-not-silent : goal.returns-then-not-silent
-returns-then-not-silent c = let e : length c.args.marks ≡ 16 = search rules in laws.every_stop is_unheard c.args.marks c.loop-i.i _ _ (omega arith) c.loop-i.invariant.1 c.silent.ensures c.if-not-silent.true
-
-pub loop-i-preserved : goal.loop-i-preserved
-loop-i-preserved c = let e : length c.args.marks ≡ 16 = search rules in (omega arith, laws.every_on is_unheard c.args.marks c.loop-i.i _ _ (omega arith) c.loop-i.invariant.1 c.silent.ensures c.if-not-silent.false)
-
 pub returns : goal.returns
-returns c = let e : length c.args.marks ≡ 16 = search rules in laws.every_end is_unheard c.args.marks c.loop-i.i _ (omega arith) c.loop-i.invariant.1
+returns c = laws.every_all is_unheard _ _ (all_from_yields_List is_unheard _ _ _ c.all.ensures.ran (YieldsList-from_slice (drop c.args.n c.args.marks) (laws.up_to_end c.args.marks _ c.args.n (search rules) cc)) (λ x b q k. search (rules, tests)))

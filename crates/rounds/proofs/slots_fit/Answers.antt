@@ -1,18 +1,12 @@
-use native.Mathlib.Omega.{arith}
+use Rattle.std.proofs.Common.{◌∙◌, refl, rules, tests, arith}
+use Rattle.std.proofs.lemmas.Iterator.Search.{all_from_yields_List}
+use Rattle.std.proofs.lemmas.Iterator.{YieldsList-from_range}
 use Rattle.rounds.proofs.Laws as laws
 use Rattle.rounds.proofs.slots_fit.Goals as goal
 
-pub loop-i-init : goal.loop-i-init
-loop-i-init c = (omega arith, laws.fits_none _ _ _ _)
-
-pub slot_fits-requires : goal.slot_fits-requires
-slot_fits-requires c = (c.requires.0, c.requires.1, c.loop-i-test.true)
-
-pub returns-then-not-slot_fits : goal.returns-then-not-slot_fits
-returns-then-not-slot_fits c = laws.fits_stop _ _ _ _ c.loop-i.i _ _ (omega arith) c.slot_fits.ensures c.if-not-slot_fits.true
-
-pub loop-i-preserved : goal.loop-i-preserved
-loop-i-preserved c = (omega arith, laws.fits_more _ _ _ _ c.loop-i.i _ c.loop-i.invariant.1 c.slot_fits.ensures c.if-not-slot_fits.false)
-
 pub returns : goal.returns
-returns c = laws.fits_all _ _ _ _ c.loop-i.i _ (omega arith) c.loop-i.invariant.1
+returns c =
+    let a = c.args in
+    all_from_yields_List (laws.slot_ok a.marks a.desk.now a.slots a.b) _ _ _ c.all.ensures.ran
+    (YieldsList-from_range 0 a.slots.n a.slots.n refl (omega arith)) (λ x b q k. search (rules, tests))
+    ∙ laws.all_fit a.marks a.desk.now a.slots a.b a.slots.n

@@ -4,8 +4,8 @@ use Rattle.terms.specs.Stamp.{stamp_number}
 use Rattle.rounds.proofs.Laws as laws
 use Rattle.rounds.proofs.under.Goals as goal
 
-pub returns-in-Free : goal.returns-in-Free
-returns-in-Free c = laws.under_free _ _ c.in-Free.is
+pub returns-in-None : goal.returns-in-None
+returns-in-None c = laws.under_free _ _ c.in-None.is
 
-pub returns-in-Under : goal.returns-in-Under
-returns-in-Under c = laws.under_is _ _ c.stamp_at-t.result _ _ c.in-Under.is (ap stamp_number c.stamp_at-t.ensures ∙ stamp_at_number _ c.args.at c.requires) c.less.ensures
+pub returns-in-Some : goal.returns-in-Some
+returns-in-Some c = laws.under_is _ _ c.stamp_at.result _ _ c.in-Some.is (ap stamp_number c.stamp_at.ensures ∙ stamp_at_number _ c.args.at c.requires) c.less.ensures

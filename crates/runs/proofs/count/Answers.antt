@@ -5,9 +5,6 @@ use Rattle.runs.proofs.count.Goals as goal
 pub loop-at-init : goal.loop-at-init
 loop-at-init c = cuts.count_start _ _ c.ends-end.ensures
 
-pub overflow_add-n : goal.overflow_add-n
-overflow_add-n c = omega (arith, cuts.count_fits _ _ _ _ c.loop-at.invariant c.loop-at-test.true)
-
 pub loop-at-smaller : goal.loop-at-smaller
 loop-at-smaller c = cuts.count_less _ _ _ _ c.loop-at.invariant c.loop-at-test.true
 

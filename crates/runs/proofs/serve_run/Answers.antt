@@ -22,13 +22,6 @@ returns-then-not-lent c =
     let at_book : Down (λ (l : List Rung). l) 2 = next 2 (at_plan) refl (nodes.so_not c.plan_ok.ensures (ap not c.if-not-plan_ok.false)) in
     ends.called _ _ _ _ _ _ _ _ _ (stop _ _ (at_book) (nodes.so_not c.lent.ensures (ap not c.if-not-lent.true)) refl)
 
-pub room_for-requires : goal.room_for-requires
-room_for-requires c =
-    let at_plan : Down (λ (l : List Rung). l) 1 = top 1 (run_ladder c.args.p c.args.run.now c.args.book.now c.args.reply.now c.args.numbers.now) refl in
-    let at_book : Down (λ (l : List Rung). l) 2 = next 2 (at_plan) refl (nodes.so_not c.plan_ok.ensures (ap not c.if-not-plan_ok.false)) in
-    let at_room : Down (λ (l : List Rung). l) 21 = next 21 (at_book) refl (nodes.so_not c.lent.ensures (ap not c.if-not-lent.false)) in
-    not-false _ (left 1 (at_room))
-
 pub returns-then-not-room_for : goal.returns-then-not-room_for
 returns-then-not-room_for c =
     let at_plan : Down (λ (l : List Rung). l) 1 = top 1 (run_ladder c.args.p c.args.run.now c.args.book.now c.args.reply.now c.args.numbers.now) refl in
@@ -36,40 +29,21 @@ returns-then-not-room_for c =
     let at_room : Down (λ (l : List Rung). l) 21 = next 21 (at_book) refl (nodes.so_not c.lent.ensures (ap not c.if-not-lent.false)) in
     ends.called _ _ _ _ _ _ _ _ _ (stop _ _ (at_room) (nodes.so_not (laws.counted_room _ _ _ _ _ c.room_for.ensures c.count-c.ensures.0) (ap not c.if-not-room_for.true)) refl)
 
-pub good-shape-requires : goal.good-shape-requires
-good-shape-requires c =
+pub returns-in_default : goal.returns-in_default
+returns-in_default c =
+    let at_plan : Down (λ (l : List Rung). l) 1 = top 1 (run_ladder c.args.p c.args.run.now c.args.book.now c.args.reply.now c.args.numbers.now) refl in
+    let at_book : Down (λ (l : List Rung). l) 2 = next 2 (at_plan) refl (nodes.so_not c.plan_ok.ensures (ap not c.if-not-plan_ok.false)) in
+    let at_room : Down (λ (l : List Rung). l) 21 = next 21 (at_book) refl (nodes.so_not c.lent.ensures (ap not c.if-not-lent.false)) in
+    let at_shape : Down (λ (l : List Rung). l) 3 = next 3 (at_room) refl (nodes.so_not (laws.counted_room _ _ _ _ _ c.room_for.ensures c.count-c.ensures.0) (ap not c.if-not-room_for.false)) in
+    ends.called _ _ _ _ _ _ _ _ _ (stop _ _ (at_shape) (ap not (books.was_bad _ _ (books.checked_as _ _ _ _ c.in_default.is c.good.ensures))) refl)
+
+pub returns : goal.returns
+returns c =
     let at_plan : Down (λ (l : List Rung). l) 1 = top 1 (run_ladder c.args.p c.args.run.now c.args.book.now c.args.reply.now c.args.numbers.now) refl in
     let at_book : Down (λ (l : List Rung). l) 2 = next 2 (at_plan) refl (nodes.so_not c.plan_ok.ensures (ap not c.if-not-plan_ok.false)) in
     let at_room : Down (λ (l : List Rung). l) 21 = next 21 (at_book) refl (nodes.so_not c.lent.ensures (ap not c.if-not-lent.false)) in
     let at_shape : Down (λ (l : List Rung). l) 3 = next 3 (at_room) refl (nodes.so_not (laws.counted_room _ _ _ _ _ c.room_for.ensures c.count-c.ensures.0) (ap not c.if-not-room_for.false)) in
     let d = at_shape in
-    (not-false _ (left 1 d), (books.lent_is _ (not-false _ (left 2 d))).0)
-
-pub take_all-written-requires : goal.take_all-written-requires
-take_all-written-requires c =
-    let at_plan : Down (λ (l : List Rung). l) 1 = top 1 (run_ladder c.args.p c.args.run.now c.args.book.now c.args.reply.now c.args.numbers.now) refl in
-    let at_book : Down (λ (l : List Rung). l) 2 = next 2 (at_plan) refl (nodes.so_not c.plan_ok.ensures (ap not c.if-not-plan_ok.false)) in
-    let at_room : Down (λ (l : List Rung). l) 21 = next 21 (at_book) refl (nodes.so_not c.lent.ensures (ap not c.if-not-lent.false)) in
-    let at_shape : Down (λ (l : List Rung). l) 3 = next 3 (at_room) refl (nodes.so_not (laws.counted_room _ _ _ _ _ c.room_for.ensures c.count-c.ensures.0) (ap not c.if-not-room_for.false)) in
-    let d = at_shape in
-    laws.fit (not-false _ (left 1 d)) (not-false _ (left 2 d)) (not-false _ (left 21 d))
-    (books.was_good _ _ _ (books.checked_as _ _ _ _ c.in-Good.is c.good-shape.ensures))
-
-pub returns-in-Bad : goal.returns-in-Bad
-returns-in-Bad c =
-    let at_plan : Down (λ (l : List Rung). l) 1 = top 1 (run_ladder c.args.p c.args.run.now c.args.book.now c.args.reply.now c.args.numbers.now) refl in
-    let at_book : Down (λ (l : List Rung). l) 2 = next 2 (at_plan) refl (nodes.so_not c.plan_ok.ensures (ap not c.if-not-plan_ok.false)) in
-    let at_room : Down (λ (l : List Rung). l) 21 = next 21 (at_book) refl (nodes.so_not c.lent.ensures (ap not c.if-not-lent.false)) in
-    let at_shape : Down (λ (l : List Rung). l) 3 = next 3 (at_room) refl (nodes.so_not (laws.counted_room _ _ _ _ _ c.room_for.ensures c.count-c.ensures.0) (ap not c.if-not-room_for.false)) in
-    ends.called _ _ _ _ _ _ _ _ _ (stop _ _ (at_shape) (ap not (books.was_bad _ _ (books.checked_as _ _ _ _ c.in-Bad.is c.good-shape.ensures))) refl)
-
-pub returns-in-Good : goal.returns-in-Good
-returns-in-Good c =
-    let at_plan : Down (λ (l : List Rung). l) 1 = top 1 (run_ladder c.args.p c.args.run.now c.args.book.now c.args.reply.now c.args.numbers.now) refl in
-    let at_book : Down (λ (l : List Rung). l) 2 = next 2 (at_plan) refl (nodes.so_not c.plan_ok.ensures (ap not c.if-not-plan_ok.false)) in
-    let at_room : Down (λ (l : List Rung). l) 21 = next 21 (at_book) refl (nodes.so_not c.lent.ensures (ap not c.if-not-lent.false)) in
-    let at_shape : Down (λ (l : List Rung). l) 3 = next 3 (at_room) refl (nodes.so_not (laws.counted_room _ _ _ _ _ c.room_for.ensures c.count-c.ensures.0) (ap not c.if-not-room_for.false)) in
-    let d = at_shape in
-    let g = books.was_good _ _ _ (books.checked_as _ _ _ _ c.in-Good.is c.good-shape.ensures) in
+    let g = books.was_good _ _ _ (books.checked_as _ _ _ _ c.in-Some.is c.good.ensures) in
     ends.called _ _ _ _ _ _ _ _ _ (end _ _ (next 0 d refl (ap not g.good)) refl
     (ends.all_done _ _ _ _ _ _ _ _ _ _ _ (not-false _ (left 21 d)) c.count-c.ensures.0 c.count-c.ensures.1 c.take_all-written.ensures))

@@ -6,9 +6,6 @@ use Rattle.runs.proofs.Cuts as cuts
 use Rattle.runs.proofs.Runs as laws
 use Rattle.runs.proofs.take_all.Goals as goal
 
-pub longest-room-requires : goal.longest-room-requires
-longest-room-requires c = c.requires.book.plan
-
 pub loop-at-init : goal.loop-at-init
 loop-at-init c = (laws.start _ _ _ _ _ _ _ c.requires c.longest-room.ensures.0 c.ends-end.ensures, refl, refl, refl)
 
@@ -17,20 +14,6 @@ slice_bounds-take_one-end c = laws.inside c.loop-at.invariant.0 c.loop-at-test.t
 
 pub take_one-n-requires : goal.take_one-n-requires
 take_one-n-requires c = (laws.ready c.loop-at.invariant.0 c.loop-at-test.true, laws.place c.loop-at.invariant.0 c.loop-at-test.true)
-
-pub overflow_add-out : goal.overflow_add-out
-overflow_add-out c =
-    let reply_fits : let l = c.loop-at in l.out + c.take_one-n.result ≤ length l.reply = let r = laws.ready c.loop-at.invariant.0 c.loop-at-test.true in
-    omega (arith, c.take_one-n.ensures.short, r.fits, r.room_is) in
-    omega (arith, reply_fits)
-
-pub overflow_add-k : goal.overflow_add-k
-overflow_add-k c =
-    let number_fits : let l = c.loop-at in l.k < length l.numbers = laws.place c.loop-at.invariant.0 c.loop-at-test.true in
-    omega (arith, number_fits)
-
-pub loop-at-smaller : goal.loop-at-smaller
-loop-at-smaller c = cuts.count_less _ _ _ _ c.loop-at.invariant.0.count c.loop-at-test.true
 
 pub loop-at-preserved : goal.loop-at-preserved
 loop-at-preserved c = (laws.turn c.loop-at.invariant.0 c.loop-at-test.true _ _ _ _ _ c.take_one-n.ensures c.ends-end-in-loop-at.ensures (omega arith) (omega arith), omega arith, omega arith, omega arith)

@@ -4,10 +4,6 @@ use Rattle.book.proofs.Laws as books
 use Rattle.runs.proofs.Runs as laws
 use Rattle.runs.proofs.take_one.Goals as goal
 
-pub header_of-h-requires : goal.header_of-h-requires
-header_of-h-requires c = let g = c.requires.0.book in
-    (g.plan, (books.lent_is _ g.lent).0)
-
 pub serve_at-a-requires : goal.serve_at-a-requires
 serve_at-a-requires c =
     let lent : ℕ = c.args.out + c.args.room - c.args.out in

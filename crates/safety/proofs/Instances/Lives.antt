@@ -4,6 +4,7 @@
 --   few_others few_others_later   one of them lies
 --   lives lives_later  each life, by its calls
 -- Assumes nothing.
+use Rattle.std.specs.Prelude.{Ok, Err}
 use Prim.{tt}
 use Prim.Native.Nat.{ℕ, zero, suc, ◌<◌}
 use mathlib.Core.Path.{◌≡◌, refl, sym, ◌∙◌}
@@ -16,7 +17,6 @@ use Rattle.octets.specs.Bytes.{be, be_onto}
 use Rattle.terms.specs.declared.Refusal.TheVariants.{NoRoom}
 use Rattle.terms.proofs.Small.{small, small_octets}
 use Rattle.terms.proofs.Rungs.{clash}
-use Rattle.node.specs.declared.Answer.TheVariants.{Refused, Replied}
 use Rattle.rounds.specs.Numbers.{number_of}
 use Rattle.store.specs.History.{Call, History, EachCall}
 use Rattle.safety.specs.Run.{Served, Life, Nodes, life_of}
@@ -88,10 +88,10 @@ pub by_honest : (P : ℕ → Type 0) → P 0 → P 1 → P 2 → P 3 → (i : �
 by_honest P a b c d = by_node (λ (i : ℕ). honest i ≡ true → P i) (λ e. a) (λ e. b) (λ e. c) (λ e. d) (λ e. absurd (clash (sym e)))
 
 -- ---- every request is bytes, and no call was refused 8
-replied : (n : ℕ) → Replied n ≡ Refused NoRoom → ⊥
+replied : (n : ℕ) → Ok n ≡ Err NoRoom → ⊥
 replied n e = let z : ◌≡◌ {A = ℕ} 0 1 = cc in omega arith
 
-fit : (c : Call) (n : ℕ) → c.plan ≡ plan → small c.request ≡ true → c.answer ≡ Replied n → Served plan c
+fit : (c : Call) (n : ℕ) → c.plan ≡ plan → small c.request ≡ true → c.answer ≡ Ok n → Served plan c
 fit c n e f g = record { plan = e; bytes = small_octets c.request f; roomy = λ z. replied n (sym g ∙ z) }
 
 served_0 : EachCall (Served plan) (life_of after_save 0)

@@ -1,5 +1,6 @@
 -- A COMPLETE WRITE IS PASSED, over the life of a node: at N1 t0 b0 Q1 m1 F1 the node executes a record of time 1 and then tells its time to the next write, which
 -- comes to its write round (the calls are those of report/proofs/Instances.antt). Assumes nothing.
+use Rattle.std.specs.Prelude.{Ok, Err}
 use Prim.{tt}
 use Prim.Native.Nat.{ℕ, zero, suc, ◌+◌, ◌<◌}
 use mathlib.Core.Path.{◌≡◌, refl, sym, subst}
@@ -12,7 +13,6 @@ use Rattle.terms.specs.declared.Refusal.TheVariants.{NoRoom}
 use Rattle.terms.proofs.Small.{small_octets}
 use Rattle.frame.specs.Frame.{body_of}
 use Rattle.book.specs.Book.{book_head}
-use Rattle.node.specs.declared.Answer.TheVariants.{Refused, Replied}
 use Rattle.rounds.specs.Numbers.{number_of}
 use Rattle.store.specs.History.{Call}
 use Rattle.report.specs.Triple.{In}
@@ -24,10 +24,10 @@ use Rattle.safety.specs.Done.{TimeExecuted, OwnTime, Told}
 use Rattle.safety.proofs.NewTime.{lives_pass_what_is_complete}
 
 abbrev pub wrote : Call
-wrote = record { plan = one.plan; request = one.request; reply = replicate 88 0; answer = Replied 55; book_left = (one.taken).book; reply_left = (one.taken).reply }
+wrote = record { plan = one.plan; request = one.request; reply = replicate 88 0; answer = Ok 55; book_left = (one.taken).book; reply_left = (one.taken).reply }
 
 abbrev pub told : Call
-told = record { plan = one.plan; request = one.time_request; reply = replicate 88 0; answer = Replied 23; book_left = (one.asked).book; reply_left = (one.asked).reply }
+told = record { plan = one.plan; request = one.time_request; reply = replicate 88 0; answer = Ok 23; book_left = (one.asked).book; reply_left = (one.asked).reply }
 
 abbrev pub nodes : Nodes
 nodes = record { honest = λ i. true; early = λ i. wrote ∷ []; late = λ i. told ∷ [] }
@@ -36,7 +36,7 @@ only_zero : (P : ℕ → Type 0) → P 0 → (i : ℕ) → i < 1 → P i
 only_zero P x zero l = x
 only_zero P x (suc i) l = absurd (omega arith)
 
-roomy : (n : ℕ) → Replied n ≡ Refused NoRoom → ⊥
+roomy : (n : ℕ) → Ok n ≡ Err NoRoom → ⊥
 roomy n e = let z : ◌≡◌ {A = ℕ} 0 1 = cc in omega arith
 
 life : Life one.plan 0 (wrote ∷ told ∷ [])

@@ -6,6 +6,7 @@
 --   latest_met later_met previous_met again_met          on one that holds the record
 --   made_so book_bytes held_bytes   the fresh book is what the making of one leaves; both are bytes
 -- Assumes nothing.
+use Rattle.std.specs.Prelude.{Ok}
 use Prim.{tt}
 use Prim.Native.Nat.{ℕ, ◌<◌}
 use mathlib.Core.Path.{◌≡◌, refl, sym, ap, ◌∙◌}
@@ -22,8 +23,6 @@ use Rattle.frame.specs.Frame.{time_request_kind, time_reply_kind, write_request_
 use Rattle.record.specs.Record.{time_zero}
 use Rattle.book.specs.Records.{timed, rising, above, some, those, last_of, insert_record}
 use Rattle.book.specs.Book.{records_from, header, joined, laid_as, headed, filled, good_book}
-use Rattle.node.specs.declared.Answer.TheVariants.{Replied}
-use Rattle.node.specs.declared.Made.TheVariants.{Fresh}
 use Rattle.node.specs.Fresh.{FreshCall, freshened}
 use Rattle.node.specs.Node.{NodeCall, node_ladder, served_outcome, refused, served, answered, sends, reply_to, replied, book_after, book_reply_ok, time_fails, hash_fails, other_held, no_room}
 use Rattle.store.specs.History.{Call}
@@ -66,11 +65,11 @@ buffer = replicate 216 0
 
 -- a call replied with frame g, of n bytes, and left book b
 abbrev pub spoke : (f g b : List ℕ) (n : ℕ) → Call
-spoke f g b n = record { plan = plan; request = f; reply = buffer; answer = Replied n; book_left = b; reply_left = over g buffer }
+spoke f g b n = record { plan = plan; request = f; reply = buffer; answer = Ok n; book_left = b; reply_left = over g buffer }
 
 -- the same on a book
 abbrev pub Answers : (f b g b₂ : List ℕ) (n : ℕ) → Type 0
-Answers f b g b₂ n = NodeCall plan f b buffer (Replied n) b₂ (over g buffer)
+Answers f b g b₂ n = NodeCall plan f b buffer (Ok n) b₂ (over g buffer)
 
 -- ---- no refusal applies, and this is the answer
 unlocked : (f b g b₂ : List ℕ) (n : ℕ) → None (node_ladder plan f b buffer) → answered plan (header_in f) (body_of f) b buffer ≡ served_outcome (replied n) b₂ (over g buffer)
@@ -152,10 +151,10 @@ again_met =
     (unlocked (write_request 4 13) (held 4) (write_reply_of 4 13) (held 4) 55 (refl, (refl, (refl, (refl, (refl, (ap not (sheet_passes 4 (omega arith)), (refl, (refl, tt)))))))) refl)
 
 -- ---- a fresh book is what the making of one leaves
-pub made_so : (i : ℕ) → i < 5 → FreshCall plan i (replicate 413 0) Fresh (book i)
+pub made_so : (i : ℕ) → i < 5 → FreshCall plan i (replicate 413 0) (Ok tt) (book i)
 unfolding book freshened first plan_ok counts_ok limits_ok column_of all record_length over laid_as header joined be be_onto
 made_so =
-    by_node (λ (i : ℕ). FreshCall plan i (replicate 413 0) Fresh (book i)) (record { is = refl }) (record { is = refl }) (record { is = refl }) (record { is = refl }) (record { is = refl })
+    by_node (λ (i : ℕ). FreshCall plan i (replicate 413 0) (Ok tt) (book i)) (record { is = refl }) (record { is = refl }) (record { is = refl }) (record { is = refl }) (record { is = refl })
 
 -- ---- both are bytes
 pub book_bytes : (i : ℕ) → i < 5 → Octets (book i)

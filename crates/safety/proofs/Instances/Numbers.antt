@@ -4,6 +4,8 @@
 --   first_asks first_asks_later         each request with one of its ask numbers is one that it owed; the same, cut after the first read
 --   first_before       no request of the save is one of it
 -- Assumes nothing.
+use Rattle.terms.specs.declared.Refusal.{Refusal}
+use Rattle.std.specs.Prelude.{Ok, Result}
 use Prim.{tt}
 use Prim.Native.Nat.{ℕ, ◌<◌}
 use mathlib.Core.Path.{◌≡◌, refl, sym, subst}
@@ -18,7 +20,6 @@ use Rattle.terms.specs.Stamp.{then, stamp_at, stamp_number}
 use Rattle.terms.specs.Terms.{plan_ok, counts_ok, limits_ok, column_of, record_length}
 use Rattle.frame.specs.Frame.{frame, time_request_kind, write_request_kind, write_reply_kind, read_latest_kind, read_reply_kind}
 use Rattle.rounds.specs.Rounds.{heard_count, every, slots_fit, slot_fits}
-use Rattle.node.specs.declared.Answer.TheVariants.{Replied}
 use Rattle.standing.specs.Standing.{room_ok, ask_in, round_rules, read_request}
 use Rattle.session.specs.Ranges.{standing_rules, open_rules, in_range}
 use Rattle.session.specs.Reply.{is_heard}
@@ -183,12 +184,12 @@ first_asks_later =
     (first_asks 0 (omega arith) refl) (first_asks 1 (omega arith) refl) (first_asks 2 (omega arith) refl) (first_asks 3 (omega arith) refl)
 
 -- ---- it asked nothing before the save was over
-unowed : (kind i ask : ℕ) (body : List ℕ) → ask < 11 → (n m : ℕ) → Replied n ≡ Replied m → Owes first (frame kind i ask body) → ⊥
+unowed : (kind i ask : ℕ) (body : List ℕ) → ask < 11 → (n m : ℕ) → ◌≡◌ {A = Result ℕ Refusal} (Ok n) (Ok m) → Owes first (frame kind i ask body) → ⊥
 unowed kind i ask body l n m e = not_owed first desk_long kind i ask body (omega arith) (inl l)
 
 pub first_before : Before after_save first
 first_before =
-    by_honest (λ (i : ℕ). EachCall (λ (c : Call). (n : ℕ) → c.answer ≡ Replied n → Owes first c.request → ⊥) (saves i))
+    by_honest (λ (i : ℕ). EachCall (λ (c : Call). (n : ℕ) → c.answer ≡ Ok n → Owes first c.request → ⊥) (saves i))
     (unowed time_request_kind 0 1 [] (omega arith) 23, (unowed write_request_kind 0 2 sheet (omega arith) 55, tt))
     (unowed time_request_kind 1 1 [] (omega arith) 23, (unowed write_request_kind 1 2 sheet (omega arith) 55, tt))
     (unowed time_request_kind 2 1 [] (omega arith) 23, (unowed write_request_kind 2 2 sheet (omega arith) 55, tt))

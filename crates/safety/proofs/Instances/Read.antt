@@ -6,6 +6,8 @@
 --   calls first        the twelve calls, each by its contract
 --   first_answers first_leaves   its answers, one after the other, and the item that it leaves
 -- Assumes nothing.
+use Rattle.terms.specs.declared.Refusal.{Refusal}
+use Rattle.std.specs.Prelude.{Ok, Result}
 use Prim.{tt}
 use Prim.Native.Nat.{ℕ}
 use mathlib.Core.Path.{◌≡◌, refl, sym, ap, ◌∙◌}
@@ -25,9 +27,8 @@ use Rattle.fragments.specs.Fragments.{among, from, laid, tabulate, ratio, weight
 use Rattle.frame.specs.Frame.{frame, shaped, body_fits, one_of, for_party, good_frame, good_reply, read_reply_kind, suits}
 use Rattle.record.specs.Record.{fragment_hash, prefix_of, time_zero}
 use Rattle.record.specs.Desk.{row, cross_made}
-use Rattle.rounds.specs.declared.Bound.TheVariants.{Free}
+use Rattle.std.specs.declared.option.Option.TheVariants as option
 use Rattle.rounds.specs.declared.Heard.TheVariants.{First, Record}
-use Rattle.rounds.specs.declared.Lead.TheVariants.{Node}
 use Rattle.rounds.specs.Rounds.{heard_count, every, slot_stamp, ahead_of, step_of, lead_of, joins_of, set_of, Closed, close_with, under_of, slot_fits, slots_fit}
 use Rattle.recover.specs.Recover.{validates, sound, slot_filled, refilled, repaired, collected}
 use Rattle.standing.specs.declared.Operation.TheVariants.{Read}
@@ -37,7 +38,6 @@ use Rattle.session.specs.declared.Took.{Took}
 use Rattle.session.specs.declared.Answer.{Answer}
 use Rattle.session.specs.declared.Answer.TheVariants.{Open, Done}
 use Rattle.session.specs.declared.opening.Opened.{Opened}
-use Rattle.session.specs.declared.opening.Opening.TheVariants.{Accepted}
 use Rattle.session.specs.Session.{marked_of, next_of, storing_of, ended_of, Said, still_open, done, said_of}
 use Rattle.session.specs.Opening.{fresh_of, open_with, OpenCall}
 use Rattle.session.specs.Ranges.{standing_rules, open_rules, in_range}
@@ -52,7 +52,7 @@ use Rattle.safety.proofs.Instances.Save.{desk}
 
 -- ---- the sessions
 abbrev pub start : Session
-start = fresh_of Read 1 Free (record { 0 = 11 })
+start = fresh_of Read 1 option.None (record { 0 = 11 })
 
 abbrev pub heard_1 : Session
 heard_1 = marked_of start 0 Record
@@ -91,7 +91,7 @@ abbrev pub ended : Session
 ended = ended_of (marked_of stored_3 4 Record)
 
 abbrev pub opened : Opened
-opened = record { answer = Accepted; session = start }
+opened = record { answer = (Ok tt); session = start }
 
 pub opened_so : OpenCall Read plan (record { 0 = 11 }) opened
 unfolding open_with ladder.first plan_ok counts_ok limits_ok column_of all
@@ -111,44 +111,44 @@ abbrev pub lie_reply : List ℕ
 lie_reply = frame read_reply_kind 4 11 lie
 
 -- ---- the calls, each with an item buffer of one byte
-abbrev pub turn : List ℕ → Answer → Session → List ℕ → List ℕ → Turn
+abbrev pub turn : List ℕ → Result Answer Refusal → Session → List ℕ → List ℕ → Turn
 turn f a s d i = record { reply = f; item = 0 ∷ []; took = record { answer = a; session = s }; desk_left = d; item_left = i }
 
 abbrev pub call_1 : Turn
-call_1 = turn (sheet_reply 0 11) Open heard_1 desk_1 (0 ∷ [])
+call_1 = turn (sheet_reply 0 11) (Ok Open) heard_1 desk_1 (0 ∷ [])
 
 abbrev pub call_2 : Turn
-call_2 = turn (sheet_reply 1 11) Open heard_2 desk_2 (0 ∷ [])
+call_2 = turn (sheet_reply 1 11) (Ok Open) heard_2 desk_2 (0 ∷ [])
 
 abbrev pub call_3 : Turn
-call_3 = turn (first_reply 3 11) Open heard_3 desk_2 (0 ∷ [])
+call_3 = turn (first_reply 3 11) (Ok Open) heard_3 desk_2 (0 ∷ [])
 
 abbrev pub call_4 : Turn
-call_4 = turn lie_reply Open second_round desk_lie (0 ∷ [])
+call_4 = turn lie_reply (Ok Open) second_round desk_lie (0 ∷ [])
 
 abbrev pub call_5 : Turn
-call_5 = turn (sheet_reply 0 12) Open again_1 desk_lie (0 ∷ [])
+call_5 = turn (sheet_reply 0 12) (Ok Open) again_1 desk_lie (0 ∷ [])
 
 abbrev pub call_6 : Turn
-call_6 = turn (sheet_reply 1 12) Open again_2 desk_lie (0 ∷ [])
+call_6 = turn (sheet_reply 1 12) (Ok Open) again_2 desk_lie (0 ∷ [])
 
 abbrev pub call_7 : Turn
-call_7 = turn (first_reply 3 12) Open again_3 desk_lie (0 ∷ [])
+call_7 = turn (first_reply 3 12) (Ok Open) again_3 desk_lie (0 ∷ [])
 
 abbrev pub call_8 : Turn
-call_8 = turn (first_reply 4 12) Open repair_round desk_full (0 ∷ [])
+call_8 = turn (first_reply 4 12) (Ok Open) repair_round desk_full (0 ∷ [])
 
 abbrev pub call_9 : Turn
-call_9 = turn (write_reply_of 0 13) Open stored_1 desk_full (0 ∷ [])
+call_9 = turn (write_reply_of 0 13) (Ok Open) stored_1 desk_full (0 ∷ [])
 
 abbrev pub call_10 : Turn
-call_10 = turn (write_reply_of 1 13) Open stored_2 desk_full (0 ∷ [])
+call_10 = turn (write_reply_of 1 13) (Ok Open) stored_2 desk_full (0 ∷ [])
 
 abbrev pub call_11 : Turn
-call_11 = turn (write_reply_of 3 13) Open stored_3 desk_full (0 ∷ [])
+call_11 = turn (write_reply_of 3 13) (Ok Open) stored_3 desk_full (0 ∷ [])
 
 abbrev pub call_12 : Turn
-call_12 = turn (write_reply_of 4 13) (Done stamp_seven 2) ended desk_full (7 ∷ [])
+call_12 = turn (write_reply_of 4 13) (Ok (Done stamp_seven 2)) ended desk_full (7 ∷ [])
 
 pub taken : (s : Session) (f d : List ℕ) (t : Took) (d₂ i₂ : List ℕ) → None (read_ladder plan s f d 1) → accepted plan s f d (0 ∷ []) ≡ outcome (said_of t.answer) t.session d₂ i₂
     → ReadReplyCall plan s f d (0 ∷ []) t d₂ i₂
@@ -205,7 +205,7 @@ met_7 = record { is = refl }
 
 -- it closes round 2: the set of nodes 0 and 1 is the candidate's, and validates
 abbrev closed_8 : Closed
-closed_8 = record { lead = Node 0; stamp = stamp_seven; nodes = 0 ∷ 1 ∷ []; verdict = Repair }
+closed_8 = record { lead = option.Some 0; stamp = stamp_seven; nodes = 0 ∷ 1 ∷ []; verdict = Repair }
 
 sound_8 : sound plan closed_8 0 desk_lie ≡ true
 unfolding sound validates cross_made row fragment_hash prefix_of record_length regenerated among tabulate value blend weight_of ratio xtime mul_n mul square sum_pow inv div alike desk

@@ -6,6 +6,8 @@
 --   save_numbers       each reply that it takes under the number of an honest node was written by that node, before the first read
 --   save_asks save_asks_later   each request with one of its ask numbers is one that it owed; the same, cut after the first read
 -- Assumes nothing.
+use Rattle.terms.specs.declared.Refusal.{Refusal}
+use Rattle.std.specs.Prelude.{Ok, Result}
 use Prim.{tt}
 use Prim.Native.Nat.{ℕ, ◌<◌, ◌*◌}
 use mathlib.Core.Path.{◌≡◌, refl, sym, ◌∙◌}
@@ -20,7 +22,7 @@ use Rattle.terms.specs.Stamp.{top, then, stamp_at, stamp_number}
 use Rattle.terms.specs.Terms.{plan_ok, counts_ok, limits_ok, column_of, record_length}
 use Rattle.terms.proofs.Small.{small, small_octets}
 use Rattle.frame.specs.Frame.{shaped, body_fits, one_of, for_party, good_frame, good_reply, time_reply_kind, write_request_kind, write_reply_kind, read_latest_kind, read_previous_kind, suits}
-use Rattle.rounds.specs.declared.Bound.TheVariants.{Free}
+use Rattle.std.proofs.Common.{None}
 use Rattle.rounds.specs.declared.Heard.TheVariants.{Record}
 use Rattle.rounds.specs.Rounds.{heard_count, every}
 use Rattle.clock.specs.Clock.{times_heard, or_more, greatest_with}
@@ -31,7 +33,6 @@ use Rattle.session.specs.declared.Session.{Session}
 use Rattle.session.specs.declared.Answer.{Answer}
 use Rattle.session.specs.declared.Answer.TheVariants.{Open, Done}
 use Rattle.session.specs.declared.opening.Opened.{Opened}
-use Rattle.session.specs.declared.opening.Opening.TheVariants.{Accepted}
 use Rattle.session.specs.Session.{marked_of, storing_of, ended_of, still_open, done, said_of}
 use Rattle.store.specs.History.{Call, EachCall, Wrote}
 use Rattle.session.specs.Opening.{fresh_of, open_with, OpenCall}
@@ -57,7 +58,7 @@ desk_long = refl
 
 -- ---- the sessions
 abbrev pub start : Session
-start = fresh_of Write 1 Free (record { 0 = 1 })
+start = fresh_of Write 1 None (record { 0 = 1 })
 
 abbrev pub timed_1 : Session
 timed_1 = timed_of start 0 0
@@ -84,39 +85,39 @@ abbrev pub ended : Session
 ended = ended_of (marked_of stored_3 4 Record)
 
 abbrev pub opened : Opened
-opened = record { answer = Accepted; session = start }
+opened = record { answer = (Ok tt); session = start }
 
 pub opened_so : OpenCall Write plan (record { 0 = 1 }) opened
 unfolding open_with first plan_ok counts_ok limits_ok column_of all
 opened_so = record { is = refl }
 
 -- ---- the calls, each with the item
-abbrev pub turn : List ℕ → Answer → Session → List ℕ → Turn
+abbrev pub turn : List ℕ → Result Answer Refusal → Session → List ℕ → Turn
 turn f a s d = record { reply = f; item = 7 ∷ []; took = record { answer = a; session = s }; desk_left = d; item_left = 7 ∷ [] }
 
 abbrev pub call_1 : Turn
-call_1 = turn (time_reply 0 0) Open timed_1 desk
+call_1 = turn (time_reply 0 0) (Ok Open) timed_1 desk
 
 abbrev pub call_2 : Turn
-call_2 = turn (time_reply 1 0) Open timed_2 desk
+call_2 = turn (time_reply 1 0) (Ok Open) timed_2 desk
 
 abbrev pub call_3 : Turn
-call_3 = turn (time_reply 2 0) Open timed_3 desk
+call_3 = turn (time_reply 2 0) (Ok Open) timed_3 desk
 
 abbrev pub call_4 : Turn
-call_4 = turn (time_reply 4 top) Open write_round desk_full
+call_4 = turn (time_reply 4 top) (Ok Open) write_round desk_full
 
 abbrev pub call_5 : Turn
-call_5 = turn (write_reply_of 0 2) Open stored_1 desk_full
+call_5 = turn (write_reply_of 0 2) (Ok Open) stored_1 desk_full
 
 abbrev pub call_6 : Turn
-call_6 = turn (write_reply_of 1 2) Open stored_2 desk_full
+call_6 = turn (write_reply_of 1 2) (Ok Open) stored_2 desk_full
 
 abbrev pub call_7 : Turn
-call_7 = turn (write_reply_of 2 2) Open stored_3 desk_full
+call_7 = turn (write_reply_of 2 2) (Ok Open) stored_3 desk_full
 
 abbrev pub call_8 : Turn
-call_8 = turn (write_reply_of 4 2) (Done stamp_seven 0) ended desk_full
+call_8 = turn (write_reply_of 4 2) (Ok (Done stamp_seven 0)) ended desk_full
 
 met_1 : WriteReplyCall plan start (time_reply 0 0) desk (7 ∷ []) call_1.took desk
 unfolding desk write_reply first plan_ok counts_ok limits_ok column_of all record_length lengths_ok in_range standing_rules round_rules open_rules heard_count every num num_from part

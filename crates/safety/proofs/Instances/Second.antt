@@ -3,6 +3,8 @@
 --   second_answers second_leaves   its answers, one after the other, and the item that it leaves
 --   second_numbers second_asks second_asks_later second_before   who wrote the replies, whose the requests are, and that the save and the first read are others
 -- Assumes nothing.
+use Rattle.terms.specs.declared.Refusal.{Refusal}
+use Rattle.std.specs.Prelude.{Ok, Result}
 use Prim.{tt}
 use Prim.Native.Nat.{ℕ, ◌<◌}
 use mathlib.Core.Path.{◌≡◌, refl, sym, ap, ◌∙◌, subst}
@@ -24,9 +26,8 @@ use Rattle.fragments.specs.Fragments.{among, laid, tabulate, ratio, weight_of, b
 use Rattle.frame.specs.Frame.{frame, time_request_kind, write_request_kind, read_latest_kind, read_previous_kind, shaped, body_fits, one_of, for_party, good_frame, good_reply, read_reply_kind, suits}
 use Rattle.record.specs.Record.{fragment_hash, prefix_of, time_zero}
 use Rattle.record.specs.Desk.{row, cross_made}
-use Rattle.rounds.specs.declared.Bound.TheVariants.{Free}
+use Rattle.std.proofs.Common.{None, Some}
 use Rattle.rounds.specs.declared.Heard.TheVariants.{Record}
-use Rattle.rounds.specs.declared.Lead.TheVariants.{Node}
 use Rattle.rounds.specs.Rounds.{heard_count, every, slot_stamp, ahead_of, step_of, lead_of, joins_of, set_of, Closed, close_with, under_of, slot_fits, slots_fit}
 use Rattle.recover.specs.Recover.{validates, sound, decoded}
 use Rattle.standing.specs.declared.Operation.TheVariants.{Read}
@@ -34,14 +35,12 @@ use Rattle.standing.specs.Standing.{lengths_ok, room_ok, ask_in, awaits_in, roun
 use Rattle.session.specs.declared.Session.{Session}
 use Rattle.session.specs.declared.Answer.TheVariants.{Open, Done}
 use Rattle.session.specs.declared.opening.Opened.{Opened}
-use Rattle.session.specs.declared.opening.Opening.TheVariants.{Accepted}
 use Rattle.session.specs.Session.{marked_of, ended_of, still_open, done}
 use Rattle.session.specs.Opening.{fresh_of, open_with, OpenCall}
 use Rattle.session.specs.Ranges.{standing_rules, open_rules, in_range}
 use Rattle.session.specs.Reply.{awaited, is_heard, bears}
 use Rattle.session.specs.Reader.{outcome, failing, act_on, act_for, settled, heard, accepted, ReadReplyCall}
 use Rattle.session.specs.Owed.{request_of}
-use Rattle.node.specs.declared.Answer.TheVariants.{Replied}
 use Rattle.store.specs.History.{Call, EachCall, Wrote}
 use Rattle.client.specs.Turns.{Turn, ReadTurn, Calls}
 use Rattle.client.specs.Repair.{EachTurn}
@@ -56,7 +55,7 @@ use Rattle.safety.proofs.Instances.Read.{turn, taken, saids}
 
 -- ---- the sessions
 abbrev pub start : Session
-start = fresh_of Read 1 Free (record { 0 = 21 })
+start = fresh_of Read 1 None (record { 0 = 21 })
 
 abbrev pub heard_1 : Session
 heard_1 = marked_of start 0 Record
@@ -71,7 +70,7 @@ abbrev pub ended : Session
 ended = ended_of (marked_of heard_3 3 Record)
 
 abbrev pub opened : Opened
-opened = record { answer = Accepted; session = start }
+opened = record { answer = (Ok tt); session = start }
 
 pub opened_so : OpenCall Read plan (record { 0 = 21 }) opened
 unfolding open_with ladder.first plan_ok counts_ok limits_ok column_of all
@@ -92,16 +91,16 @@ desk_4 = sheet ++ (sheet ++ (sheet ++ (sheet ++ replicate 201 0)))
 
 -- ---- the calls
 abbrev pub call_1 : Turn
-call_1 = turn (sheet_reply 0 21) Open heard_1 desk_1 (0 ∷ [])
+call_1 = turn (sheet_reply 0 21) (Ok Open) heard_1 desk_1 (0 ∷ [])
 
 abbrev pub call_2 : Turn
-call_2 = turn (sheet_reply 1 21) Open heard_2 desk_2 (0 ∷ [])
+call_2 = turn (sheet_reply 1 21) (Ok Open) heard_2 desk_2 (0 ∷ [])
 
 abbrev pub call_3 : Turn
-call_3 = turn (sheet_reply 2 21) Open heard_3 desk_3 (0 ∷ [])
+call_3 = turn (sheet_reply 2 21) (Ok Open) heard_3 desk_3 (0 ∷ [])
 
 abbrev pub call_4 : Turn
-call_4 = turn (sheet_reply 3 21) (Done stamp_seven 1) ended desk_4 (7 ∷ [])
+call_4 = turn (sheet_reply 3 21) (Ok (Done stamp_seven 1)) ended desk_4 (7 ∷ [])
 
 met_1 : ReadReplyCall plan start (sheet_reply 0 21) desk (0 ∷ []) call_1.took desk_1 (0 ∷ [])
 unfolding desk sheet stamp_bytes cross verifier hash ladder.first plan_ok counts_ok limits_ok column_of all record_length lengths_ok in_range standing_rules round_rules open_rules
@@ -126,7 +125,7 @@ met_3 =
 
 -- it closes the round: all four bear the candidate, and their set validates
 abbrev closed_4 : Closed
-closed_4 = record { lead = Node 0; stamp = stamp_seven; nodes = 0 ∷ 1 ∷ 2 ∷ 3 ∷ []; verdict = Complete }
+closed_4 = record { lead = Some 0; stamp = stamp_seven; nodes = 0 ∷ 1 ∷ 2 ∷ 3 ∷ []; verdict = Complete }
 
 sound_4 : sound plan closed_4 0 desk_4 ≡ true
 unfolding sound validates cross_made row fragment_hash prefix_of record_length regenerated among tabulate value blend weight_of ratio xtime mul_n mul square sum_pow inv div alike desk
@@ -232,12 +231,12 @@ second_asks_later =
     (second_asks 0 (omega arith) refl) (second_asks 1 (omega arith) refl) (second_asks 2 (omega arith) refl) (second_asks 3 (omega arith) refl)
 
 -- ---- it asked nothing before the first read was over
-unowed : (kind i ask : ℕ) (body : List ℕ) → ask < 21 → (n m : ℕ) → Replied n ≡ Replied m → Owes second (frame kind i ask body) → ⊥
+unowed : (kind i ask : ℕ) (body : List ℕ) → ask < 21 → (n m : ℕ) → ◌≡◌ {A = Result ℕ Refusal} (Ok n) (Ok m) → Owes second (frame kind i ask body) → ⊥
 unowed kind i ask body l n m e = not_owed second desk_long kind i ask body (omega arith) (inl l)
 
 pub second_before : Before after_first second
 second_before =
-    by_honest (λ (i : ℕ). EachCall (λ (c : Call). (n : ℕ) → c.answer ≡ Replied n → Owes second c.request → ⊥) (after_first.early i))
+    by_honest (λ (i : ℕ). EachCall (λ (c : Call). (n : ℕ) → c.answer ≡ Ok n → Owes second c.request → ⊥) (after_first.early i))
     (unowed time_request_kind 0 1 [] (omega arith) 23, (unowed write_request_kind 0 2 sheet (omega arith) 55, (unowed read_latest_kind 0 11 [] (omega arith) 216, (unowed read_previous_kind 0 12 lie_stamp (omega arith) 216, (unowed write_request_kind 0 13 sheet (omega arith) 55, tt)))))
     (unowed time_request_kind 1 1 [] (omega arith) 23, (unowed write_request_kind 1 2 sheet (omega arith) 55, (unowed read_latest_kind 1 11 [] (omega arith) 216, (unowed read_previous_kind 1 12 lie_stamp (omega arith) 216, (unowed write_request_kind 1 13 sheet (omega arith) 55, tt)))))
     (unowed time_request_kind 2 1 [] (omega arith) 23, (unowed write_request_kind 2 2 sheet (omega arith) 55, tt))

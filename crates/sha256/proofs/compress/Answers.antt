@@ -4,4 +4,4 @@ use Rattle.sha256.proofs.compress.Goals as goal
 
 pub returns : goal.returns
 unfolding compress_of
-returns c = (c.added.ensures ∙ ap (added_of c.args.h) c.rounds-r.ensures.0, c.rounds-r.ensures.1)
+returns c = c.added.ensures ∙ ap (added_of c.args.h) c.rounds-r.ensures

@@ -1,24 +1,5 @@
-use native.Mathlib.Omega.{arith}
 use Rattle.sha256.proofs.Laws.{turn_more}
 use Rattle.sha256.proofs.rounds_and_words.Goals as goal
-
-pub overflow_add-t-5 : goal.overflow_add-t-5
-overflow_add-t-5 c = omega (arith, c.requires)
-
-pub round_and_word-s6-requires : goal.round_and_word-s6-requires
-round_and_word-s6-requires c = (omega (arith, c.requires), c.requires.1, c.round_and_word-s5.ensures.long)
-
-pub overflow_add-t-6 : goal.overflow_add-t-6
-overflow_add-t-6 c = omega (arith, c.requires)
-
-pub round_and_word-s7-requires : goal.round_and_word-s7-requires
-round_and_word-s7-requires c = (omega (arith, c.requires), c.requires.1, c.round_and_word-s6.ensures.long)
-
-pub overflow_add-t-7 : goal.overflow_add-t-7
-overflow_add-t-7 c = omega (arith, c.requires)
-
-pub round_and_word-requires : goal.round_and_word-requires
-round_and_word-requires c = (omega (arith, c.requires), c.requires.1, c.round_and_word-s7.ensures.long)
 
 pub returns : goal.returns
 returns c = let t = c.args.t in

@@ -5,13 +5,10 @@ use Rattle.frame.specs.Frame.{read_latest_kind, read_previous_kind, header_of}
 use Rattle.standing.proofs.Requests as laws
 use Rattle.standing.proofs.read_request.Goals as goal
 
-pub returns-in-Free : goal.returns-in-Free
-returns-in-Free c = let latest = c.latest in
-    let args = c.args in
-    laws.sent _ (header_of read_latest_kind args.node args.ask.0) [] _ _ _ (laws.read_latest _ _ _ c.in-Free.is) latest.ensures
+pub returns-in-None : goal.returns-in-None
+returns-in-None c = laws.sent _ (header_of read_latest_kind c.args.node c.args.ask.0) [] _ _ _ (laws.read_latest _ _ _ c.in-None.is) c.latest.ensures
 
-pub returns-in-Under : goal.returns-in-Under
-returns-in-Under c = let previous = c.previous in
-    let args = c.args in
-    laws.sent _ (header_of read_previous_kind args.node args.ask.0) (be 40 (stamp_number c.in-Under.u)) _ _ _ (laws.read_previous _ _ _ _ c.in-Under.is)
-    previous.ensures
+pub returns-in-Some : goal.returns-in-Some
+returns-in-Some c =
+    laws.sent _ (header_of read_previous_kind c.args.node c.args.ask.0) (be 40 (stamp_number c.in-Some.u)) _ _ _
+    (laws.read_previous _ _ _ _ c.in-Some.is) c.previous.ensures

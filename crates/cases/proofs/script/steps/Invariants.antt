@@ -1,9 +1,6 @@
--- Each step ends behind where it begins, within the line.
-use Rattle.std.proofs.Common.{length, ◌-◌, ◌≤◌}
+-- Each step leaves less of the line.
+use Rattle.std.proofs.Common.{length}
 use Rattle.cases.proofs.script.steps.Given as goal
 
-abbrev pub invariant-loop-k : goal.invariant-loop-k
-invariant-loop-k l = l.k ≤ length l.s
-
-abbrev pub decreases-loop-k : goal.decreases-loop-k
-decreases-loop-k l = length l.s - l.k
+abbrev pub decreases-loop-left : goal.decreases-loop-left
+decreases-loop-left l = length l.left

@@ -1,13 +1,11 @@
 use mathlib.Core.Path.{◌≡◌}
-use Prim.Native.Nat.{◌+◌, ◌-◌, ◌≤◌}
+use Prim.Native.Nat.{ℕ}
 use lib.Bits.{bit_xor}
-use lib.ListN.{length, get_or}
+use lib.ListN.{get_or}
 use Rattle.field.specs.Field.{mul}
+use Rattle.field.specs.Inside.{number}
 use Rattle.field.proofs.Loops.{Upto}
 use Rattle.field.proofs.sums.scale_add.Given as goal
 
 abbrev pub invariant-loop-i : goal.invariant-loop-i
-invariant-loop-i l = (l.n ≡ length l.initial.acc) × (l.i ≤ l.n) × Upto (λ k. bit_xor (mul l.g (get_or l.initial.acc k 0)) (get_or l.src (l.a + k) 0)) l.i l.initial.acc l.acc
-
-abbrev pub decreases-loop-i : goal.decreases-loop-i
-decreases-loop-i l = l.n - l.i
+invariant-loop-i g l = Upto (λ k v. (x : ℕ) × goal.F-post g l.added k x × (v ≡ bit_xor (mul (number l.g) (get_or l.initial.acc k 0)) x)) l.i l.initial.acc l.acc

@@ -1,25 +1,16 @@
-use mathlib.Core.Path.{ap, sym, ◌∙◌}
-use Prim.Native.Nat.{ℕ}
 use native.Mathlib.Omega.{arith}
-use lib.ListN.{get_or}
-use Rattle.field.specs.Field.{xtime, mul}
 use Rattle.field.proofs.Laws.{twice_mul}
 use Rattle.field.proofs.Horner.{paid_twice}
 use Rattle.field.proofs.sums.twice.Goals as goal
 
-pub scale-requires : goal.scale-requires
-scale-requires c = (omega arith, λ z. omega arith)
+pub returns-in-Zero : goal.returns-in-Zero
+returns-in-Zero c = λ k h. rw c.in-Zero.is (twice_mul 0 _ (omega arith))
 
-pub returns-then-owed-eq4 : goal.returns-then-owed-eq4
-returns-then-owed-eq4 c = (
-  (omega arith, λ z. omega arith),
-  λ k h.
-      let x : ℕ = get_or c.args.acc.now k 0 in
-      paid_twice x _ (c.scale.ensures k h) ∙ ap (λ (g : ℕ). xtime (mul g x)) (sym c.if-owed-eq4.true),
-)
+pub returns-in-One : goal.returns-in-One
+returns-in-One c = λ k h. rw c.in-One.is (twice_mul 1 _ (omega arith))
 
-pub overflow_mul-result : goal.overflow_mul-result
-overflow_mul-result c = omega (arith, c.requires.0)
+pub returns-in-Two : goal.returns-in-Two
+returns-in-Two c = λ k h. rw c.in-Two.is (twice_mul 2 _ (omega arith))
 
-pub returns : goal.returns
-returns c = ((omega (arith, c.requires.0, c.requires.1, c.if-owed-eq4.false), λ z. omega arith), λ k h. twice_mul c.args.owed _ (omega (arith, c.requires.0)))
+pub returns-in-Four : goal.returns-in-Four
+returns-in-Four c = λ k h. rw c.in-Four.is (paid_twice _ _ (c.scale.ensures k h))

@@ -1,12 +1,16 @@
-use Rattle.pasis.proofs.Laws as laws
+use mathlib.Core.Path.{refl}
 use borrow.Author.Tests.{eqb-true}
+use Rattle.std.proofs.lemmas.Result.{err_from_is_err_and}
+use Rattle.pasis.proofs.Laws as laws
 use Rattle.pasis.proofs.client.open_into.Goals as goal
 
-pub returns-then-k-ne0 : goal.returns-then-k-ne0
-returns-then-k-ne0 c = laws.open_refused _ _ _ _ _ (laws.lent_is _ _ _ _ c.plan_of-p.ensures c.lent-k.ensures) c.if-k-ne0.true
+pub returns-in_err-lent : goal.returns-in_err-lent
+returns-in_err-lent c =
+    let p = err_from_is_err_and c.from_residual.result c.from_residual.ensures.1 in
+    rw (p.1, p.2) (laws.open_refused _ _ _ _ _ (laws.lent_is _ _ _ _ c.plan_of-p.ensures (laws.as_err _ _ _ c.lent.ensures c.in_err-lent.was)) (laws.not_zero _))
 
 pub keep_opened-requires : goal.keep_opened-requires
-keep_opened-requires c = eqb-true _ _ (laws.lent_fits _ _ _ (laws.lent_is _ _ _ _ c.plan_of-p.ensures c.lent-k.ensures) c.if-k-ne0.false)
+keep_opened-requires c = eqb-true _ _ (laws.lent_fits _ _ _ (laws.lent_is _ _ _ _ c.plan_of-p.ensures (laws.as_ok _ _ _ c.lent.ensures c.in_ok-lent.was)) refl)
 
 pub returns : goal.returns
-returns c = laws.open_kept _ _ _ _ _ (laws.lent_is _ _ _ _ c.plan_of-p.ensures c.lent-k.ensures) _ _ _ _ c.if-k-ne0.false c.plan_of-p.ensures c.open_as-o.ensures c.keep_opened.ensures
+returns c = laws.open_kept _ _ _ _ _ (laws.lent_is _ _ _ _ c.plan_of-p.ensures (laws.as_ok _ _ _ c.lent.ensures c.in_ok-lent.was)) _ _ _ _ refl c.plan_of-p.ensures c.open_as.ensures c.keep_opened.ensures

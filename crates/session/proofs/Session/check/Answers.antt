@@ -21,12 +21,6 @@ returns-then-not-plan_ok c =
     let at_plan : Down (λ (l : List Rung). l) 1 = top 1 (reply_ladder c.args.op c.args.p c.args.self c.args.frame.now c.args.desk.now c.args.item) refl in
     (stop _ _ (at_plan) (ap not (sym c.plan_ok.ensures) ∙ (ap not c.if-not-plan_ok.true)) refl, tt)
 
-pub lengths_ok-requires : goal.lengths_ok-requires
-lengths_ok-requires c =
-    let at_plan : Down (λ (l : List Rung). l) 1 = top 1 (reply_ladder c.args.op c.args.p c.args.self c.args.frame.now c.args.desk.now c.args.item) refl in
-    let at_lengths : Down (λ (l : List Rung). l) 2 = next 2 (at_plan) refl (ap not (sym c.plan_ok.ensures) ∙ (ap not c.if-not-plan_ok.false)) in
-    not-false _ (left 1 (at_lengths))
-
 pub returns-then-not-lengths_ok : goal.returns-then-not-lengths_ok
 returns-then-not-lengths_ok c =
     let at_plan : Down (λ (l : List Rung). l) 1 = top 1 (reply_ladder c.args.op c.args.p c.args.self c.args.frame.now c.args.desk.now c.args.item) refl in
@@ -46,7 +40,7 @@ ranges_ok-requires c =
     let at_lengths : Down (λ (l : List Rung). l) 2 = next 2 (at_plan) refl (ap not (sym c.plan_ok.ensures) ∙ (ap not c.if-not-plan_ok.false)) in
     let at_range : Down (λ (l : List Rung). l) 9 = next 9 (at_lengths) refl (ap not (sym c.lengths_ok.ensures) ∙ (ap not c.if-not-lengths_ok.false)) in
     let d = at_range in
-    (not-false _ (left 1 d), rules.desk_fits _ _ _ (not-false _ (left 2 d)))
+    rules.desk_fits _ _ _ (not-false _ (left 2 d))
 
 pub returns-then-not-ranges_ok : goal.returns-then-not-ranges_ok
 returns-then-not-ranges_ok c =
@@ -65,16 +59,6 @@ returns-then-ended c =
     next 14 (at_range) refl (ap not (sym (rules.and_last (sym same.ensures ∙ c.if-not-same_operation.false) c.ranges_ok.ensures)) ∙ (ap not c.if-not-ranges_ok.false)) in
     (stop _ _ (at_end) (sym c.ended.ensures ∙ c.if-ended.true) refl, tt)
 
-pub reply_at-door-requires : goal.reply_at-door-requires
-reply_at-door-requires c =
-    let at_plan : Down (λ (l : List Rung). l) 1 = top 1 (reply_ladder c.args.op c.args.p c.args.self c.args.frame.now c.args.desk.now c.args.item) refl in
-    let at_lengths : Down (λ (l : List Rung). l) 2 = next 2 (at_plan) refl (ap not (sym c.plan_ok.ensures) ∙ (ap not c.if-not-plan_ok.false)) in
-    let at_range : Down (λ (l : List Rung). l) 9 = next 9 (at_lengths) refl (ap not (sym c.lengths_ok.ensures) ∙ (ap not c.if-not-lengths_ok.false)) in
-    let at_end : Down (λ (l : List Rung). l) 14 = let same = c.same_operation in
-    next 14 (at_range) refl (ap not (sym (rules.and_last (sym same.ensures ∙ c.if-not-same_operation.false) c.ranges_ok.ensures)) ∙ (ap not c.if-not-ranges_ok.false)) in
-    let at_frame : Down (λ (l : List Rung). l) 4 = next 4 (at_end) refl (sym c.ended.ensures ∙ c.if-ended.false) in
-    not-false _ (left 1 (at_frame))
-
 pub check_awaited-requires : goal.check_awaited-requires
 check_awaited-requires c =
     let at_plan : Down (λ (l : List Rung). l) 1 = top 1 (reply_ladder c.args.op c.args.p c.args.self c.args.frame.now c.args.desk.now c.args.item) refl in
@@ -83,7 +67,7 @@ check_awaited-requires c =
     let at_end : Down (λ (l : List Rung). l) 14 = let same = c.same_operation in
     next 14 (at_range) refl (ap not (sym (rules.and_last (sym same.ensures ∙ c.if-not-same_operation.false) c.ranges_ok.ensures)) ∙ (ap not c.if-not-ranges_ok.false)) in
     let at_frame : Down (λ (l : List Rung). l) 4 = next 4 (at_end) refl (sym c.ended.ensures ∙ c.if-ended.false) in
-    let opened : let a = c.args in Opened (good_reply a.p a.frame.now) a.frame.now c.in-Open.h = was_open _ _ _ (sym c.in-Open.is ∙ c.reply_at-door.ensures) in
+    let opened : let a = c.args in Opened (good_reply a.p a.frame.now) a.frame.now c.in-Some.h = was_open _ _ _ (sym c.in-Some.is ∙ c.reply_at.ensures) in
     let at_awaited : Down (λ (l : List Rung). l) 10 = next 10 (at_frame) refl (ap not opened.good) in
     let d = at_awaited in
     let a = c.args in
@@ -91,10 +75,10 @@ check_awaited-requires c =
     let r = reply_is a.p a.frame.now (not-false _ (left 4 d)) in
     let h = (opened).is in
     let st = here.range_stands a.p a.self a.desk.now (rules.and_second (same_operation a.op a.self.operation) _ (not-false _ (left 9 d))) in
-    (st.low, here.ask_high _ _ st, h, here.header_stamped _ _ _ h r, omega (arith, ap (λ (x : Header). x.node) h, r.node_low, q.n_high))
+    (st.low, here.ask_high _ _ st)
 
-pub returns-in-Bad : goal.returns-in-Bad
-returns-in-Bad c =
+pub returns-in_default : goal.returns-in_default
+returns-in_default c =
     let at_plan : Down (λ (l : List Rung). l) 1 = top 1 (reply_ladder c.args.op c.args.p c.args.self c.args.frame.now c.args.desk.now c.args.item) refl in
     let at_lengths : Down (λ (l : List Rung). l) 2 = next 2 (at_plan) refl (ap not (sym c.plan_ok.ensures) ∙ (ap not c.if-not-plan_ok.false)) in
     let at_range : Down (λ (l : List Rung). l) 9 = next 9 (at_lengths) refl (ap not (sym c.lengths_ok.ensures) ∙ (ap not c.if-not-lengths_ok.false)) in
@@ -103,16 +87,16 @@ returns-in-Bad c =
     let at_frame : Down (λ (l : List Rung). l) 4 = next 4 (at_end) refl (sym c.ended.ensures ∙ c.if-ended.false) in
     let d = at_frame in
     let a = c.args in
-    (stop _ _ d (ap not (was_shut (good_reply a.p a.frame.now) a.frame.now (sym c.in-Bad.is ∙ c.reply_at-door.ensures))) refl, tt)
+    (stop _ _ d (ap not (was_shut (good_reply a.p a.frame.now) a.frame.now (sym c.in_default.is ∙ c.reply_at.ensures))) refl, tt)
 
-pub returns-in-Open : goal.returns-in-Open
-returns-in-Open c =
+pub returns : goal.returns
+returns c =
     let at_plan : Down (λ (l : List Rung). l) 1 = top 1 (reply_ladder c.args.op c.args.p c.args.self c.args.frame.now c.args.desk.now c.args.item) refl in
     let at_lengths : Down (λ (l : List Rung). l) 2 = next 2 (at_plan) refl (ap not (sym c.plan_ok.ensures) ∙ (ap not c.if-not-plan_ok.false)) in
     let at_range : Down (λ (l : List Rung). l) 9 = next 9 (at_lengths) refl (ap not (sym c.lengths_ok.ensures) ∙ (ap not c.if-not-lengths_ok.false)) in
     let at_end : Down (λ (l : List Rung). l) 14 = let same = c.same_operation in
     next 14 (at_range) refl (ap not (sym (rules.and_last (sym same.ensures ∙ c.if-not-same_operation.false) c.ranges_ok.ensures)) ∙ (ap not c.if-not-ranges_ok.false)) in
     let at_frame : Down (λ (l : List Rung). l) 4 = next 4 (at_end) refl (sym c.ended.ensures ∙ c.if-ended.false) in
-    let opened : let a = c.args in Opened (good_reply a.p a.frame.now) a.frame.now c.in-Open.h = was_open _ _ _ (sym c.in-Open.is ∙ c.reply_at-door.ensures) in
+    let opened : let a = c.args in Opened (good_reply a.p a.frame.now) a.frame.now c.in-Some.h = was_open _ _ _ (sym c.in-Some.is ∙ c.reply_at.ensures) in
     let at_awaited : Down (λ (l : List Rung). l) 10 = next 10 (at_frame) refl (ap not opened.good) in
     (goes_on _ _ (at_awaited) c.check_awaited.ensures.0, c.check_awaited.ensures.1)

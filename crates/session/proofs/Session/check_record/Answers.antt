@@ -15,74 +15,67 @@ use Rattle.standing.proofs.Rules as rules
 use Rattle.session.proofs.Readers as laws
 use Rattle.session.proofs.Session.check_record.Goals as goal
 
-pub bears_record-requires : goal.bears_record-requires
-bears_record-requires c = (c.requires.0, c.requires.2)
-
 pub returns-then-not-bears_record : goal.returns-then-not-bears_record
 returns-then-not-bears_record c = laws.no_record _ c.args.self _ (sym c.bears_record.ensures ∙ c.if-not-bears_record.true)
 
 pub time_zero-requires : goal.time_zero-requires
 time_zero-requires c =
-    let borne : bears c.args.p c.args.frame.now ≡ true = sym c.bears_record.ensures ∙ c.if-not-bears_record.false in
-    let long : framed 1 40 ≤ length c.args.frame.now = let args = c.args in
-    omega (arith, laws.bears_length args.p args.frame.now (borne), rules.record_long args.p) in
+    let borne : bears c.args.f.plan.plan c.args.f.bytes.now ≡ true = sym c.bears_record.ensures ∙ c.if-not-bears_record.false in
+    let long : framed 1 40 ≤ length c.args.f.bytes.now = let args = c.args in
+    omega (arith, laws.bears_length args.f.plan.plan args.f.bytes.now (borne), rules.record_long args.f.plan.plan) in
     omega (arith, long, c.head_bytes-at.ensures)
 
 pub returns-then-time_zero : goal.returns-then-time_zero
 returns-then-time_zero c =
-    let at_time : Down (λ (l : List Rung). l) 5 = top 5 (record_ladder c.args.p c.args.self c.args.frame.now) refl in
-    let borne : bears c.args.p c.args.frame.now ≡ true = sym c.bears_record.ensures ∙ c.if-not-bears_record.false in
-    let zero_is : let a = c.args in c.time_zero.result ≡ (bears a.p a.frame.now and time_zero (body_of a.frame.now)) = rules.and_last (borne) (laws.zero_at _ _ _ c.head_bytes-at.ensures c.time_zero.ensures) in
+    let at_time : Down (λ (l : List Rung). l) 5 = top 5 (record_ladder c.args.f.plan.plan c.args.self c.args.f.bytes.now) refl in
+    let borne : bears c.args.f.plan.plan c.args.f.bytes.now ≡ true = sym c.bears_record.ensures ∙ c.if-not-bears_record.false in
+    let zero_is : let a = c.args in c.time_zero.result ≡ (bears a.f.plan.plan a.f.bytes.now and time_zero (body_of a.f.bytes.now)) = rules.and_last (borne) (laws.zero_at _ _ _ c.head_bytes-at.ensures c.time_zero.ensures) in
     stop _ _ (at_time) (sym (zero_is) ∙ c.if-time_zero.true) refl
 
 pub hashes_ok-requires : goal.hashes_ok-requires
 hashes_ok-requires c =
-    let at_time : Down (λ (l : List Rung). l) 5 = top 5 (record_ladder c.args.p c.args.self c.args.frame.now) refl in
-    let borne : bears c.args.p c.args.frame.now ≡ true = sym c.bears_record.ensures ∙ c.if-not-bears_record.false in
-    let zero_is : let a = c.args in c.time_zero.result ≡ (bears a.p a.frame.now and time_zero (body_of a.frame.now)) = rules.and_last (borne) (laws.zero_at _ _ _ c.head_bytes-at.ensures c.time_zero.ensures) in
-    let at_hash : Down (λ (l : List Rung). l) 6 = next 6 (at_time) refl (sym (zero_is) ∙ c.if-time_zero.false) in (
-      c.requires.0,
-      omega (arith, laws.bears_length _ _ (borne), c.head_bytes-at.ensures),
-      omega (arith, ap (λ (x : Header). x.node) c.requires.2, (reply_is _ _ c.requires.1).node_low),
-    )
+    let at_time : Down (λ (l : List Rung). l) 5 = top 5 (record_ladder c.args.f.plan.plan c.args.self c.args.f.bytes.now) refl in
+    let borne : bears c.args.f.plan.plan c.args.f.bytes.now ≡ true = sym c.bears_record.ensures ∙ c.if-not-bears_record.false in
+    let zero_is : let a = c.args in c.time_zero.result ≡ (bears a.f.plan.plan a.f.bytes.now and time_zero (body_of a.f.bytes.now)) = rules.and_last (borne) (laws.zero_at _ _ _ c.head_bytes-at.ensures c.time_zero.ensures) in
+    let at_hash : Down (λ (l : List Rung). l) 6 = next 6 (at_time) refl (sym (zero_is) ∙ c.if-time_zero.false) in (omega (arith, laws.bears_length _ _ (borne), c.head_bytes-at.ensures), omega (arith, ap (λ (x : Header). x.node) c.args.f.read, (reply_is _ _ c.args.f.good).node_low))
 
 pub returns-then-not-hashes_ok : goal.returns-then-not-hashes_ok
 returns-then-not-hashes_ok c =
-    let at_time : Down (λ (l : List Rung). l) 5 = top 5 (record_ladder c.args.p c.args.self c.args.frame.now) refl in
-    let borne : bears c.args.p c.args.frame.now ≡ true = sym c.bears_record.ensures ∙ c.if-not-bears_record.false in
-    let zero_is : let a = c.args in c.time_zero.result ≡ (bears a.p a.frame.now and time_zero (body_of a.frame.now)) = rules.and_last (borne) (laws.zero_at _ _ _ c.head_bytes-at.ensures c.time_zero.ensures) in
+    let at_time : Down (λ (l : List Rung). l) 5 = top 5 (record_ladder c.args.f.plan.plan c.args.self c.args.f.bytes.now) refl in
+    let borne : bears c.args.f.plan.plan c.args.f.bytes.now ≡ true = sym c.bears_record.ensures ∙ c.if-not-bears_record.false in
+    let zero_is : let a = c.args in c.time_zero.result ≡ (bears a.f.plan.plan a.f.bytes.now and time_zero (body_of a.f.bytes.now)) = rules.and_last (borne) (laws.zero_at _ _ _ c.head_bytes-at.ensures c.time_zero.ensures) in
     let at_hash : Down (λ (l : List Rung). l) 6 = next 6 (at_time) refl (sym (zero_is) ∙ c.if-time_zero.false) in
-    let hash_is : let a = c.args in not c.hashes_ok.result ≡ (bears a.p a.frame.now and not (hashes_ok a.p (frame_node a.frame.now) (body_of a.frame.now))) = rules.and_last (borne)
-    (ap not (laws.hashes_at _ _ _ _ (borne) (ap (λ (x : Header). x.node) c.requires.2) c.head_bytes-at.ensures _ c.hashes_ok.ensures)) in
+    let hash_is : let a = c.args in not c.hashes_ok.result ≡ (bears a.f.plan.plan a.f.bytes.now and not (hashes_ok a.f.plan.plan (frame_node a.f.bytes.now) (body_of a.f.bytes.now))) = rules.and_last (borne)
+    (ap not (laws.hashes_at _ _ _ _ (borne) (ap (λ (x : Header). x.node) c.args.f.read) c.head_bytes-at.ensures _ c.hashes_ok.ensures)) in
     stop _ _ (at_hash) (sym (hash_is) ∙ (ap not c.if-not-hashes_ok.true)) refl
 
 pub under-requires : goal.under-requires
 under-requires c =
-    let borne : bears c.args.p c.args.frame.now ≡ true = sym c.bears_record.ensures ∙ c.if-not-bears_record.false in
-    let long : framed 1 40 ≤ length c.args.frame.now = let args = c.args in
-    omega (arith, laws.bears_length args.p args.frame.now (borne), rules.record_long args.p) in
+    let borne : bears c.args.f.plan.plan c.args.f.bytes.now ≡ true = sym c.bears_record.ensures ∙ c.if-not-bears_record.false in
+    let long : framed 1 40 ≤ length c.args.f.bytes.now = let args = c.args in
+    omega (arith, laws.bears_length args.f.plan.plan args.f.bytes.now (borne), rules.record_long args.f.plan.plan) in
     omega (arith, long, c.head_bytes-at.ensures)
 
 pub returns-then-not-under : goal.returns-then-not-under
 returns-then-not-under c =
-    let at_time : Down (λ (l : List Rung). l) 5 = top 5 (record_ladder c.args.p c.args.self c.args.frame.now) refl in
-    let borne : bears c.args.p c.args.frame.now ≡ true = sym c.bears_record.ensures ∙ c.if-not-bears_record.false in
-    let zero_is : let a = c.args in c.time_zero.result ≡ (bears a.p a.frame.now and time_zero (body_of a.frame.now)) = rules.and_last (borne) (laws.zero_at _ _ _ c.head_bytes-at.ensures c.time_zero.ensures) in
+    let at_time : Down (λ (l : List Rung). l) 5 = top 5 (record_ladder c.args.f.plan.plan c.args.self c.args.f.bytes.now) refl in
+    let borne : bears c.args.f.plan.plan c.args.f.bytes.now ≡ true = sym c.bears_record.ensures ∙ c.if-not-bears_record.false in
+    let zero_is : let a = c.args in c.time_zero.result ≡ (bears a.f.plan.plan a.f.bytes.now and time_zero (body_of a.f.bytes.now)) = rules.and_last (borne) (laws.zero_at _ _ _ c.head_bytes-at.ensures c.time_zero.ensures) in
     let at_hash : Down (λ (l : List Rung). l) 6 = next 6 (at_time) refl (sym (zero_is) ∙ c.if-time_zero.false) in
-    let hash_is : let a = c.args in not c.hashes_ok.result ≡ (bears a.p a.frame.now and not (hashes_ok a.p (frame_node a.frame.now) (body_of a.frame.now))) = rules.and_last (borne)
-    (ap not (laws.hashes_at _ _ _ _ (borne) (ap (λ (x : Header). x.node) c.requires.2) c.head_bytes-at.ensures _ c.hashes_ok.ensures)) in
+    let hash_is : let a = c.args in not c.hashes_ok.result ≡ (bears a.f.plan.plan a.f.bytes.now and not (hashes_ok a.f.plan.plan (frame_node a.f.bytes.now) (body_of a.f.bytes.now))) = rules.and_last (borne)
+    (ap not (laws.hashes_at _ _ _ _ (borne) (ap (λ (x : Header). x.node) c.args.f.read) c.head_bytes-at.ensures _ c.hashes_ok.ensures)) in
     let at_bound : Down (λ (l : List Rung). l) 12 = next 12 (at_hash) refl (sym (hash_is) ∙ (ap not c.if-not-hashes_ok.false)) in
     let d = at_bound in
     stop _ _ d (sym (rules.and_last (borne) (ap not (laws.under_at _ _ _ _ c.head_bytes-at.ensures c.under.ensures))) ∙ (ap not c.if-not-under.true)) refl
 
 pub returns : goal.returns
 returns c =
-    let at_time : Down (λ (l : List Rung). l) 5 = top 5 (record_ladder c.args.p c.args.self c.args.frame.now) refl in
-    let borne : bears c.args.p c.args.frame.now ≡ true = sym c.bears_record.ensures ∙ c.if-not-bears_record.false in
-    let zero_is : let a = c.args in c.time_zero.result ≡ (bears a.p a.frame.now and time_zero (body_of a.frame.now)) = rules.and_last (borne) (laws.zero_at _ _ _ c.head_bytes-at.ensures c.time_zero.ensures) in
+    let at_time : Down (λ (l : List Rung). l) 5 = top 5 (record_ladder c.args.f.plan.plan c.args.self c.args.f.bytes.now) refl in
+    let borne : bears c.args.f.plan.plan c.args.f.bytes.now ≡ true = sym c.bears_record.ensures ∙ c.if-not-bears_record.false in
+    let zero_is : let a = c.args in c.time_zero.result ≡ (bears a.f.plan.plan a.f.bytes.now and time_zero (body_of a.f.bytes.now)) = rules.and_last (borne) (laws.zero_at _ _ _ c.head_bytes-at.ensures c.time_zero.ensures) in
     let at_hash : Down (λ (l : List Rung). l) 6 = next 6 (at_time) refl (sym (zero_is) ∙ c.if-time_zero.false) in
-    let hash_is : let a = c.args in not c.hashes_ok.result ≡ (bears a.p a.frame.now and not (hashes_ok a.p (frame_node a.frame.now) (body_of a.frame.now))) = rules.and_last (borne)
-    (ap not (laws.hashes_at _ _ _ _ (borne) (ap (λ (x : Header). x.node) c.requires.2) c.head_bytes-at.ensures _ c.hashes_ok.ensures)) in
+    let hash_is : let a = c.args in not c.hashes_ok.result ≡ (bears a.f.plan.plan a.f.bytes.now and not (hashes_ok a.f.plan.plan (frame_node a.f.bytes.now) (body_of a.f.bytes.now))) = rules.and_last (borne)
+    (ap not (laws.hashes_at _ _ _ _ (borne) (ap (λ (x : Header). x.node) c.args.f.read) c.head_bytes-at.ensures _ c.hashes_ok.ensures)) in
     let at_bound : Down (λ (l : List Rung). l) 12 = next 12 (at_hash) refl (sym (hash_is) ∙ (ap not c.if-not-hashes_ok.false)) in
     let d = at_bound in
     end _ _

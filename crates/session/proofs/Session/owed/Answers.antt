@@ -1,23 +1,29 @@
+use Rattle.session.proofs.Known.{known_owed}
+use lib.ListN.{length}
 use mathlib.Core.Path.{ap}
+use Rattle.std.proofs.lemmas.Result.{err_from_is_err_and}
 use Rattle.session.specs.Reply.{check_number}
 use Rattle.session.proofs.Checks.{check_passed}
 use Rattle.session.proofs.Oweds as laws
 use Rattle.session.proofs.Session.owed.Goals as goal
 
-pub write_request-n-requires : goal.write_request-n-requires
-write_request-n-requires c = let owed_check = c.owed_check-c in
-    check_passed _ _ owed_check.ensures (ap check_number c.in-Passed.is)
+pub write_request-requires : goal.write_request-requires
+write_request-requires c = check_passed _ _ c.owed_check.ensures (ap check_number c.in_ok-owed_check.was)
 
-pub returns-in-Failed : goal.returns-in-Failed
-returns-in-Failed c = let owed_check = c.owed_check-c in
-    let args = c.args in
-    record { is = laws.owed_refused args.p args.self _ _ _ _ owed_check.ensures _ c.in-Failed.is }
+pub returns-in_err-owed_check : goal.returns-in_err-owed_check
+returns-in_err-owed_check c =
+    let p = err_from_is_err_and c.from_residual.result c.from_residual.ensures.1 in
+    let a = c.args in
+    rw (p.1, p.2) (record { is = laws.owed_refused a.p a.self _ _ _ _ c.owed_check.ensures _ c.in_err-owed_check.was })
 
-pub returns-in-Passed : goal.returns-in-Passed
-returns-in-Passed c = let write_request = c.write_request-n in
-    let owed_check = c.owed_check-c in
-    let args = c.args in
+pub returns : goal.returns
+returns c =
+    let a = c.args in
+    record { is = laws.owed_written a.p a.self _ _ _ _ _ (check_passed _ _ c.owed_check.ensures (ap check_number c.in_ok-owed_check.was)) c.write_request.ensures }
+
+pub invariant_of-accepted : goal.invariant_of-accepted
+invariant_of-accepted c =
+    let a = c.args in
     record {
-      is = laws.owed_written args.p args.self _ _ _ _ _ (check_passed _ _ owed_check.ensures (ap check_number c.in-Passed.is))
-          write_request.ensures;
+      within = (known_owed a.p a.self a.node a.desk.now (length a.request.now) (check_passed _ _ c.owed_check.ensures (ap check_number c.in_ok-owed_check.was))).plan_is_ok;
     }

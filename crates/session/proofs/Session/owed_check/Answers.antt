@@ -15,12 +15,6 @@ returns-then-not-plan_ok c =
     let at_plan : Down (λ (l : List Rung). l) 1 = top 1 (owed_ladder c.args.p c.args.self c.args.node c.args.desk.now c.args.request) refl in
     stop _ _ (at_plan) (ap not (sym c.plan_ok.ensures) ∙ (ap not c.if-not-plan_ok.true)) refl
 
-pub room_ok-requires : goal.room_ok-requires
-room_ok-requires c =
-    let at_plan : Down (λ (l : List Rung). l) 1 = top 1 (owed_ladder c.args.p c.args.self c.args.node c.args.desk.now c.args.request) refl in
-    let at_room : Down (λ (l : List Rung). l) 2 = next 2 (at_plan) refl (ap not (sym c.plan_ok.ensures) ∙ (ap not c.if-not-plan_ok.false)) in
-    not-false _ (left 1 (at_room))
-
 pub returns-then-not-room_ok : goal.returns-then-not-room_ok
 returns-then-not-room_ok c =
     let at_plan : Down (λ (l : List Rung). l) 1 = top 1 (owed_ladder c.args.p c.args.self c.args.node c.args.desk.now c.args.request) refl in
@@ -33,7 +27,7 @@ ranges_ok-requires c =
     let at_room : Down (λ (l : List Rung). l) 2 = next 2 (at_plan) refl (ap not (sym c.plan_ok.ensures) ∙ (ap not c.if-not-plan_ok.false)) in
     let at_range : Down (λ (l : List Rung). l) 9 = next 9 (at_room) refl (ap not (sym c.room_ok.ensures) ∙ (ap not c.if-not-room_ok.false)) in
     let d = at_range in
-    (not-false _ (left 1 d), (rules.room_is _ _ _ (not-false _ (left 2 d))).desk_is)
+    (rules.room_is _ _ _ (not-false _ (left 2 d))).desk_is
 
 pub returns-then-not-ranges_ok : goal.returns-then-not-ranges_ok
 returns-then-not-ranges_ok c =

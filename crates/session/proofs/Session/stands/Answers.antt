@@ -9,7 +9,7 @@ unfolding standing_rules
 returns-then-not-stands c = rules.fails _ (sym c.stands.ensures ∙ c.if-not-stands.true)
 
 pub rest_unheard-requires : goal.rest_unheard-requires
-rest_unheard-requires c = (plan_is _ c.requires).n_high
+rest_unheard-requires c = (plan_is _ c.args.p.within).n_high
 
 pub returns-then-not-rest_unheard : goal.returns-then-not-rest_unheard
 unfolding standing_rules

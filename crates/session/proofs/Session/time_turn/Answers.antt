@@ -7,11 +7,11 @@ use Rattle.session.proofs.Session.time_turn.Goals as goal
 
 pub returns-then-round_open : goal.returns-then-round_open
 returns-then-round_open c = let args = c.args in
-    laws.time_open args.p args.self _ _ c.round_open.ensures _ c.if-round_open.true
+    laws.time_open args.p.plan args.self _ _ c.round_open.ensures _ c.if-round_open.true
 
 pub returns-then-spent : goal.returns-then-spent
 returns-then-spent c = let args = c.args in
-    laws.clock_spent_lem args.p args.self _ _ c.round_open.ensures c.if-round_open.false _ _ c.kth_reply-g.ensures _
+    laws.clock_spent_lem args.p.plan args.self _ _ c.round_open.ensures c.if-round_open.false _ _ c.kth_reply-g.ensures _
     c.spent.ensures c.if-spent.true _ c.over-s.ensures
 
 pub overflow_add-g : goal.overflow_add-g
@@ -20,5 +20,5 @@ overflow_add-g c = let z = eqb-false c.kth_reply-g.result.0 top (sym c.spent.ens
 
 pub returns : goal.returns
 returns c = let args = c.args in
-    laws.write_opens args.p args.self _ _ c.round_open.ensures c.if-round_open.false args.item.now _ c.kth_reply-g.ensures _
+    laws.write_opens args.p.plan args.self _ _ c.round_open.ensures c.if-round_open.false args.item.now _ c.kth_reply-g.ensures _
     c.spent.ensures c.if-spent.false _ _ _ c.store-s.ensures c.write_records-t.ensures

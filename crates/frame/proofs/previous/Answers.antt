@@ -1,5 +1,0 @@
-use Rattle.frame.proofs.Built as built
-use Rattle.frame.proofs.previous.Goals as goal
-
-pub returns : goal.returns
-returns c = built.wrote_of c.asking-h.ensures c.with_stamp.ensures

@@ -1,4 +1,0 @@
-use Rattle.lanes.proofs.rows_from.Goals as goal
-
-pub returns : goal.returns
-returns c = cc

@@ -1,0 +1,18 @@
+use mathlib.Core.Path.{refl}
+use borrow.Author.Tests.{eqb-true}
+use Rattle.answers.proofs.Laws as answers
+use Rattle.std.proofs.lemmas.Result.{err_from_is_err_and}
+use Rattle.pasis.proofs.Laws as laws
+use Rattle.pasis.proofs.storage.run_into.Goals as goal
+
+pub returns-in_err-lent : goal.returns-in_err-lent
+returns-in_err-lent c =
+    let p = err_from_is_err_and c.from_residual.result c.from_residual.ensures.1 in
+    rw (p.1, p.2) (laws.run_refused _ _ _ _ _ _ _ (laws.lent_is _ _ _ _ c.plan_of-p.ensures (laws.as_err _ _ _ c.lent.ensures c.in_err-lent.was)) (laws.not_zero _))
+
+pub put_told-requires : goal.put_told-requires
+put_told-requires c = eqb-true _ _ (laws.lent_fits _ _ _ (laws.lent_is _ _ _ _ c.plan_of-p.ensures (laws.as_ok _ _ _ c.lent.ensures c.in_ok-lent.was)) refl)
+
+pub returns : goal.returns
+returns c =
+    laws.run_served _ _ _ _ _ _ _ (laws.lent_is _ _ _ _ c.plan_of-p.ensures (laws.as_ok _ _ _ c.lent.ensures c.in_ok-lent.was)) _ _ _ _ _ _ _ refl c.plan_of-p.ensures c.serve_run-a.ensures c.put_told.ensures (answers.ran_is c.serve_run-a.result)

@@ -82,6 +82,7 @@ pub fn put_told(a: Result<Ran, Refusal>, told: &mut [u8])
 }
 
 // Writes the timestamp and the rounds of an ending.
+// An ending is lent by C as a slice, here and below, and its length is a rule of the call: an array would be made of it at each call, for nothing.
 fn write_ending(t: Timestamp, rounds: u64, ending: &mut [u8])
     requires { length ending.old ≡ 42 }
     ensures { ending.new ≡ ending_bytes (stamp_number t) rounds }

@@ -52,6 +52,8 @@ pub fn lent(n: usize) -> bool
 }
 
 // The header as a value: version 1 has no more than the fixed bytes.
+// Here and below the bounds of a book stand beside its header: each of these is called at one or two places, where a literal of a type of the two would
+// stand in place of the clause, and an insertion asks for the bytes back.
 pub fn header_of(p: Accepted, book: &[u8]) -> Book
     requires { book_head 1 ≤ length book.now }
     ensures { (result ≡ book_in p.plan book.now) × (result.count < 65536) × (result.each ≤ 1576) × (73 ≤ result.each) }

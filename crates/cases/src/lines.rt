@@ -50,7 +50,7 @@ fn done(rt: &HostRuntime, w: &[u8]) -> io::Result<()> {
     Ok(())
 }
 
-// An answer in document 01's words: 101 to 105 are endings, 0 is an operation that goes on, any other a refusal.
+// An answer in document 01's words: 101 to 105 are endings, 0 is an operation that goes on, any other a refusal. A number, as the calls for C give it.
 pub fn told(rt: &HostRuntime, w: &[u8], a: u64) -> io::Result<()> {
     let n = number_at(w, ROUNDS, 2);
     match a {

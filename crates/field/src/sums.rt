@@ -121,6 +121,7 @@ fn twice(owed: Factor, acc: &mut [u8]) -> Factor
 
 // The sum of the sources that lie at the places `at` of src, each times its weight, as the whole of out. What out held is lost with the first
 // source, by the factor 0.
+// `at` and `w` stay two slices: the weights are made as one row of 16 bytes, a vector of the processor, and the specs speak of two lists.
 pub fn combine(src: &[u8], at: &[usize], w: &[u8], out: &mut [u8])
     requires { (length at.now ≡ length w.now) × (Within (length out.old) at.now src.now) }
     ensures { (i : ℕ) → i < length out.old

@@ -42,6 +42,7 @@ fn times_distance(q: u8, at: &[u8; 16], points: &[u8; 16], row: &mut [u8; 16])
 }
 
 // Each of a row times the distances of its x in `at` from the first m points but its own.
+// m is at most 16 here and below, as many as a row holds: it comes from a plan or from the points, and a type for it would be opened at each index.
 fn times_distances(m: usize, at: &[u8; 16], points: &[u8; 16], row: &mut [u8; 16])
     requires { m ≤ 16 }
     ensures { (k : ℕ) → k < 16 → get_or row.new k 0
@@ -111,6 +112,7 @@ fn combine(src: &[u8], s: Slots, b: Basis, x: u8, out: &mut [u8])
 }
 
 // Fragment x, from those of the basis in the slots s, as the whole of out.
+// What `Sources` says of src, slots and basis, here and in recover, is one word of the specs; the three come from different calls.
 pub fn regenerate(src: &[u8], s: Slots, b: Basis, x: u8, out: &mut [u8])
     requires { (Sources src.now s (points_of b)) × (length out.old ≡ s.fragment) }
     ensures { out.new ≡ regenerated src.now s (points_of b) x }

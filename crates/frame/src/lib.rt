@@ -11,7 +11,8 @@ ghost use Rattle.frame.specs.Frame.{read_latest_kind, read_previous_kind, head_b
 
 use terms::{Accepted, Ask, Time, Timestamp};
 
-// The kinds of frames.
+// The kinds of frames. Each kind is its byte, as `header_in` and `replying` of the specs say it: a header holds any byte that came, and refusal 4 comes
+// after the header is read.
 pub const TIME_REQUEST: u64 = 1;
 
 pub const TIME_REPLY: u64 = 2;

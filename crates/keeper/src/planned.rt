@@ -5,7 +5,7 @@ use plan_text::Wrong;
 use std::fmt;
 use terms::Plan;
 
-// The name of value k of a plan's text.
+// The name of value k of a plan's text, numbered as `plan_text` numbers it.
 fn name_of(k: usize) -> &'static str {
     match k {
         0 => "N",

@@ -45,6 +45,7 @@ fn is_write(f: &[u8]) -> bool
 }
 
 // Whether a run may change a book: one of its frames is a write request.
+// Each turn goes to the end of the frame, as `runs` does.
 pub fn asks_to_write(run: &[u8]) -> bool
     ensures { result ≡ asks_to_write run.now }
 {

@@ -31,6 +31,8 @@ pub struct Batch {
 }
 
 // The state of lane l.
+// Here and below a lane, a number of lanes or a round is a bound of a fixed array, had from the `for` it is called in: a type for it would be made at each
+// turn and opened at each index, a line for a clause.
 fn lane(s: &[u32; 64], l: usize) -> State
     requires { l < 8 }
     ensures { result ≡ lane_of s.now l }
@@ -222,6 +224,7 @@ fn row_at(r: Rows, i: usize) -> usize
 }
 
 // Block b of message l, padded, as the words of lane l.
+// `before` and its bounds, here and below, are not in `Messages`: the same messages are taken in from several places on, one for each call of `absorb`.
 fn load_at(m: &Messages, before: usize, b: usize, w: &mut [u32; 128], l: usize)
     requires { (before + (m.now.batch.heads.size + m.now.batch.bodies.size) < 2 ^ 61) × (before % 64 ≡ 0)
         × (b < (m.now.batch.heads.size + m.now.batch.bodies.size + 72) / 64) × (l < m.now.batch.n) × (m.now.batch.n ≤ 8) }
@@ -311,6 +314,7 @@ fn store_all(h: &[u32; 64], n: usize, out: &mut [u8], at: usize, stride: usize)
 }
 
 // The hashes of up to eight messages, into out at `at` and then at every stride.
+// The room at every stride, here and below, changes with each group: a value of it would be made anew for each call.
 fn group(m: &Messages, out: &mut [u8], at: usize, stride: usize)
     requires { (m.now.batch.n ≤ 8) × (Spaced at stride m.now.batch.n out.old) }
     ensures { out.new ≡ hashed_into m.now.heads.now m.now.bodies.now m.now.batch at stride m.now.batch.n out.old }

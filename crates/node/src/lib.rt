@@ -111,6 +111,7 @@ fn previous(a: Asked, request: &[u8], book: &[u8], reply: &mut [u8]) -> usize
 }
 
 // A write. The record finds its place once: refusals 7 and 8, the acknowledgement and the insertion go by that one fate.
+// What was admitted, here and below, is one word of the specs; the book is lent to be written, so a type of it would have to promise what stays of it.
 fn write(
     p: Accepted,
     a: Asked,

@@ -6,6 +6,7 @@ ghost use Rattle.std.specs.Prelude.{◌≡◌, ◌+◌, ◌≤◌, ◌<◌, ◌^
 ghost use Rattle.octets.specs.Bytes.{part, put, num, be, alike};
 
 // The big-endian number of the n bytes at `at`, n at most 8. The third fact is for those who write the number again.
+// At most 8 bytes are a u64: a clause says it, where a type of such a number would be made at each call.
 pub fn get(b: &[u8], at: usize, n: usize) -> u64
     requires { (at + n ≤ length b.now) × (n ≤ 8) }
     ensures { (result ≡ num (part b.now at n)) × (result < 256 ^ n) × (be n result ≡ part b.now at n) }

@@ -26,6 +26,7 @@ fn hash_fits(p: usize, s: usize, out: usize) -> bool
 }
 
 // The hash of p and then s into out: FIPS 180-4.
+// C calls this, so the answer is a number.
 pub fn primitives_sha256(p: &[u8], s: &[u8], out: &mut [u8]) -> u32
     ensures { Told
         (hash_fits (length p.now) (length s.now) (length out.old))
@@ -131,6 +132,7 @@ fn encode_fits(n: usize, m: usize, f: usize, item: usize, desk: usize) -> bool
 }
 
 // All n fragments of an item of m runs of f bytes, one after another, into desk.
+// C calls this, so the answer is a number.
 pub fn primitives_encode(item: &[u8], n: usize, m: usize, f: usize, desk: &mut [u8]) -> u32
     ensures { Told
         (encode_fits n m f (length item.now) (length desk.old))
@@ -190,6 +192,7 @@ fn decode_fits(m: usize, f: usize, nodes: &[u8], desk: usize, item: usize) -> bo
 }
 
 // The item, from the fragments of the m nodes named, that of node p in desk at p * f.
+// C calls this, so the answer is a number.
 pub fn primitives_decode(desk: &[u8], nodes: &[u8], m: usize, f: usize, item: &mut [u8]) -> u32
     ensures { Told
         (decode_fits m f nodes.now (length desk.now) (length item.old))

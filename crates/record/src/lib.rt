@@ -124,6 +124,8 @@ pub fn stamp_of(p: Accepted, time: Time, cross: &[u8], at: usize) -> Timestamp
 }
 
 // Each slot gets the head of slot a; its fragment stays.
+// What holds of the slots of a plan stands in the clauses, here and in recover: a strip (`crosscheck`) is of `Slots` too, and has a size that is not the sum
+// of its parts, and the runs of primitives may be any number.
 fn heads(desk: &mut [u8], slots: Slots, a: usize)
     requires { (slots.size ≡ slots.head + slots.fragment) × (length desk.old ≡ slots.n * slots.size) × (a < slots.n) }
     ensures { desk.new ≡ desk_of (part desk.old (a * slots.size) slots.head) [] (λ k. part desk.old (fragment_at slots k) slots.fragment) slots.n }
@@ -134,6 +136,8 @@ fn heads(desk: &mut [u8], slots: Slots, a: usize)
 }
 
 // Repair: every slot gets the timestamp and the cross checksum of slot a, beside the fragment that it holds.
+// Here and in the crates above the length of a desk or an item stands in the clauses: lent to be written, a type of it and the plan would have to promise
+// in each contract that its plan stays, a clause for a clause.
 pub fn spread(p: Accepted, desk: &mut [u8], a: usize)
     requires { (length desk.old ≡ p.plan.n * record_length p.plan) × (a < p.plan.n) }
     ensures { desk.new ≡ desk_of (stamp_of (slot_of p.plan desk.old a)) (cross_of p.plan (slot_of p.plan desk.old a)) (fragment_in p.plan desk.old) p.plan.n }

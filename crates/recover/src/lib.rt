@@ -159,6 +159,7 @@ pub fn collect(p: Accepted, desk: &[u8], item: &mut [u8])
 }
 
 // All N records of an item at a time, into the desk, by way of a cross checksum; their timestamp.
+// A longer room than 512 bytes may be lent, here and in session: an array of 512 would ask more.
 pub fn write_records(
     p: Accepted,
     at: Time,

@@ -43,6 +43,7 @@ pub fn bit(h: Heard) -> u64
 }
 
 // Whether node i is heard.
+// The number of a node, below 16 or below N here and below, comes from a `for` or from the ladder of a call: a type for it would be opened at each index.
 pub fn has_heard(marks: [Heard; 16], i: usize) -> bool
     requires { i < 16 }
     ensures { result ≡ heard_at marks i }

@@ -61,6 +61,7 @@ pub fn ends(run: &[u8], at: usize) -> usize
     next(at_place(run, at))
 }
 
+// Frames differ in length: each turn goes to the end that the frame before it has, so no `for` counts it. So below.
 pub fn count(run: &[u8]) -> Counted
     ensures { (result.frames ≡ length (cut_run run.now).frames) × (result.ended ≡ (cut_run run.now).ended) }
 {

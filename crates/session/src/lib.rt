@@ -58,6 +58,7 @@ pub struct Took {
 
 impl Session {
     // Node i heard, with h.
+    // The number of a node is below 16 here and below by the ladder of the call: a type for it would be opened at each index.
     fn marked(mut self, i: usize, h: Heard) -> Session
         requires { i < 16 }
         ensures { result ≡ marked_of self i h }

@@ -129,6 +129,7 @@ pub fn plain_round(s: State, k: u32, w: u32) -> State
 }
 
 // Round t.
+// A round t is below 64 by the `for` that it is called in, here and above: a type for it would be made at each turn.
 fn at(s: State, k: &RoundConstants, w: &[u32; 64], t: usize) -> State
     requires { t < 64 }
     ensures { result ≡ round_of s (get_or K t 0) (get_or w.now t 0) }
@@ -231,6 +232,7 @@ pub fn word(a: u8, b: u8, c: u8, d: u8) -> u32
 }
 
 // Byte i of a padded message, 5.1.1, from byte `before` on, where it is p and then s that lies there.
+// Bounds of the length of p and s, here and below: most calls hash two parts that lie apart, and a type of the two would be made at each such call.
 fn padded(p: &[u8], s: &[u8], before: usize, i: usize) -> u8
     requires { (before + (length p.now + length s.now) < 2 ^ 61) × (before % 64 ≡ 0) × (i < (length p.now + length s.now + 72) / 64 * 64) }
     ensures { result ≡ get_or (ended before (p.now ++ s.now)) i 0 }

@@ -1,6 +1,6 @@
 -- A rung by its number, and how code goes down a ladder: `Down ladder k`, "the code stands at rung k". Assumes nothing.
 --   clear            where none applies, that of number k does not
---   top next         the code at the first rung; one rung further
+--   at next          the code at a rung of a ladder, by what each test before it said; one rung further
 --   left             a rung that was left behind does not apply
 --   stop end goes_on the outcome: refused at this rung; passed; as a function that goes on from here says
 use Prim.{tt}
@@ -61,9 +61,6 @@ pub record Down {S : Type 0} (ladder : S → List Rung) (k : ℕ) : Type 0 where
   pub none : None (upto k (ladder start))
 
 module _ {S : Type 0} {ladder : S → List Rung} where
-  abbrev pub top : (k : ℕ) (s : S) → upto k (ladder s) ≡ [] → Down ladder k
-  top k s e = record { start = s; none = subst None (sym e) tt }
-
   -- rung j does not apply, and k is next
   abbrev pub next : {j : ℕ} (k : ℕ) (d : Down ladder j) → through j (ladder d.start) ≡ upto k (ladder d.start) → rung j (ladder d.start) ≡ false → Down ladder k
   next {j} k d e f = record { start = d.start; none = subst None e (past j (ladder d.start) d.none f) }
@@ -81,3 +78,7 @@ module _ {S : Type 0} {ladder : S → List Rung} where
     -- a function of its own goes on from rung k
     pub goes_on : {k : ℕ} (d : Down ladder k) {z : A} → z ≡ first (since k (ladder d.start)) refuse pass → z ≡ first (ladder d.start) refuse pass
     goes_on {k} d p = since_first refuse pass k (ladder d.start) d.none p
+
+-- the code stands at rung k of a ladder: none of those before it applies, in their order
+abbrev pub at : (k : ℕ) (l : List Rung) → None (upto k l) → Down (λ (m : List Rung). m) k
+at k l n = record { start = l; none = n }

@@ -2,12 +2,6 @@ use native.Mathlib.Omega.{arith}
 use Rattle.node.proofs.Laws as laws
 use Rattle.node.proofs.by_kind.Goals as goal
 
-pub write-requires : goal.write-requires
-write-requires c = (c.requires, c.if-kind-eq-WRITE_REQUEST.true)
-
-pub returns-then-kind-eq-WRITE_REQUEST : goal.returns-then-kind-eq-WRITE_REQUEST
-returns-then-kind-eq-WRITE_REQUEST c = c.write.ensures
-
 pub tell_time-requires : goal.tell_time-requires
 tell_time-requires c = let r = (laws.room_for _ _ _ _ _ c.requires).1 in
     (laws.holds_in _ _ _ _ _ c.requires, omega arith)

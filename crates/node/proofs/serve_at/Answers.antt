@@ -1,9 +1,7 @@
 use Prim.{tt}
 use mathlib.Core.Path.{refl, sym, ap, ◌∙◌}
 use mathlib.Core.Bool.{not}
-use mathlib.Core.List.{List}
-use Rattle.terms.specs.Ladder.{Rung}
-use Rattle.terms.proofs.Down.{Down, next, stop, goes_on}
+use Rattle.terms.proofs.Down.{at, stop, goes_on}
 use Rattle.book.proofs.Laws as books
 use Rattle.frame.specs.Frame.{good_request}
 use Rattle.frame.proofs.Frames as frames
@@ -20,13 +18,10 @@ respond-requires c =
 
 pub returns-in_default : goal.returns-in_default
 returns-in_default c =
-    let at_frame : Down (λ (l : List Rung). l) 4 = record { start = (node_ladder c.args.p.plan c.args.request.now c.args.book.now c.args.reply.now); none = (ap not c.requires.plan, (ap not c.requires.lengths, (ap not c.requires.book.good, tt))) } in
-    laws.called _ _ _ _ _ _ _ (stop _ _ (at_frame) (ap not ((laws.here _ _ _ (books.node_of_lem _ _ _ c.requires.book.is)) (frames.was_shut _ _ (sym c.in_default.is ∙ c.request_at.ensures)))) refl)
+    laws.called _ _ _ _ _ _ _ (stop _ _ (at 4 _ (ap not c.requires.plan, (ap not c.requires.lengths, (ap not c.requires.book.good, tt)))) (ap not ((laws.here _ _ _ (books.node_of_lem _ _ _ c.requires.book.is)) (frames.was_shut _ _ (sym c.in_default.is ∙ c.request_at.ensures)))) refl)
 
 pub returns : goal.returns
 returns c =
-    let at_frame : Down (λ (l : List Rung). l) 4 = record { start = (node_ladder c.args.p.plan c.args.request.now c.args.book.now c.args.reply.now); none = (ap not c.requires.plan, (ap not c.requires.lengths, (ap not c.requires.book.good, tt))) } in
     let opened : let a = c.args in Opened (good_request a.p.plan a.k.node a.request.now) a.request.now c.in-Some.h = frames.was_open _ _ _ (sym c.in-Some.is ∙ c.request_at.ensures) in
-    let at_work : Down (λ (l : List Rung). l) 5 = next 5 (at_frame) refl (ap not ((laws.here _ _ _ (books.node_of_lem _ _ _ c.requires.book.is)) opened.good)) in
-    laws.called _ _ _ _ _ _ _ (goes_on _ _ (at_work)
+    laws.called _ _ _ _ _ _ _ (goes_on _ _ (at 5 _ (ap not c.requires.plan, (ap not c.requires.lengths, (ap not c.requires.book.good, (ap not ((laws.here _ _ _ (books.node_of_lem _ _ _ c.requires.book.is)) opened.good), tt)))))
     (laws.is_responded _ _ _ _ _ _ (opened).is c.respond.ensures))

@@ -14,10 +14,6 @@ marked-s-requires c =
     let q = plan_is _ c.args.f.plan.within in
     omega (arith, node_is, r.node_low, q.n_high)
 
-pub keep-requires : goal.keep-requires
-keep-requires c = let pre = c.requires in
-    (pre.0, pre.1)
-
 pub returns-then-storing : goal.returns-then-storing
 returns-then-storing c =
     let node_is : c.args.f.head.node ≡ frame_node c.args.f.bytes.now = ap (λ (h : Header). h.node) c.args.f.read in

@@ -2,27 +2,15 @@ use Rattle.rounds.specs.Rounds.{told}
 use Rattle.session.proofs.Readers as laws
 use Rattle.session.proofs.Session.act_on.Goals as goal
 
-pub validate-requires : goal.validate-requires
-validate-requires c = c.requires.0.whole c.args.a c.requires.1 c.in-Complete.is
-
 pub returns-then-not-validate : goal.returns-then-not-validate
 returns-then-not-validate c = let a = c.args in
     laws.act_ill a.p.plan a.self (told a.c) a.a a.desk.now a.item.now _ _ _ c.in-Complete.is c.validate.ensures
     c.if-not-validate.true c.fall.ensures
 
-pub decode-requires : goal.decode-requires
-decode-requires c = (c.requires.0.whole c.args.a c.requires.1 c.in-Complete.is, c.requires.0.item)
-
-pub validate-requires-in-Repair : goal.validate-requires-in-Repair
-validate-requires-in-Repair c = c.requires.0.half c.args.a c.requires.1 c.in-Repair.is
-
 pub returns-then-not-validate-2 : goal.returns-then-not-validate-2
 returns-then-not-validate-2 c = let a = c.args in
     laws.act_unsound a.p.plan a.self (told a.c) a.a a.desk.now a.item.now _ _ _ c.in-Repair.is c.validate-in-Repair.ensures
     c.if-not-validate-2.true c.fall-then-not-validate-2.ensures
-
-pub repair-requires : goal.repair-requires
-repair-requires c = c.requires.0.half c.args.a c.requires.1 c.in-Repair.is
 
 pub returns-else-not-validate : goal.returns-else-not-validate
 returns-else-not-validate c = let a = c.args in

@@ -3,9 +3,6 @@ use Rattle.frame.proofs.Frames.{reply_is}
 use Rattle.session.proofs.Rules as rules
 use Rattle.session.proofs.Session.awaits.Goals as goal
 
-pub asked-ask-requires : goal.asked-ask-requires
-asked-ask-requires c = c.requires
-
 pub returns-then-not-answers : goal.returns-then-not-answers
 returns-then-not-answers c = rules.other_ask c.args.self c.args.f.bytes.now c.args.f.head c.args.f.read _ c.asked-ask.ensures _ c.answers.ensures
     c.if-not-answers.true

@@ -17,10 +17,6 @@ marked-s-requires c =
     omega (arith, node_is, r.node_low, q.n_high) in
     node_low
 
-pub settle-requires : goal.settle-requires
-settle-requires c = let pre = c.requires in
-    (pre.0, pre.1)
-
 pub returns-then-not-bears_record : goal.returns-then-not-bears_record
 returns-then-not-bears_record c =
     let node_is : c.args.f.head.node ≡ frame_node c.args.f.bytes.now = ap (λ (h : Header). h.node) c.args.f.read in
@@ -50,10 +46,6 @@ marked-s-requires-2 c =
     let q = plan_is _ c.args.f.plan.within in
     omega (arith, node_is, r.node_low, q.n_high) in
     node_low
-
-pub settle-requires-2 : goal.settle-requires-2
-settle-requires-2 c = let pre = c.requires in
-    (omega (arith, pre.0), omega (arith, pre.1))
 
 pub returns : goal.returns
 returns c =

@@ -7,9 +7,6 @@ use Rattle.session.proofs.Checks.{check_passed}
 use Rattle.session.proofs.Oweds as laws
 use Rattle.session.proofs.Session.owed.Goals as goal
 
-pub write_request-requires : goal.write_request-requires
-write_request-requires c = check_passed _ _ c.owed_check.ensures (ap check_number c.in_ok-owed_check.was)
-
 pub returns-in_err-owed_check : goal.returns-in_err-owed_check
 returns-in_err-owed_check c =
     let p = err_from_is_err_and c.from_residual.result c.from_residual.ensures.1 in

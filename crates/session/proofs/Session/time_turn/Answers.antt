@@ -14,10 +14,6 @@ returns-then-spent c = let args = c.args in
     laws.clock_spent_lem args.p.plan args.self _ _ c.round_open.ensures c.if-round_open.false _ _ c.kth_reply-g.ensures _
     c.spent.ensures c.if-spent.true _ c.over-s.ensures
 
-pub overflow_add-g : goal.overflow_add-g
-overflow_add-g c = let z = eqb-false c.kth_reply-g.result.0 top (sym c.spent.ensures ∙ c.if-spent.false) in
-    omega arith
-
 pub returns : goal.returns
 returns c = let args = c.args in
     laws.write_opens args.p.plan args.self _ _ c.round_open.ensures c.if-round_open.false args.item.now _ c.kth_reply-g.ensures _

@@ -8,9 +8,6 @@ use Rattle.session.proofs.Readers.{header_read}
 use Rattle.session.proofs.Writers as laws
 use Rattle.session.proofs.Session.write_with.Goals as goal
 
-pub accept_write-requires : goal.accept_write-requires
-accept_write-requires c = (check_passed _ _ c.check-c.ensures.0 (ap taken_number c.in-Ok.is), c.requires)
-
 pub returns-in-Err : goal.returns-in-Err
 returns-in-Err c = let a = c.args in
     record { is = laws.write_refused a.p a.self a.reply.now a.desk.now a.item.now _ c.check-c.ensures.0 _ c.in-Err.is }

@@ -78,7 +78,7 @@ impl<'a> Named<'a> {
     }
 
     fn about(self, what: impl Display + Drop) -> Said {
-        say::about(self.rt, self.name, what)
+        say::told_of(self.rt, self.name, what)
     }
 
     fn failed(self, e: io::Error) -> Said {

@@ -13,15 +13,29 @@ pub fn text(rt: &HostRuntime, s: &[u8]) {
     let _ = rt.stderr().write_all(s);
 }
 
-pub fn line(rt: &HostRuntime, what: impl Display + Drop) -> Said {
+// A line of bytes.
+pub fn line(rt: &HostRuntime, s: &[u8]) -> Said {
+    text(rt, s);
+    told(rt, "")
+}
+
+// A file, and what is the matter with it, as bytes.
+pub fn about(rt: &HostRuntime, path: &[u8], s: &[u8]) -> Said {
+    text(rt, path);
+    text(rt, b": ");
+    line(rt, s)
+}
+
+// A line of what can be written as text.
+pub fn told(rt: &HostRuntime, what: impl Display + Drop) -> Said {
     let _ = rt.eprintln(what);
     Said(())
 }
 
-// A file, and what is the matter with it.
-pub fn about(rt: &HostRuntime, path: &[u8], what: impl Display + Drop) -> Said {
+// A file, and what is the matter with it, as text.
+pub fn told_of(rt: &HostRuntime, path: &[u8], what: impl Display + Drop) -> Said {
     text(rt, path);
-    line(rt, format_args!(": {what}"))
+    told(rt, format_args!(": {what}"))
 }
 
 // The room for an error's text, which has at most 256 bytes and a number after them.
@@ -44,10 +58,7 @@ pub fn failed(rt: &HostRuntime, what: &[u8], e: io::Error) -> Said {
     let mut at = Cursor::new(&mut reason[..]);
     let _ = write!(at, "{e}");
     let n = (at.position() as usize).min(REASON);
-    text(rt, what);
-    text(rt, b": ");
-    text(rt, words_of(&reason[..n]));
-    line(rt, "")
+    about(rt, what, words_of(&reason[..n]))
 }
 
 // Document 01's words for the refusals of a node and of a fresh book, by their numbers: a run tells of its frames by numbers alone.
@@ -68,7 +79,7 @@ fn words(k: u32) -> &'static str {
 
 // A refusal by its number.
 pub fn numbered(rt: &HostRuntime, k: u32) -> Said {
-    line(rt, format_args!("refused {k}: {}", words(k)))
+    told(rt, format_args!("refused {k}: {}", words(k)))
 }
 
 pub fn refused(rt: &HostRuntime, r: Refusal) -> Said {

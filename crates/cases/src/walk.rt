@@ -212,7 +212,7 @@ impl World {
 
 // The plan, accepted, where it is one and a desk of this length is its desk.
 fn fitting(p: Plan, len: usize) -> Option<Accepted>
-    ensures { IfSome result (λ a. len ≡ a.plan.n * record_length a.plan) }
+    ensures { IfSome result (λ a. (a.plan ≡ p) × (len ≡ a.plan.n * record_length a.plan)) }
 {
     if !terms::plan_ok(p) {
         return None;

@@ -2,8 +2,10 @@
 // them, k = b + 1, so that b nodes that lie cannot use up the clock. Only the entries of nodes that are heard count.
 #![tactic(auto)]
 
-ghost use Rattle.std.specs.Prelude.{◌≡◌, eqb};
+ghost use Rattle.std.specs.Prelude.{◌≡◌, eqb, leb, ltb};
+ghost use Rattle.terms.specs.Ladder.{◌and◌};
 ghost use Rattle.terms.specs.Stamp.{top};
+ghost use Rattle.rounds.specs.Rounds.{bit_of};
 ghost use Rattle.clock.specs.Clock.{zero_times, times_heard, or_more, kth_greatest};
 
 use rounds::Heard;
@@ -27,18 +29,33 @@ fn or_more(marks: &[Heard; 16], times: &[Time; 16], v: Time) -> u64
         .count() as u64
 }
 
+// Whether at least k of the time replies are v or more.
+fn enough(marks: &[Heard; 16], times: &[Time; 16], v: Time, k: u64) -> bool
+    ensures { result ≡ leb k (or_more v.0 (times_heard marks.now times.now)) }
+{
+    or_more(marks, times, v) >= k
+}
+
+// Whether a node is heard with a time above the best so far.
+fn rises(h: Heard, t: Time, best: Time) -> bool
+    ensures { result ≡ (eqb (bit_of h) 1 and ltb best.0 t.0) }
+{
+    h != Heard::Unheard && best.0 < t.0
+}
+
 // The k-th greatest of the time replies, equal values counted each: the greatest such that at least k of them are that or more; 0 where there are
-// fewer than k.
+// fewer than k. A loop over the best so far: a chain counts for every reply, where this counts for those alone that are above it, of equal ones once.
 pub fn kth_greatest(marks: [Heard; 16], times: [Time; 16], k: u64) -> Time
     ensures { result.0 ≡ kth_greatest k (times_heard marks times) }
 {
-    let greatest = marks
-        .iter()
-        .zip(times.iter())
-        .filter(|(m, t)| **m != Heard::Unheard && or_more(&marks, &times, **t) >= k)
-        .map(|(_, t)| t.0)
-        .max();
-    Time(greatest.unwrap_or(0))
+    let mut best = Time(0);
+    for i in 0..16 {
+        let t = times[i];
+        if rises(marks[i], t, best) && enough(&marks, &times, t, k) {
+            best = t;
+        }
+    }
+    best
 }
 
 // Whether a time has no next: 2^64-1.

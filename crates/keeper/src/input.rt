@@ -56,7 +56,7 @@ fn undamaged(rt: &HostRuntime, waits: &[u8], passed: u64) -> Result<(), Said> {
     if (11..=LONGEST as u32 - 4).contains(&rest) {
         return Ok(());
     }
-    Err(say::line(
+    Err(say::told(
         rt,
         format_args!(
             "standard input, after {passed} bytes: no request has the length {rest}; the rest of the input is not read"
@@ -66,7 +66,9 @@ fn undamaged(rt: &HostRuntime, waits: &[u8], passed: u64) -> Result<(), Said> {
 
 impl<'a> Input<'a> {
     // The input, of which nothing is read.
-    pub fn new(area: &'a mut [u8]) -> Input<'a> {
+    pub fn new(area: &'a mut [u8]) -> Input<'a>
+        ensures { result.held ≡ 0 }
+    {
         Input {
             area,
             held: 0,
@@ -90,7 +92,7 @@ impl<'a> Input<'a> {
             .map_err(|e| say::failed(rt, b"standard input", e))?;
         self.held += n;
         if n == 0 && self.held > 0 {
-            say::line(rt, "the input ends within a frame, which is dropped");
+            say::told(rt, "the input ends within a frame, which is dropped");
         }
         Ok(n > 0)
     }

@@ -136,7 +136,7 @@ fn say_arg(rt: &HostRuntime, what: &[u8], e: FillError) -> Said {
 }
 
 fn usage(rt: &HostRuntime) -> Said {
-    say::line(
+    say::told(
         rt,
         "usage: keeper PLAN BOOK [locked], or keeper PLAN BOOK new NODE BYTES",
     )
@@ -203,9 +203,9 @@ impl Keeper<'_> {
         Ok(())
     }
 
-    // The requests of the input, where the book is good.
-    fn serve(self) -> Result<(), Said> {
-        book_ok(self.plan, self.book)?;
+    // The requests of the input, against a good book. The areas are made first of all: a function clears what it keeps when it is entered, and before an
+    // early return that would be once more.
+    fn requests(self) -> Result<(), Said> {
         let mut area = zeros::<AREA>();
         let mut reply = zeros::<AREA>();
         let mut numbers = zeros::<NUMBERS>();
@@ -215,6 +215,12 @@ impl Keeper<'_> {
             numbers: &mut numbers,
         };
         self.turns(&mut input, &mut room)
+    }
+
+    // The requests of the input, where the book is good.
+    fn serve(self) -> Result<(), Said> {
+        book_ok(self.plan, self.book)?;
+        self.requests()
     }
 }
 

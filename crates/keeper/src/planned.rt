@@ -39,7 +39,7 @@ fn say_wrong(rt: &HostRuntime, path: &[u8], wrong: Wrong) -> Said {
     let line = wrong.line;
     let form = Form(wrong.value);
     say::text(rt, path);
-    say::line(rt, format_args!(", line {line}: here belongs {form}"))
+    say::told(rt, format_args!(", line {line}: here belongs {form}"))
 }
 
 // The plan that the text of the file PLAN says.
@@ -82,7 +82,7 @@ fn say_edited(file: Named, book: Named, name: &str) -> Said {
     say::text(file.rt, name.as_bytes());
     say::text(file.rt, b" differs from ");
     say::text(file.rt, book.name);
-    say::line(file.rt, ".plan")
+    say::told(file.rt, ".plan")
 }
 
 // Sees that the plan is the one of the text of BOOK.plan, but for W.

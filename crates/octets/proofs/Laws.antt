@@ -47,6 +47,17 @@ pub part_cons : (l : List ℕ) (at n : ℕ) → at < length l → part l at (suc
 unfolding part
 part_cons l at n h = rw (drop-cons l at 0)
 
+-- a loop that copies upwards: its start, and its turn
+pub copy_start : (d s : List ℕ) (at from : ℕ) → d ≡ put d at (part s from 0)
+unfolding part
+copy_start d s at from = sym (put_nil d at)
+
+pub copy_turn : (d d₀ s : List ℕ) (at from i : ℕ) → at + i < length d₀ → from + i < length s → d ≡ put d₀ at (part s from i)
+    → set d (at + i) (get_or s (from + i) 0) ≡ put d₀ at (part s from (i + 1))
+copy_turn d d₀ s at from i hd hs e =
+    let l : length (part s from i) ≡ i = length_part s from i (omega arith) in
+    rw (e, add-one, part_snoc s from i hs, ← put_snoc d₀ at (part s from i) (get_or s (from + i) 0) (rw l hd), l)
+
 -- ---- numbers
 num_from_append : (a : ℕ) (l : List ℕ) (x : ℕ) → num_from a (l ++ (x ∷ [])) ≡ num_from a l * 256 + x
 unfolding num_from

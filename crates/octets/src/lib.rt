@@ -57,12 +57,15 @@ pub fn put_word(b: &mut [u8], at: usize, x: u64)
     b[at..at + 8].copy_from_slice(&x.to_be_bytes());
 }
 
-// n bytes of src from `from` into dst at `at`.
+// n bytes of src from `from` into dst at `at`. Byte by byte, which compiles to vectors: the library's `copy_from_slice` of a length that is not a constant calls
+// memmove, and an archive for C would need that name from outside beside memcpy and memset.
 pub fn copy(src: &[u8], from: usize, n: usize, dst: &mut [u8], at: usize)
     requires { (from + n ≤ length src.now) × (at + n ≤ length dst.old) }
     ensures { dst.new ≡ put dst.old at (part src.now from n) }
 {
-    dst[at..at + n].copy_from_slice(&src[from..from + n]);
+    for i in 0..n {
+        dst[at + i] = src[from + i];
+    }
 }
 
 // The n bytes from `at` on, moved up by `by`: the last first.

@@ -65,6 +65,20 @@ module _ (zero one v a : List ℕ) (is : v ≡ a) where
   unfolding chosen
   chosen_none n e = rw (sym is, same_no v zero n, same_no v one e)
 
+-- the eighth value is what is left of nine
+above : (k j : ℕ) → j ≤ k → (k ≡ j → ⊥) → j + 1 ≤ k
+above k j h n = omega (arith, n)
+
+between : (k : ℕ) → k < 9 → 8 ≤ k → k ≡ 8
+between k h l = omega arith
+
+at_least : (k : ℕ) → 0 ≤ k
+at_least k = omega arith
+
+pub eighth : (k : ℕ) → k < 9 → (k ≡ 0 → ⊥) → (k ≡ 1 → ⊥) → (k ≡ 2 → ⊥) → (k ≡ 3 → ⊥) → (k ≡ 4 → ⊥) → (k ≡ 5 → ⊥) → (k ≡ 6 → ⊥) → (k ≡ 7 → ⊥) → k ≡ 8
+eighth k h a b c d e f g i =
+    between k h (above k 7 (above k 6 (above k 5 (above k 4 (above k 3 (above k 2 (above k 1 (above k 0 (at_least k) a) b) c) d) e) f) g) i)
+
 -- ---- a line
 wrong_is : (k : ℕ) (w : List ℕ) → 0 < length w → wrong_in k w ≡ is_not (value_of k w)
 unfolding wrong_in

@@ -1,6 +1,6 @@
 -- Laws of marks, slots and sets. Assumes nothing.
 use mathlib.Core.Path.{◌≡◌, refl, sym, ap, ◌∙◌, subst}
-use mathlib.Core.Bool.{Bool, true, false, cond, not, ◌&&◌}
+use mathlib.Core.Bool.{Bool, true, false, cond, ◌&&◌}
 use mathlib.Core.List.{List, [], ◌∷◌, ◌++◌}
 use Prim.Native.Nat.{ℕ, zero, suc, ◌+◌, ◌-◌, ◌≤◌, ◌<◌}
 use native.Mathlib.Numerals.{add-one}
@@ -12,7 +12,7 @@ use Rattle.rounds.specs.declared.Heard.{Heard}
 use Rattle.rounds.specs.declared.Heard.TheVariants.{Unheard, First, Record}
 use Rattle.std.proofs.Common.{Option, None, Some}
 use Rattle.rounds.specs.declared.Set.{Set}
-use Rattle.rounds.specs.Rounds.{is_unheard, under_of, every, slot_fits, slots_fit, slot_stamp, heard_count, bit_of, mark_of, ahead_of, step_of, lead_of, LeadIn, joins_of, set_of, add_of, listed, Closed, close_with, close_of}
+use Rattle.rounds.specs.Rounds.{under_of, every, slot_fits, slots_fit, slot_stamp, heard_count, bit_of, mark_of, ahead_of, step_of, lead_of, LeadIn, joins_of, set_of, add_of, listed, Closed, close_with, close_of}
 use Rattle.terms.specs.declared.Member.{Member}
 use Rattle.terms.specs.declared.Verdict.{Verdict}
 use Rattle.terms.specs.declared.Verdict.TheVariants.{Complete}
@@ -20,17 +20,20 @@ use Rattle.terms.specs.Stamp.{stamp_at, zero_stamp, stamp_number}
 use Rattle.terms.specs.Terms.{decided, slot_at}
 use lib.Dec.{ltb, eqb, leb}
 use Rattle.octets.specs.Bytes.{part, num, alike}
-use Rattle.std.specs.List.{list_all, count_by, range_with_len}
+use Rattle.std.specs.List.{list_all, range_with_len}
 use Rattle.std.specs.Prelude.{map}
 use Rattle.std.proofs.lemmas.List.Folds.{list_all-append, list_all-map}
 use Rattle.std.proofs.lemmas.List.FromFn.{map-range_with_len_more}
-use Rattle.std.proofs.lemmas.List.Sums.{count_by-le-length}
-use Rattle.std.proofs.lemmas.List.Recursion.{is_count_by}
 use Rattle.terms.specs.declared.Slots.{Slots}
 use Rattle.terms.specs.declared.Thresholds.{Thresholds}
 use Rattle.terms.specs.declared.Timestamp.{Timestamp}
 
-count_snoc : (l : List Heard) (m : Heard) → heard_count (l ++ (m ∷ [])) ≡ heard_count l + bit_of m
+pub bit_small : (h : Heard) → bit_of h ≤ 1
+bit_small Unheard = omega arith
+bit_small First = omega arith
+bit_small Record = omega arith
+
+pub count_snoc : (l : List Heard) (m : Heard) → heard_count (l ++ (m ∷ [])) ≡ heard_count l + bit_of m
 unfolding heard_count
 count_snoc [] m = omega arith
 count_snoc (x ∷ l) m = rw (count_snoc l m) (omega arith)
@@ -38,17 +41,8 @@ count_snoc (x ∷ l) m = rw (count_snoc l m) (omega arith)
 pub count_turn : (l : List Heard) (i n v : ℕ) (d : Heard) → i < length l → n ≡ heard_count (take i l) → v ≡ bit_of (get_or l i d) → n + v ≡ heard_count (take (i + 1) l)
 count_turn l i n v d h e f = rw (add-one, take-suc l i d h, count_snoc, e, f)
 
-count_step : (h : Heard) (l : List Heard) → heard_count (h ∷ l) ≡ cond (not (is_unheard h)) (1 + heard_count l) (heard_count l)
-unfolding heard_count
-count_step Unheard l = omega arith
-count_step First l = refl
-count_step Record l = refl
-
-heard_by : (l : List Heard) → heard_count l ≡ count_by (λ (h : Heard). not (is_unheard h)) l
-heard_by l = is_count_by heard_count (λ (h : Heard). not (is_unheard h)) (unfold heard_count in refl) count_step l
-
-pub count_is : (l : List Heard) (n : ℕ) → n ≡ count_by (λ (h : Heard). not (is_unheard h)) l → length l ≤ 16 → (n ≡ heard_count l) × (n ≤ 16)
-count_is l n e h = (e ∙ sym (heard_by l), omega (arith, e, count_by-le-length (λ (x : Heard). not (is_unheard x)) l))
+pub count_all : (l : List Heard) (i n : ℕ) → length l ≤ i → n ≡ heard_count (take i l) → n ≡ heard_count l
+count_all l i n h e = e ∙ ap heard_count (take_all i l h)
 
 -- ---- the lead
 pub lead_told : (l : Option ℕ) (b n : ℕ) → l ≡ Some b → LeadIn l n → b < n

@@ -51,11 +51,15 @@ pub fn has_heard(marks: [Heard; 16], i: usize) -> bool
     bit(marks[i]) == 1
 }
 
-// How many of the marks are heard.
+// How many of the marks are heard. A sum over all sixteen, which compiles to one pass of vectors; a chain that filters and counts tests each by itself.
 pub fn count(marks: [Heard; 16]) -> u64
     ensures { (result ≡ heard_count marks) × (result ≤ 16) }
 {
-    marks.iter().filter(|h| **h != Heard::Unheard).count() as u64
+    let mut n = 0;
+    for i in 0..16 {
+        n += bit(marks[i]);
+    }
+    n
 }
 
 // A desk that is lent, with the slots of the records in it: it has room for all, and each begins with a timestamp.

@@ -1,13 +1,17 @@
-use mathlib.Core.Path.{◌≡◌, ap, ◌∙◌}
-use Prim.Native.Nat.{◌+◌, ◌-◌}
+use mathlib.Core.Path.{◌≡◌, refl}
 use native.Mathlib.Omega.{arith}
-use Rattle.octets.specs.Bytes.{part, put}
-use Rattle.octets.proofs.Laws.{put_lent}
+use lib.ListN.{length-set}
+use Rattle.octets.proofs.Laws.{copy_start, copy_turn}
 use Rattle.octets.proofs.copy.Goals as goal
 
+pub loop-i-init : goal.loop-i-init
+loop-i-init c = (omega arith, refl, copy_start _ _ _ _)
+
+pub loop-i-preserved : goal.loop-i-preserved
+loop-i-preserved c = (omega arith, simp length-set (omega arith), copy_turn _ _ _ _ _ _ (omega arith) (omega arith) c.loop-i.invariant.2)
+
+pub shape_of-dst : goal.shape_of-dst
+shape_of-dst c = c.loop-i.invariant.1
+
 pub returns : goal.returns
-unfolding part
-returns c =
-    let a = c.args in
-    let k : a.from + a.n - a.from ≡ a.n = omega arith in
-    put_lent _ _ _ _ (omega arith) ∙ ap (put a.dst.now a.at) (rw k at c.copy_from_slice.ensures.after)
+returns c = let e : c.loop-i.i ≡ c.args.n = omega arith in rw e at c.loop-i.invariant.2

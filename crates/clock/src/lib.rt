@@ -44,7 +44,7 @@ fn rises(h: Heard, t: Time, best: Time) -> bool
 }
 
 // The k-th greatest of the time replies, equal values counted each: the greatest such that at least k of them are that or more; 0 where there are
-// fewer than k. A loop over the best so far: a chain counts for every reply, where this counts for those alone that are above it, of equal ones once.
+// fewer than k. A loop over the best so far: a chain counts for every reply, where this counts for those alone that are above it.
 pub fn kth_greatest(marks: [Heard; 16], times: [Time; 16], k: u64) -> Time
     ensures { result.0 ≡ kth_greatest k (times_heard marks times) }
 {

